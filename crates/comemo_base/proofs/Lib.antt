@@ -1,0 +1,6 @@
+pub mod Bytes
+pub mod Short
+pub mod Whole
+pub mod Slots
+pub mod Paths
+pub mod Steps

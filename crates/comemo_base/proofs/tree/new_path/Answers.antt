@@ -1,0 +1,15 @@
+use Rattle.std.proofs.Common.{◌≡◌, ◌∙◌, ◌++◌, sym, ap, append-nil}
+use Rattle.comemo_base.specs.Insertion.{outside}
+use Rattle.comemo_base.proofs.tree.new_path.Goals as goal
+
+pub returns-clause-path : goal.returns-clause-path
+returns-clause-path g c =
+    let front = c.in_ok-path.path.items in
+    let whole : c.rest.path.items ≡ front ++ outside g.C.PartialEq.eq front c.args.sequence.pairs = sym (append-nil c.rest.path.items) ∙ ap (λ xs. c.rest.path.items ++ xs) (sym c.in_default.ensures.pairs.0) ∙ c.rest.invariant ∙ ap (λ xs. front ++ xs) c.in_ok-path.ensures.left in
+    (front, c.in_ok-path.ensures.stem, whole)
+
+pub returns-clause-apart : goal.returns-clause-apart
+returns-clause-apart g c =
+    let front = c.in_ok-path.path.items in
+    let whole : c.rest.path.items ≡ front ++ outside g.C.PartialEq.eq front c.args.sequence.pairs = sym (append-nil c.rest.path.items) ∙ ap (λ xs. c.rest.path.items ++ xs) (sym c.in_default.ensures.pairs.0) ∙ c.rest.invariant ∙ ap (λ xs. front ++ xs) c.in_ok-path.ensures.left in
+    λ j d l k. rw whole (c.in_ok-path.ensures.apart (outside g.C.PartialEq.eq front c.args.sequence.pairs) j d l k)

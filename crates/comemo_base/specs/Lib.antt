@@ -1,0 +1,10 @@
+pub mod Sip
+pub mod SipHasher
+pub mod Hash
+pub mod Answers
+pub mod Sequence
+pub mod Slots
+pub mod Tree
+pub mod Lookup
+pub mod Insertion
+pub mod Steps

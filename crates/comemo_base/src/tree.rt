@@ -1,0 +1,341 @@
+//! The call tree: a map from a key and a path of calls with their answers to a value, which is looked up by asking an
+//! oracle the calls along one path.
+//!
+//! It is kept as a plain list that is searched whole: the program that a faster tree is compared with. Its contracts say
+//! nothing of an order of entries, so a faster tree can keep them word for word.
+ghost use Rattle.std.specs.Prelude.{◌≡◌, ◌≤◌, ◌<◌, ◌↔◌, ◌⊎◌, ◌∷◌, ◌++◌, [], List, length, IsTrue, Some, IfSome, IfNone, IfOk, IfErr, OnOk, OnErr, IsOk, option_copied, option_map};
+ghost use Rattle.std.specs.List.{All, HoldsAt};
+ghost use Rattle.std.specs.List.Sorted.{IsPermutation};
+ghost use Rattle.std.specs.Fn.{AlwaysReturns};
+ghost use Rattle.comemo_base.specs.Sequence.{HasDistinctCalls};
+ghost use Rattle.comemo_base.specs.Answers.{Respects};
+ghost use Rattle.comemo_base.specs.Tree.{Parts, IsSamePath, IsTree, stored};
+ghost use Rattle.comemo_base.specs.Lookup.{Answered, AnswersAs, IsAsked, LooksUp, LooksUpPath, IsLookupRefused, FindsAgreeing, FindsAgreeingPath};
+ghost use Rattle.comemo_base.specs.Insertion.{Exists, Misses, IsStem, IsNewPath, IsReason, outside};
+ghost use Rattle.comemo_base.specs.Steps.{Follows};
+
+use crate::sequence::CallSequence;
+use std::alloc::{AllocError, AllocFailed, Global};
+use std::hash::Hash;
+use std::marker::Model;
+
+/// Why an insertion stored nothing. Each leaves the tree as it was.
+///
+/// comemo's `InsertError`, and `Memory`.
+#[derive(Clone, Copy, Debug, PartialEq, Eq)]
+pub enum InsertError {
+    /// A stored path under the key has all its pairs among those of the sequence.
+    AlreadyExists,
+    /// After a front whose pairs are among those of the sequence, a stored path under the key goes on with a call that
+    /// the sequence lacks: the function that was run isn't determined by its key and answers.
+    MissingCall,
+    /// A request for memory was refused.
+    Memory,
+}
+
+impl From<AllocError> for InsertError {
+    ghost use Rattle.std.specs.Prelude.{◌≡◌};
+    ghost use Rattle.comemo_base.specs.declared.tree.InsertError.TheVariants.{Memory};
+
+    ghost from_gives = { λ _ e. e ≡ Memory };
+
+    fn from(_: AllocError) -> Self {
+        InsertError::Memory
+    }
+}
+
+impl<T: Drop> From<AllocFailed<T>> for InsertError {
+    ghost use Rattle.std.specs.Prelude.{◌≡◌};
+    ghost use Rattle.comemo_base.specs.declared.tree.InsertError.TheVariants.{Memory};
+
+    ghost from_gives = { λ _ e. e ≡ Memory };
+
+    fn from(_refused: AllocFailed<T>) -> Self {
+        InsertError::Memory
+    }
+}
+
+/// A value under a key and a path.
+#[derive(Debug, Drop)]
+struct Entry<K, C, R, T> {
+    key: K,
+    path: Vec<(C, R)>,
+    value: T,
+}
+
+impl<K, C, R, T> Model for Entry<K, C, R, T> {
+    ghost use Rattle.comemo_base.specs.Tree.{Stored, stored_code};
+
+    ghost Value = { Stored K C R T };
+
+    ghost coded = { stored_code K.code C.code R.code T.code };
+
+    ghost view = { λ e. record { key = e.key; path = e.path.items; value = e.value } };
+}
+
+/// A map from a key and a path to a value. A path is a list of calls with their answers, each call once.
+///
+/// Contracts see it as a list of entries, of whose order no clause speaks. Any two paths under one key part: after an
+/// equal front they go on with the same call and different answers. So at most one path under a key agrees with given
+/// answers. comemo's `CallTree`, with keys and answers themselves in the place of their hashes.
+#[derive(Debug, Drop)]
+pub struct CallTree<K: Eq + Hash, C: Eq + Hash, R: Ord, T> {
+    entries: Vec<Entry<K, C, R, T>>,
+}
+
+impl<K: Eq + Hash, C: Eq + Hash, R: Ord, T> Model for CallTree<K, C, R, T> {
+    ghost use Rattle.std.specs.Prelude.{List};
+    ghost use Rattle.std.specs.Coded.{coded_list};
+    ghost use Rattle.comemo_base.specs.Tree.{Stored, stored_code, IsTree};
+
+    ghost Value = { List (Stored K C R T) };
+
+    ghost coded = { coded_list (stored_code K.code C.code R.code T.code) };
+
+    ghost view = { λ t. t.entries.items };
+
+    ghost invariant = { λ t. IsTree C.eq R.eq K.eq t.entries.items };
+}
+
+/// Whether a path has the answer at a depth, and before that the answers of another.
+fn follows<C, R: Ord>(path: &[(C, R)], other: &[(C, R)], depth: usize, answer: &R) -> bool
+    requires { depth ≤ length other.now }
+    ensures { IsTrue result ↔ Follows R.eq path.now other.now depth answer.now }
+{
+    if path.len() <= depth {
+        return false;
+    }
+    if path[depth].1 != *answer {
+        return false;
+    }
+    for i in 0..depth {
+        if path[i].1 != other[i].1 {
+            return false;
+        }
+    }
+    true
+}
+
+/// The place of the first entry under a key.
+fn find_first<K: Eq, C, R, T>(entries: &[Entry<K, C, R, T>], key: &K) -> Option<usize>
+    ensures some { IfSome result (λ j. (j < length entries.now) × HoldsAt (λ e. IsTrue (K.eq e.key key.now)) entries.now j) }
+    ensures none { IfNone result (All (λ e. ¬ IsTrue (K.eq e.key key.now)) entries.now) }
+{
+    for (i, entry) in entries.iter().enumerate() {
+        if entry.key == *key {
+            return Some(i);
+        }
+    }
+    None
+}
+
+/// The place of the first entry under a key whose path follows another to the depth, and has the answer there.
+fn find_branch<K: Eq, C, R: Ord, T>(
+    entries: &[Entry<K, C, R, T>],
+    key: &K,
+    path: &[(C, R)],
+    depth: usize,
+    answer: &R,
+) -> Option<usize>
+    requires { depth ≤ length path.now }
+    ensures some { IfSome result (λ j. (j < length entries.now) × HoldsAt (λ e. IsTrue (K.eq e.key key.now) × Follows R.eq e.path path.now depth answer.now) entries.now j) }
+    ensures none { IfNone result (All (λ e. IsTrue (K.eq e.key key.now) → ¬ Follows R.eq e.path path.now depth answer.now) entries.now) }
+{
+    for (i, entry) in entries.iter().enumerate() {
+        if entry.key == *key && follows(entry.path.as_slice(), path, depth, answer) {
+            return Some(i);
+        }
+    }
+    None
+}
+
+/// The entry of the path that the oracle's answers lead to. The oracle is asked along one path.
+fn get_in<'a, K: Eq + Hash, C: Eq + Hash, R: Ord + Drop, T, O: FnMut(&C) -> Result<R, AllocError>>(
+    entries: &'a [Entry<K, C, R, T>],
+    key: &K,
+    oracle: &mut O,
+) -> Result<Option<&'a Entry<K, C, R, T>>, AllocError>
+    requires callable { O.IsAlwaysCallable oracle.old }
+    requires tree { IsTree C.eq R.eq K.eq entries.now }
+    ensures asked { IfOk result (λ found. (g : List (C × R)) × Answered O.FnMut oracle.old g oracle.new × IsAsked C.eq R.eq K.eq entries.now key.now g (option_map (λ e. e.value) (option_copied found)) × IfSome (option_copied found) (λ e. IsSamePath C.eq R.eq g e.path)) }
+    ensures refused { IfErr result (λ e. IsLookupRefused O.FnMut C.eq R.eq K.eq entries.now key.now oracle.old e oracle.new) }
+{
+    let Some(first) = find_first(entries, key) else {
+        return Ok(None);
+    };
+    let mut at = first;
+    let mut depth = 0;
+    loop {
+        let entry = &entries[at];
+        let path = entry.path.as_slice();
+        if depth == path.len() {
+            return Ok(Some(entry));
+        }
+        let answer = oracle(&path[depth].0)?;
+        let Some(next) = find_branch(entries, key, path, depth, &answer) else {
+            return Ok(None);
+        };
+        at = next;
+        depth += 1;
+    }
+}
+
+impl<K: Eq + Hash, C: Eq + Hash, R: Ord, T> CallTree<K, C, R, T> {
+    /// An empty tree. It takes no memory.
+    ///
+    /// comemo's `CallTree::new`.
+    pub fn new(alloc: Global) -> Self
+        ensures { result ≡ [] }
+    {
+        CallTree {
+            entries: Vec::new(alloc),
+        }
+    }
+
+    /// The value of the path under a key whose answers the oracle gives, or `None` where there is none.
+    ///
+    /// It asks the calls along one stored path, each once and in order, until the path ends or no stored path goes on
+    /// with the answer that was given; with no path under the key, or an empty one, it asks nothing. The oracle is lent,
+    /// so its state afterwards is known. An oracle that refuses an answer ends the look-up with its error; nothing else
+    /// does, and the tree takes no memory of its own. comemo's `CallTree::get`.
+    pub fn get<O: FnMut(&C) -> Result<R, AllocError>>(
+        &self,
+        key: &K,
+        oracle: &mut O,
+    ) -> Result<Option<&T>, AllocError>
+    where
+        R: Drop,
+        requires { O.IsAlwaysCallable oracle.old }
+        ensures asked { IfOk result (λ found. LooksUp O.FnMut C.eq R.eq K.eq self.now key.now oracle.old oracle.new (option_copied found)) }
+        ensures refused { IfErr result (λ e. IsLookupRefused O.FnMut C.eq R.eq K.eq self.now key.now oracle.old e oracle.new) }
+        ensures answered { AlwaysReturns O.FnMut (λ a r. IsOk r) oracle.old → IsOk result }
+
+        // For a caller that knows what its oracle answers from, all that matters.
+        ensures agreeing { (m : C → R) → Respects C.eq R.eq m → AnswersAs O.FnMut R.eq m oracle.old → IfOk result (λ found. FindsAgreeing C.eq R.eq K.eq self.now key.now m (option_copied found)) }
+    {
+        let Some(entry) = get_in(self.entries.as_slice(), key, oracle)? else {
+            return Ok(None);
+        };
+        Ok(Some(&entry.value))
+    }
+
+    /// As `get`, with the path that was found, cloned, before its value.
+    ///
+    /// It asks as `get` does. Beside an oracle that refused, an error comes where a path was found and there was no
+    /// memory for its clone. This project's own.
+    pub fn find<O: FnMut(&C) -> Result<R, AllocError>>(
+        &self,
+        key: &K,
+        oracle: &mut O,
+    ) -> Result<Option<(Vec<(C, R)>, &T)>, AllocError>
+    where
+        C: Clone,
+        R: Clone,
+        requires callable { O.IsAlwaysCallable oracle.old }
+        requires calls_clone { (x y : C) → C.is_clone x y → IsTrue (C.eq x y) }
+        requires answers_clone { (x y : R) → R.is_clone x y → IsTrue (R.eq x y) }
+        ensures asked { IfOk result (λ found. LooksUpPath O.FnMut C.eq R.eq K.eq self.now key.now oracle.old oracle.new (option_map (λ p. (p.0.items, p.1.now)) found)) }
+        ensures refused { IfErr result (λ e. IsLookupRefused O.FnMut C.eq R.eq K.eq self.now key.now oracle.old e oracle.new ⊎ ((value : T) × LooksUp O.FnMut C.eq R.eq K.eq self.now key.now oracle.old oracle.new (Some value))) }
+        ensures answered { AlwaysReturns O.FnMut (λ a r. IsOk r) oracle.old → OnErr result ((value : T) × LooksUp O.FnMut C.eq R.eq K.eq self.now key.now oracle.old oracle.new (Some value)) }
+
+        // For a caller that knows what its oracle answers from, all that matters.
+        ensures agreeing { (m : C → R) → Respects C.eq R.eq m → AnswersAs O.FnMut R.eq m oracle.old → IfOk result (λ found. FindsAgreeingPath C.eq R.eq K.eq self.now key.now m (option_map (λ p. (p.0.items, p.1.now)) found)) }
+    {
+        let Some(entry) = get_in(self.entries.as_slice(), key, oracle)? else {
+            return Ok(None);
+        };
+        let path = entry.path.clone()?;
+        Ok(Some((path, &entry.value)))
+    }
+}
+
+/// The front that a sequence has in the tree. Its pairs are taken out of the sequence.
+fn walk<K: Eq + Hash, C: Clone + Eq + Hash, R: Ord + Drop, T>(
+    alloc: Global,
+    entries: &[Entry<K, C, R, T>],
+    key: &K,
+    sequence: &mut CallSequence<C, R>,
+) -> Result<Vec<(C, R)>, InsertError>
+    requires clones_equal { (x y : C) → C.is_clone x y → IsTrue (C.eq x y) }
+    requires tree { IsTree C.eq R.eq K.eq entries.now }
+    ensures ok { OnOk result ((¬ Exists C.eq R.eq K.eq entries.now key.now sequence.old.pairs) × (¬ Misses C.eq R.eq K.eq entries.now key.now sequence.old.pairs)) }
+    ensures stem { IfOk result (λ path. IsStem C.eq R.eq K.eq entries.now key.now sequence.old.pairs path.items) }
+    ensures left { IfOk result (λ path. sequence.new.pairs ≡ outside C.eq path.items sequence.old.pairs) }
+    ensures distinct { IfOk result (λ path. HasDistinctCalls C.eq (path.items ++ sequence.new.pairs)) }
+    ensures apart { IfOk result (λ path. (rest : List (C × R)) → All (λ e. IsTrue (K.eq e.key key.now) → Parts C.eq R.eq e.path (path.items ++ rest) × Parts C.eq R.eq (path.items ++ rest) e.path) entries.now) }
+    ensures reason { IfErr result (IsReason C.eq R.eq K.eq entries.now key.now sequence.old.pairs) }
+{
+    let mut path = Vec::new(alloc);
+    sequence.has_distinct_calls();
+    let Some(first) = find_first(entries, key) else {
+        return Ok(path);
+    };
+    let mut at = first;
+    'walk: loop {
+        let entry = &entries[at];
+        let stored = entry.path.as_slice();
+        let depth = path.len();
+        if depth == stored.len() {
+            return Err(InsertError::AlreadyExists);
+        }
+        let call = &stored[depth].0;
+        let Some(answer) = sequence.extract(call) else {
+            return Err(InsertError::MissingCall);
+        };
+        let copy = call.clone()?;
+        let next = find_branch(entries, key, stored, depth, &answer);
+        path.push((copy, answer))?;
+        match next {
+            Some(next) => at = next,
+            None => return Ok(path),
+        }
+    }
+}
+
+/// The path that an insertion stores.
+fn new_path<K: Eq + Hash, C: Clone + Eq + Hash, R: Ord + Drop, T>(
+    alloc: Global,
+    entries: &[Entry<K, C, R, T>],
+    key: &K,
+    mut sequence: CallSequence<C, R>,
+) -> Result<Vec<(C, R)>, InsertError>
+    requires clones_equal { (x y : C) → C.is_clone x y → IsTrue (C.eq x y) }
+    requires tree { IsTree C.eq R.eq K.eq entries.now }
+    ensures ok { OnOk result ((¬ Exists C.eq R.eq K.eq entries.now key.now sequence.pairs) × (¬ Misses C.eq R.eq K.eq entries.now key.now sequence.pairs)) }
+    ensures path { IfOk result (λ path. IsNewPath C.eq R.eq K.eq entries.now key.now sequence.pairs path.items) }
+    ensures distinct { IfOk result (λ path. HasDistinctCalls C.eq path.items) }
+    ensures apart { IfOk result (λ path. All (λ e. IsTrue (K.eq e.key key.now) → Parts C.eq R.eq e.path path.items × Parts C.eq R.eq path.items e.path) entries.now) }
+    ensures reason { IfErr result (IsReason C.eq R.eq K.eq entries.now key.now sequence.pairs) }
+{
+    let mut path = walk(alloc, entries, key, &mut sequence)?;
+    'rest: while let Some(pair) = sequence.next() {
+        path.push(pair)?;
+    }
+    Ok(path)
+}
+
+impl<K: Eq + Hash + Drop, C: Clone + Eq + Hash, R: Ord + Drop, T: Drop> CallTree<K, C, R, T> {
+    /// Stores a value under a key and the path that a sequence takes in the tree.
+    ///
+    /// The path follows stored ones as long as the sequence has their pairs, wherever these stand in it, and then has
+    /// the pairs that are left in the sequence's order. Every error leaves the tree as it was: `AlreadyExists` and
+    /// `MissingCall` come exactly where [`InsertError`] says so, and `Memory` where a request for memory was refused.
+    /// The key, the sequence and the value are dropped then. comemo's `CallTree::insert`.
+    pub fn insert(
+        &mut self,
+        key: K,
+        sequence: CallSequence<C, R>,
+        value: T,
+    ) -> Result<(), InsertError>
+        requires { (x y : C) → C.is_clone x y → IsTrue (C.eq x y) }
+        ensures ok { OnOk result ((¬ Exists C.eq R.eq K.eq self.old key sequence.pairs) × (¬ Misses C.eq R.eq K.eq self.old key sequence.pairs)) }
+        ensures stored { OnOk result ((path : List (C × R)) × IsNewPath C.eq R.eq K.eq self.old key sequence.pairs path × IsPermutation (stored key path value ∷ self.old) self.new) }
+        ensures reason { IfErr result (IsReason C.eq R.eq K.eq self.old key sequence.pairs) }
+        ensures err { OnErr result (self.new ≡ self.old) }
+    {
+        let alloc = *self.entries.allocator();
+        let path = new_path(alloc, self.entries.as_slice(), &key, sequence)?;
+        self.entries.push(Entry { key, path, value })?;
+        Ok(())
+    }
+}
