@@ -1,6 +1,7 @@
 pub mod Bytes
 pub mod Short
 pub mod Whole
+pub mod Keeps
 pub mod Slots
 pub mod Paths
 pub mod Steps

@@ -163,7 +163,7 @@ module _ {C R : Type 0} {eq : C → C → Bool} {same : R → R → Bool} (calls
             rw add-one (IsSamePath-more n asked ps (get_or es j d).path p answer asked_own deep is (subst Q (sym own) (fits es j d i e tree m l (sym at) (joined keys e.key key (get_or es j d).key own_key (turned keys (get_or es j d).key key (f d).0)))) (f d).1)
 
   module _ (m : C → R) (respects : Respects eq same m) where
-    Agrees-same : (ps qs : List (C × R)) → IsSamePath eq same ps qs → Agrees same m ps → Agrees same m qs
+    pub Agrees-same : (ps qs : List (C × R)) → IsSamePath eq same ps qs → Agrees same m ps → Agrees same m qs
     Agrees-same [] [] s a = tt
     Agrees-same [] (q ∷ qs) s a = absurd s
     Agrees-same (p ∷ ps) [] s a = absurd s

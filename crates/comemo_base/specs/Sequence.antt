@@ -1,6 +1,6 @@
 -- A sequence of calls with their answers. Calls are told apart by `eq`, and equal ones need not be identical.
-use Rattle.std.specs.Prelude.{◌≡◌, Bool, List, [], ◌∷◌, None, refl}
-use Rattle.std.specs.List.{list_any}
+use Rattle.std.specs.Prelude.{◌≡◌, Bool, List, [], ◌∷◌, Option, None, refl}
+use Rattle.std.specs.List.{list_any, filter_map}
 use Rattle.std.specs.Map.{lookup}
 use Rattle.std.specs.Coded.{Coded, code_by, coded×, coded_list}
 
@@ -17,6 +17,10 @@ HasDistinctCalls eq (p ∷ ps) = (lookup (eq p.0) ps ≡ None) × HasDistinctCal
 -- whether a call was ever seen
 abbrev pub was_seen : {C R : Type 0} → (C → C → Bool) → Sequence C R → C → Bool
 was_seen eq s call = list_any (eq call) s.seen
+
+-- the pairs that are left in slots, of which some are empty
+abbrev pub remaining : {P : Type 0} → List (Option P) → List P
+remaining slots = filter_map (λ slot. slot) slots
 
 -- a sequence is coded as the pair of its fields, by which a proof tells two apart
 abbrev pub sequence_code : {C R : Type 0} → Coded C → Coded R → Coded (Sequence C R)

@@ -1,7 +1,7 @@
 //! A sequence of calls with their answers: what one run of a memoized function asked, each call once.
 ghost use Rattle.std.specs.Prelude.{◌≡◌, ◌||◌, [], ◌∷◌, ◌++◌, not, IsTrue, IfOk, OnErr, MatchOption};
 ghost use Rattle.std.specs.Map.{lookup, remove_entry};
-ghost use Rattle.comemo_base.specs.Sequence.{was_seen, HasDistinctCalls};
+ghost use Rattle.comemo_base.specs.Sequence.{was_seen, remaining, HasDistinctCalls};
 
 use std::alloc::{AllocError, Global};
 use std::collections::HashMap;
@@ -24,8 +24,8 @@ pub struct CallSequence<C: Eq + Hash, R> {
 }
 
 impl<C: Eq + Hash, R> Model for CallSequence<C, R> {
-    ghost use Rattle.comemo_base.specs.Sequence.{Sequence, sequence_code};
-    ghost use Rattle.comemo_base.specs.Slots.{remaining, IsSequence};
+    ghost use Rattle.comemo_base.specs.Sequence.{Sequence, sequence_code, remaining};
+    ghost use Rattle.comemo_base.specs.Slots.{IsSequence};
     ghost use Rattle.std.specs.HashMap.{keys};
 
     ghost Value = { Sequence C R };
@@ -58,6 +58,15 @@ impl<C: Eq + Hash, R> CallSequence<C, R> {
         ensures { HasDistinctCalls C.eq self.now.pairs }
     {
         let _ = &self.slots;
+    }
+
+    /// The remaining pairs in their order, each in a slot, with empty slots where pairs were taken out.
+    ///
+    /// It takes no memory. This project's own.
+    pub fn slots(&self) -> &[Option<(C, R)>]
+        ensures { remaining result.now ≡ self.now.pairs }
+    {
+        self.slots.as_slice()
     }
 
     /// Takes out the first remaining pair, or answers `None` where no pair remains.

@@ -192,6 +192,13 @@ impl<K: Eq + Hash, C: Eq + Hash, R: Ord, T> CallTree<K, C, R, T> {
         }
     }
 
+    /// How many entries the tree has. It takes constant time. This project's own.
+    pub fn len(&self) -> usize
+        ensures { result ≡ length self.now }
+    {
+        self.entries.len()
+    }
+
     /// The value of the path under a key whose answers the oracle gives, or `None` where there is none.
     ///
     /// It asks the calls along one stored path, each once and in order, until the path ends or no stored path goes on
