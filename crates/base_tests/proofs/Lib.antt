@@ -1,0 +1,4 @@
+pub mod Agreeing
+pub mod Once
+pub mod Alike
+pub mod Found

@@ -1,0 +1,220 @@
+//! Callers of a tree's look-ups. Each lends its oracle, and shows from the contracts alone that what was found agrees with
+//! the map that its oracle answers from.
+ghost use Rattle.std.specs.Prelude.{◌≡◌, Some, IsTrue, nat_eq, slice_index, option_copied, option_map, IfOk, OnErr, IfErr};
+ghost use Rattle.std.proofs.Common.{rules};
+ghost use Rattle.std.specs.List.{Any};
+ghost use Rattle.comemo_base.specs.Answers.{Agrees};
+ghost use Rattle.comemo_base.specs.Lookup.{FindsAgreeing, FindsAgreeingPath};
+
+use comemo_base::sequence::CallSequence;
+use comemo_base::tree::{CallTree, InsertError};
+use std::alloc::AllocError;
+use std::hash::Hash;
+
+fn answer_in(table: &[u128], call: u8) -> u128
+    ensures { result ≡ slice_index table.now call }
+{
+    let at = call as usize;
+    if at < table.len() { table[at] } else { 0 }
+}
+
+/// The value whose path agrees with a table of answers. No answer is refused, so the look-up gives no error.
+pub fn get_by_table<'a, T>(
+    tree: &'a CallTree<u128, u8, u128, T>,
+    key: u128,
+    table: &[u128],
+) -> Option<&'a T>
+    ensures { FindsAgreeing nat_eq nat_eq nat_eq tree.now key (λ c. slice_index table.now c) (option_copied result) }
+{
+    match tree.get(&key, &mut |call: &u8| Ok(answer_in(table, *call))) {
+        Ok(found) => found,
+        Err(_) => unreachable!(),
+    }
+}
+
+/// The path that agrees with a table of answers, and its value. Where an error comes, such a path is stored,
+/// and there was no memory for its clone.
+pub fn find_by_table<'a, T>(
+    tree: &'a CallTree<u128, u8, u128, T>,
+    key: u128,
+    table: &[u128],
+) -> Result<Option<(Vec<(u8, u128)>, &'a T)>, AllocError>
+    ensures found { IfOk result (λ found. FindsAgreeingPath nat_eq nat_eq nat_eq tree.now key (λ c. slice_index table.now c) (option_map (λ p. (p.0.items, p.1.now)) found)) }
+    ensures err { OnErr result (Any (λ e. IsTrue (nat_eq e.key key) × Agrees nat_eq (λ c. slice_index table.now c) e.path) tree.now) }
+{
+    tree.find(&key, &mut |call: &u8| Ok(answer_in(table, *call)))
+}
+
+/// Stores a value, and looks it up by a table that agrees with its sequence: what was stored is found, whatever else the
+/// tree has.
+pub fn insert_then_get<'a, T: Drop>(
+    tree: &'a mut CallTree<u128, u8, u128, T>,
+    key: u128,
+    sequence: CallSequence<u8, u128>,
+    value: T,
+    table: &[u128],
+) -> Result<Option<&'a T>, InsertError>
+    requires { Agrees nat_eq (λ c. slice_index table.now c) sequence.pairs }
+    ensures { IfOk result (λ found. option_copied found ≡ Some value) }
+{
+    tree.insert(key, sequence, value)?;
+    Ok(get_by_table(tree, key, table))
+}
+
+/// An input that answers calls, where it finds memory.
+pub trait Input {
+    /// What it is asked.
+    type Call: Clone + Eq + Hash;
+
+    /// What it answers.
+    type Answer: Clone + Ord;
+
+    ghost answers: { Self → Self.Call → Self.Answer };
+
+    /// The answer to a call, which changes no answer.
+    fn call(&mut self, call: &Self::Call) -> Result<Self::Answer, AllocError>
+        ensures answer { IfOk result (λ r. IsTrue (Self.Answer.eq (answers self.old call.now) r)) }
+        ensures same { (c : Self.Call) → answers self.new c ≡ answers self.old c };
+
+    ghost respects: { (x : Self) (a b : Self.Call) → IsTrue (Self.Call.eq a b) → IsTrue (Self.Answer.eq (answers x a) (answers x b)) };
+}
+
+/// The value whose path agrees with the answers of an input, which stay as they were.
+pub fn get_by_input<'a, K: Eq + Hash, I: Input, T>(
+    tree: &'a CallTree<K, I::Call, I::Answer, T>,
+    key: &K,
+    input: &mut I,
+) -> Result<Option<&'a T>, AllocError>
+    ensures found { IfOk result (λ found. FindsAgreeing I.Call.eq I.Answer.eq K.eq tree.now key.now (I.answers input.old) (option_copied found)) }
+    ensures same { (c : I.Call) → I.answers input.new c ≡ I.answers input.old c }
+{
+    tree.get(
+        key,
+        &mut |call: &I::Call| -> Result<I::Answer, AllocError>
+            ensures answer { IfOk result (λ r. IsTrue (I.Answer.eq (I.answers input.entry.now call.now) r)) }
+            ensures same { (c : I.Call) → I.answers input.exit.now c ≡ I.answers input.entry.now c }
+            ensures name { input.exit.ghost_name ≡ input.entry.ghost_name }
+        { input.call(call) },
+    )
+}
+
+/// The path that agrees with the answers of an input, and its value. The input's answers stay as they were.
+pub fn find_by_input<'a, K: Eq + Hash, I: Input, T>(
+    tree: &'a CallTree<K, I::Call, I::Answer, T>,
+    key: &K,
+    input: &mut I,
+) -> Result<Option<(Vec<(I::Call, I::Answer)>, &'a T)>, AllocError>
+    requires calls_clone { (x y : I.Call) → I.Call.is_clone x y → IsTrue (I.Call.eq x y) }
+    requires answers_clone { (x y : I.Answer) → I.Answer.is_clone x y → IsTrue (I.Answer.eq x y) }
+    ensures found { IfOk result (λ found. FindsAgreeingPath I.Call.eq I.Answer.eq K.eq tree.now key.now (I.answers input.old) (option_map (λ p. (p.0.items, p.1.now)) found)) }
+    ensures same { (c : I.Call) → I.answers input.new c ≡ I.answers input.old c }
+{
+    tree.find(
+        key,
+        &mut |call: &I::Call| -> Result<I::Answer, AllocError>
+            ensures answer { IfOk result (λ r. IsTrue (I.Answer.eq (I.answers input.entry.now call.now) r)) }
+            ensures same { (c : I.Call) → I.answers input.exit.now c ≡ I.answers input.entry.now c }
+            ensures name { input.exit.ghost_name ≡ input.entry.ghost_name }
+        { input.call(call) },
+    )
+}
+
+/// A text, whose one answer is a clone of it.
+#[derive(Drop)]
+pub struct Page {
+    /// The text.
+    pub text: String,
+}
+
+impl Input for Page {
+    type Call = ();
+
+    type Answer = String;
+
+    ghost answers = { λ page _. page.text };
+
+    ghost respects = { λ x a b h. Prim.search rules };
+
+    fn call(&mut self, _call: &()) -> Result<String, AllocError> {
+        self.text.clone()
+    }
+}
+
+/// The value whose path agrees with a page, under a text as key.
+pub fn get_by_page<'a>(
+    tree: &'a CallTree<String, (), String, u32>,
+    key: &String,
+    page: &mut Page,
+) -> Result<Option<&'a u32>, AllocError>
+    ensures found { IfOk result (λ found. FindsAgreeing ⟦<() as PartialEq>⟧.eq ⟦<String as PartialEq>⟧.eq ⟦<String as PartialEq>⟧.eq tree.now key.now (λ _. page.old.text) (option_copied found)) }
+    ensures same { page.new.text ≡ page.old.text }
+{
+    get_by_input(tree, key, page)
+}
+
+/// The path that agrees with a page, under a text as key, and its value.
+pub fn find_by_page<'a>(
+    tree: &'a CallTree<String, (), String, u32>,
+    key: &String,
+    page: &mut Page,
+) -> Result<Option<(Vec<((), String)>, &'a u32)>, AllocError>
+    ensures found { IfOk result (λ found. FindsAgreeingPath ⟦<() as PartialEq>⟧.eq ⟦<String as PartialEq>⟧.eq ⟦<String as PartialEq>⟧.eq tree.now key.now (λ _. page.old.text) (option_map (λ p. (p.0.items, p.1.now)) found)) }
+    ensures same { page.new.text ≡ page.old.text }
+{
+    find_by_input(tree, key, page)
+}
+
+#[cfg(test)]
+mod tests {
+    use super::*;
+    use std::test::Fail;
+
+    #[test]
+    fn a_table_finds_the_path_of_its_answers(rt: HostRuntime) -> Result<(), Fail> {
+        let mut tree = CallTree::new(rt.alloc());
+        for (second, value) in [(15, 'f'), (20, 's')] {
+            let mut sequence = CallSequence::new(rt.alloc());
+            assert!(rt; sequence.insert(0, 10)?);
+            assert!(rt; sequence.insert(1, second)?);
+            tree.insert(0, sequence, value)?;
+        }
+        assert_eq!(rt; get_by_table(&tree, 0, &[10, 20]).copied(), Some('s'));
+        assert_eq!(rt; get_by_table(&tree, 0, &[15, 20]).copied(), None);
+        assert_eq!(rt; get_by_table(&tree, 1, &[10, 20]).copied(), None);
+        let (path, value) = find_by_table(&tree, 0, &[10, 15])?.ok_or("no path is found")?;
+        assert_eq!(rt; path.as_slice(), [(0, 10), (1, 15)].as_slice());
+        assert_eq!(rt; *value, 'f');
+        Ok(())
+    }
+
+    #[test]
+    fn what_was_stored_is_found(rt: HostRuntime) -> Result<(), Fail> {
+        let mut tree = CallTree::new(rt.alloc());
+        let mut sequence = CallSequence::new(rt.alloc());
+        assert!(rt; sequence.insert(0, 10)?);
+        let found = insert_then_get(&mut tree, 0, sequence, 'f', &[10, 15])?;
+        assert_eq!(rt; found.copied(), Some('f'));
+        Ok(())
+    }
+
+    #[test]
+    fn a_page_finds_what_was_stored_for_its_text(rt: HostRuntime) -> Result<(), Fail> {
+        let alloc = rt.alloc();
+        let mut sequence = CallSequence::new(alloc);
+        assert!(rt; sequence.insert((), String::from_str(alloc, "Ada")?)?);
+        let mut tree = CallTree::new(alloc);
+        tree.insert(String::from_str(alloc, "page")?, sequence, 7)?;
+        let key = String::from_str(alloc, "page")?;
+        let mut page = Page {
+            text: String::from_str(alloc, "Ada")?,
+        };
+        assert_eq!(rt; get_by_page(&tree, &key, &mut page)?.copied(), Some(7));
+        let (path, value) = find_by_page(&tree, &key, &mut page)?.ok_or("no path is found")?;
+        assert_eq!(rt; path.len(), 1);
+        assert_eq!(rt; path[0].1.as_str(), "Ada");
+        assert_eq!(rt; *value, 7);
+        page.text = String::from_str(alloc, "Bea")?;
+        assert_eq!(rt; get_by_page(&tree, &key, &mut page)?.copied(), None);
+        Ok(())
+    }
+}

@@ -1,0 +1,122 @@
+//! Bytes that are hashed in pieces, and numbers that are hashed as their bytes.
+use crate::vectors::text;
+use comemo_base::hash::hash;
+use comemo_base::sip::SipHasher13;
+use std::hash::Hasher;
+use std::test::Fail;
+
+// The number of a hasher after some more bytes.
+fn number_after(mut hasher: SipHasher13, bytes: &[u8]) -> u128 {
+    hasher.write(bytes);
+    hasher.finish128()
+}
+
+// A hasher that holds the bytes 1 to the count.
+fn begun(count: u8) -> SipHasher13 {
+    let mut hasher = SipHasher13::new();
+    for i in 0..count {
+        hasher.write(&[i.wrapping_add(1)]);
+    }
+    hasher
+}
+
+#[test]
+fn two_pieces_hash_as_the_whole(rt: HostRuntime) -> Result<(), Fail> {
+    for count in [0, 7, 8, 9, 255, 256] {
+        let bytes = text(rt.alloc(), count)?;
+        assert_eq!(rt; bytes.len(), count);
+        let whole = number_after(SipHasher13::new(), bytes.as_slice());
+        for cut in 0..=count {
+            let (front, back) = bytes.as_slice().split_at_checked(cut).ok_or("no such cut")?;
+            let mut hasher = SipHasher13::new();
+            hasher.write(front);
+            assert_eq!(rt;
+                number_after(hasher, back),
+                whole,
+                "{count} bytes cut at {cut}"
+            );
+        }
+    }
+    Ok(())
+}
+
+#[test]
+fn a_number_hashes_as_its_bytes(rt: HostRuntime) {
+    assert_eq!(rt;
+        hash(&7u32),
+        number_after(SipHasher13::new(), &[7, 0, 0, 0])
+    );
+}
+
+#[test]
+fn the_short_number_is_the_low_half(rt: HostRuntime) {
+    for count in 0..20 {
+        let hasher = begun(count);
+        assert_eq!(rt;
+            u128::from(hasher.finish()),
+            hasher.finish128() % (1 << 64),
+            "{count} bytes"
+        );
+    }
+}
+
+#[test]
+fn a_short_number_is_written_as_its_bytes(rt: HostRuntime) {
+    for count in 0..8 {
+        let held = begun(count);
+        let mut byte = held;
+        byte.write_u8(0xa1);
+        assert_eq!(rt;
+            byte.finish128(),
+            number_after(held, &[0xa1]),
+            "u8 after {count}"
+        );
+        let mut short = held;
+        short.write_u16(0xa1b2);
+        assert_eq!(rt;
+            short.finish128(),
+            number_after(held, &[0xb2, 0xa1]),
+            "u16 after {count}"
+        );
+        let mut word = held;
+        word.write_u32(0xa1b2_c3d4);
+        let bytes = [0xd4, 0xc3, 0xb2, 0xa1];
+        assert_eq!(rt;
+            word.finish128(),
+            number_after(held, &bytes),
+            "u32 after {count}"
+        );
+    }
+}
+
+#[test]
+fn a_long_number_is_written_as_its_bytes(rt: HostRuntime) {
+    let low = [0x18, 0x07, 0xf6, 0xe5, 0xd4, 0xc3, 0xb2, 0xa1];
+    for count in 0..8 {
+        let held = begun(count);
+        let mut long = held;
+        long.write_u64(0xa1b2_c3d4_e5f6_0718);
+        assert_eq!(rt;
+            long.finish128(),
+            number_after(held, &low),
+            "u64 after {count}"
+        );
+        let mut size = held;
+        size.write_usize(0xa1b2_c3d4_e5f6_0718);
+        assert_eq!(rt;
+            size.finish128(),
+            number_after(held, &low),
+            "usize after {count}"
+        );
+        let mut huge = held;
+        huge.write_u128(0x2930_4152_6374_8596_a1b2_c3d4_e5f6_0718);
+        let mut bytes = held;
+        bytes.write(&low);
+        let high = [0x96, 0x85, 0x74, 0x63, 0x52, 0x41, 0x30, 0x29];
+        assert_eq!(rt;
+            huge.finish128(),
+            number_after(bytes, &high),
+            "u128 after {count}"
+        );
+    }
+}

@@ -1,0 +1,72 @@
+//! A caller whose oracle answers one call and refuses every later one.
+ghost use Rattle.std.specs.Prelude.{◌≡◌, IsTrue, is_err, IfOk, IfErr, IfSome, IfNone, Some, None, true, option_copied};
+ghost use Rattle.std.specs.List.{Any};
+ghost use Rattle.base_tests.specs.Refusals.{GoesOnAfter, IsAnsweredBy, LacksAnswer};
+
+use comemo_base::tree::CallTree;
+use std::alloc::AllocError;
+use std::hash::Hash;
+
+/// What a tree finds where the first call is given the answer and every later one is refused, and whether one was refused.
+///
+/// A refusal is passed on: the look-up gives an error exactly where its oracle refused a call, so a miss never stands for
+/// a refusal.
+pub fn get_with_one_answer<'a, K: Eq + Hash, C: Eq + Hash, R: Ord + Drop, T>(
+    tree: &'a CallTree<K, C, R, T>,
+    key: &K,
+    answer: R,
+) -> (Result<Option<&'a T>, AllocError>, bool)
+    ensures passed_on { is_err result.0 ≡ result.1 }
+    ensures refused { IfErr result.0 (λ _. Any (λ e. IsTrue (K.eq e.key key.now) × GoesOnAfter R.eq answer e.path) tree.now) }
+    ensures missed { IfOk result.0 (λ found. IfNone (option_copied found) (LacksAnswer C.eq R.eq K.eq tree.now key.now answer)) }
+    ensures found { IfOk result.0 (λ found. IfSome (option_copied found) (λ v. Any (λ e. IsTrue (K.eq e.key key.now) × IsAnsweredBy R.eq answer e.path × (e.value ≡ v)) tree.now)) }
+{
+    let mut left = Some(answer);
+    let mut refused = false;
+    let found = tree.get(
+        key,
+        &mut |_: &C| -> Result<R, AllocError>
+            ensures given { IfOk result (λ r. (left.entry ≡ Some r) × (left.exit ≡ None) × (refused.exit ≡ refused.entry)) }
+            ensures refused { IfErr result (λ _. (left.entry ≡ None) × (refused.exit ≡ true)) }
+        {
+            match left.take() {
+                Some(answer) => Ok(answer),
+                None => {
+                    refused = true;
+                    Err(AllocError)
+                }
+            }
+        },
+    );
+    (found, refused)
+}
+
+#[cfg(test)]
+mod tests {
+    use super::*;
+    use comemo_base::sequence::CallSequence;
+    use std::test::Fail;
+
+    #[test]
+    fn a_refused_call_is_no_miss(rt: HostRuntime) -> Result<(), Fail> {
+        let alloc = rt.alloc();
+        let mut tree: CallTree<u128, u8, u128, char> = CallTree::new(alloc);
+        let mut long = CallSequence::new(alloc);
+        assert!(rt; long.insert(b'a', 1)?);
+        assert!(rt; long.insert(b'b', 2)?);
+        tree.insert(0, long, 'x')?;
+        let mut short = CallSequence::new(alloc);
+        assert!(rt; short.insert(b'a', 3)?);
+        tree.insert(0, short, 'y')?;
+        let (second, refused) = get_with_one_answer(&tree, &0, 1);
+        assert!(rt; second.is_err());
+        assert!(rt; refused);
+        let (found, refused) = get_with_one_answer(&tree, &0, 3);
+        assert_eq!(rt; found?.copied(), Some('y'));
+        assert!(rt; !refused);
+        let (missed, refused) = get_with_one_answer(&tree, &0, 4);
+        assert_eq!(rt; missed?.copied(), None);
+        assert!(rt; !refused);
+        Ok(())
+    }
+}
