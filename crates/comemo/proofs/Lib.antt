@@ -1,0 +1,6 @@
+pub mod Recordings
+pub mod Entries
+pub mod NewPath
+pub mod Sendings
+pub mod Copies
+pub mod Endings

@@ -1,0 +1,6 @@
+use Rattle.comemo.proofs.Recordings.{IsRecording-read}
+use Rattle.comemo.proofs.constraint.ConstraintSink.emit.Goals as goal
+
+pub invariant_of-self : goal.invariant_of-self
+invariant_of-self g c =
+    IsRecording-read g.met.C.Eq.laws g.C.Call.is_write c.self.inside.reads c.self.invariant c.insert.new.self c.args.call c.in-Some.answer c.insert.result c.requires.reads c.insert.ensures.pairs c.insert.ensures.seen c.insert.ensures.held c.insert.ensures.err

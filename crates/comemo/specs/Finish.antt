@@ -1,0 +1,32 @@
+-- How a run of a memoized function ends.
+use Rattle.std.specs.Prelude.{◌≡◌, Bool, List, [], ◌∷◌}
+use Rattle.std.specs.List.Sorted.{IsPermutation}
+use Rattle.comemo_base.specs.Tree.{Stored, IsSamePath, stored}
+use Rattle.comemo_base.specs.Insertion.{Exists, Misses, IsNewPath}
+use Rattle.comemo.specs.Cache.{Output}
+use Rattle.comemo.specs.declared.finish.How.{How}
+use Rattle.comemo.specs.declared.finish.How.TheVariants as how
+
+module _ {K C R O : Type 0} (eq : C → C → Bool) (same : R → R → Bool) (eqk : K → K → Bool) (cloned : O → O → Type 0) (es : List (Stored K C R (Output O C))) (key : K) (pairs : List (C × R)) (output : O) where
+  -- one more entry: the key, the path that the pairs take, and a clone of the output
+  pub record Adds (es' : List (Stored K C R (Output O C))) : Type 0 where
+    pub path : List (C × R)
+    pub is_new : IsNewPath eq same eqk es key pairs path
+    pub kept : O
+    pub is_clone : cloned output kept
+    pub entries : IsPermutation (stored key path (record { output = kept; writes = [] }) ∷ es) es'
+
+  -- the entries after a run of these pairs and this output, by what became of it; only a stored run adds one
+  abbrev pub Ends : How → List (Stored K C R (Output O C)) → Type 0
+  Ends how.Hit es' = ⊥
+  Ends how.Stored es' = (¬ Exists eq same eqk es key pairs) × (¬ Misses eq same eqk es key pairs) × Adds es'
+  Ends how.AlreadyExists es' = Exists eq same eqk es key pairs × (es' ≡ es)
+  Ends how.MissingCall es' = Misses eq same eqk es key pairs × (es' ≡ es)
+  Ends how.NotStored es' = es' ≡ es
+  Ends how.Disabled es' = es' ≡ es
+
+-- the pairs went to the sink, up to equality
+pub record Gives {C R S : Type 0} (eq : C → C → Bool) (same : R → R → Bool) (took : S → List (C × R) → List C → S → Type 0) (s : S) (pairs : List (C × R)) (writes : List C) (t : S) : Type 0 where
+  pub given : List (C × R)
+  pub alike : IsSamePath eq same given pairs
+  pub sent : took s given writes t

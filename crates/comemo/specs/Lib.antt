@@ -1,0 +1,7 @@
+pub mod Sending
+pub mod Recording
+pub mod RecordingLaws
+pub mod Cache
+pub mod Begin
+pub mod Begun
+pub mod Finish

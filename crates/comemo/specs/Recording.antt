@@ -1,0 +1,37 @@
+-- What a recording holds, and how it takes more.
+use Rattle.std.specs.Prelude.{◌≡◌, Bool, false, cond, List, [], ◌∷◌, ◌++◌, is_some, refl}
+use Rattle.std.specs.List.{All}
+use Rattle.std.specs.Map.{lookup}
+use Rattle.std.specs.Coded.{Coded, code_by, coded×, coded_list, coded_bool}
+use Rattle.comemo_base.specs.Sequence.{Sequence, was_seen}
+
+-- reads with their answers, writes, and whether nothing was lost
+pub record Recording (C R : Type 0) : Type 0 where
+  pub pairs : List (C × R)
+  pub writes : List C
+  pub whole : Bool
+
+-- whether a call is among the pairs
+abbrev pub held : {C R : Type 0} → (C → C → Bool) → List (C × R) → C → Bool
+held eq ps call = is_some (lookup (eq call) ps)
+
+-- the pairs, and then those of the second list whose calls are not held, in its order
+abbrev pub absorbed : {C R : Type 0} → (C → C → Bool) → List (C × R) → List (C × R) → List (C × R)
+absorbed eq ps [] = ps
+absorbed eq ps (q ∷ qs) = absorbed eq (cond (held eq ps q.0) ps (ps ++ q ∷ [])) qs
+
+-- t is s after it took these pairs and these writes
+pub record Took {C R : Type 0} (eq : C → C → Bool) (s : Recording C R) (P : List (C × R)) (W : List C) (t : Recording C R) : Type 0 where
+  pub pairs : t.pairs ≡ absorbed eq s.pairs P
+  pub writes : t.writes ≡ s.writes ++ W
+  pub whole : t.whole ≡ s.whole
+
+-- a recording is coded as the tuple of its fields, by which a proof tells two apart
+abbrev pub recording_code : {C R : Type 0} → Coded C → Coded R → Coded (Recording C R)
+recording_code {C} {R} c r =
+    code_by (List (C × R) × (List C × Bool)) (coded× (coded_list (coded× c r)) (coded× (coded_list c) coded_bool)) (λ s. (s.pairs, (s.writes, s.whole))) (λ p. record { pairs = p.0; writes = p.1.0; whole = p.1.1 }) (λ _. refl)
+
+-- how a `Constraint` keeps it: the calls seen are those of the pairs, all of them reads
+pub record IsRecording {C R : Type 0} (eq : C → C → Bool) (w : C → Bool) (reads : Sequence C R) : Type 0 where
+  pub seen : (call : C) → was_seen eq reads call ≡ held eq reads.pairs call
+  pub all_reads : All (λ p. w p.0 ≡ false) reads.pairs

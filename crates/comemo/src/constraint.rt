@@ -1,0 +1,106 @@
+//! Recordings: what a run asked, and what it did.
+ghost use Rattle.std.specs.Prelude.{◌≡◌, [], ◌∷◌, ◌++◌, Bool, true, false, IsTrue, IfOk, OnOk, OnErr, not, is_none};
+ghost use Rattle.std.specs.List.{All};
+ghost use Rattle.comemo.specs.Recording.{held, Took};
+ghost use Rattle.comemo.specs.Sending.{sent_pairs, sent_writes};
+
+use crate::track::{Call, Sink};
+use comemo_base::CallSequence;
+use std::alloc::{AllocError, Global};
+use std::marker::Model;
+
+/// A recording of one run of a memoized function: its reads with their answers, each read once. Writes are to come.
+///
+/// It is whole, or spoiled: then something that should have been recorded was not. comemo's `Constraint`, owned and lent
+/// for writing, with answers themselves in the place of their hashes.
+#[derive(Drop)]
+pub struct Constraint<C: Call, R> {
+    reads: CallSequence<C, R>,
+    whole: bool,
+}
+
+impl<C: Call, R> Model for Constraint<C, R> {
+    ghost use Rattle.std.specs.Prelude.{[]};
+    ghost use Rattle.comemo.specs.Recording.{Recording, recording_code, IsRecording};
+
+    ghost Value = { Recording C R };
+
+    ghost coded = { recording_code C.code R.code };
+
+    ghost view = { λ s. record { pairs = s.reads.pairs; writes = []; whole = s.whole } };
+
+    ghost invariant = { λ s. IsRecording C.eq C.is_write s.reads };
+}
+
+impl<C: Call, R> Constraint<C, R> {
+    /// A recording of nothing, which is whole. It takes no memory.
+    ///
+    /// comemo's `Constraint::new`.
+    pub fn new(alloc: Global) -> Self
+        ensures pairs { result.pairs ≡ [] }
+        ensures writes { result.writes ≡ [] }
+        ensures whole { result.whole ≡ true }
+    {
+        Constraint {
+            reads: CallSequence::new(alloc),
+            whole: true,
+        }
+    }
+
+    /// Whether nothing that should have been recorded was lost. It takes no memory.
+    ///
+    /// This project's own.
+    pub fn is_whole(&self) -> bool
+        ensures { result ≡ self.now.whole }
+    {
+        self.whole
+    }
+
+    /// The recorded reads, as a sequence.
+    pub(crate) fn into_reads(self) -> CallSequence<C, R>
+        ensures pairs { result.pairs ≡ self.pairs }
+        ensures reads { All (λ p. C.is_write p.0 ≡ false) self.pairs }
+        ensures writes { self.writes ≡ [] }
+    {
+        let Constraint { reads, whole: _ } = self;
+        reads
+    }
+}
+
+impl<C: Call, R: Clone + Ord> Sink for Constraint<C, R> {
+    type Call = C;
+
+    type Answer = R;
+
+    ghost use Rattle.comemo.specs.RecordingLaws.{took_nothing, took_both};
+
+    ghost took = { λ s P W t. Took C.eq s P W t };
+
+    ghost spoils = { λ s t. t.whole ≡ false };
+
+    ghost holds = { λ s call. held C.eq s.pairs call };
+
+    ghost starts = { λ s. took_nothing C.eq s };
+
+    ghost joins = { λ s t u P Q V W a b. took_both C.eq s t u P Q V W a b };
+
+    ghost ends = { λ s t u P V a b. b };
+
+    fn emit(&mut self, call: C, answer: Option<R>) -> Result<bool, AllocError>
+        requires answered { is_none answer ≡ C.is_write call }
+        requires reads { C.is_write call ≡ false }
+        ensures ok { OnOk result (Took C.eq self.old (sent_pairs call answer) (sent_writes call answer) self.new) }
+        ensures new { IfOk result (λ new. new ≡ not (held C.eq self.old.pairs call)) }
+        ensures err { OnErr result (Took C.eq self.old [] [] self.new) }
+    {
+        match answer {
+            Some(answer) => self.reads.insert(call, answer),
+            // Only a write comes without an answer, and there are none yet.
+            None => Ok(true),
+        }
+    }
+
+    fn spoil(&mut self) {
+        self.whole = false;
+    }
+}

@@ -1,0 +1,17 @@
+//! Constrained memoization: the output of a memoized function is kept with the questions that its run asked of its
+//! tracked arguments, and is given again while those questions would be answered alike.
+#![tactic(auto)]
+
+pub mod begin;
+pub mod constraint;
+pub mod finish;
+pub mod input;
+pub mod memoize;
+pub mod track;
+
+pub use begin::{Begun, Fault, Pending};
+pub use constraint::Constraint;
+pub use finish::{How, Reply};
+pub use input::{Input, Keyed};
+pub use memoize::{CacheData, Found, Memo};
+pub use track::{Call, Sink, Top, Track, Tracked};

@@ -1,0 +1,221 @@
+//! Tracked values, the calls that they answer, and what takes note of the calls.
+ghost use Rattle.std.specs.Prelude.{◌≡◌, [], ◌∷◌, ◌++◌, List, Bool, true, false, not, is_none, IsTrue, IfOk, OnOk, OnErr, ⊤, refl};
+ghost use Rattle.comemo_base.specs.Answers.{Respects};
+ghost use Rattle.comemo.specs.Sending.{sent_pairs, sent_writes, Asks};
+
+use std::alloc::AllocError;
+use std::hash::Hash;
+use std::marker::{Model, PhantomData};
+
+/// A call to a tracked value: a read, which has an answer, or a write, which changes the value.
+///
+/// Calls are told apart by their `Eq`, and a clone is equal to its original. comemo's `Call`, with `Eq`.
+pub trait Call: Clone + Eq + Hash {
+    // whether the call is a write
+    ghost is_write: { Self → Bool };
+
+    /// Whether the call is a write.
+    fn is_mutable(&self) -> bool
+        ensures { result ≡ is_write self.now };
+
+    // equal calls are both reads or both writes
+    ghost same_kind: { (x y : Self) → IsTrue (Self.eq x y) → is_write x ≡ is_write y };
+
+    // a clone is equal
+    ghost clones: { (x y : Self) → Self.is_clone x y → IsTrue (Self.eq x y) };
+}
+
+/// The one call of what has nothing to ask: a read.
+impl Call for () {
+    ghost use Rattle.std.proofs.Common.{rules};
+
+    ghost is_write = { λ _. false };
+
+    ghost same_kind = { λ _ _ _. refl };
+
+    ghost clones = { λ x y h. Prim.search rules };
+
+    fn is_mutable(&self) -> bool {
+        false
+    }
+}
+
+/// What takes note of calls, as a recording does.
+///
+/// A contract knows a sink by what it took: `took s P W t` says that t is s after it took the pairs P, each a read with
+/// its answer, and the writes W. comemo's `Sink`, by `&mut self`, and it can be refused memory.
+pub trait Sink {
+    type Call: Call;
+
+    type Answer: Clone + Ord;
+
+    // t is s after it took these pairs and these writes
+    ghost took: { Self → List (Self.Call × Self.Answer) → List Self.Call → Self → Type 0 };
+
+    // t is s with what it holds spoiled
+    ghost spoils: { Self → Self → Type 0 };
+
+    // whether a read is held, so that it is not taken again
+    ghost holds: { Self → Self.Call → Bool };
+
+    /// Takes note of a call: a read with its answer, or a write with `None`.
+    ///
+    /// It answers false for a read that is held already, which changes nothing, and else true. A refusal changes nothing.
+    /// For now a call has to be a read.
+    fn emit(&mut self, call: Self::Call, answer: Option<Self::Answer>) -> Result<bool, AllocError>
+        requires answered { is_none answer ≡ Self.Call.is_write call }
+        requires reads { Self.Call.is_write call ≡ false }
+        ensures ok { OnOk result (took self.old (sent_pairs call answer) (sent_writes call answer) self.new) }
+        ensures new { IfOk result (λ new. new ≡ not (holds self.old call)) }
+        ensures err { OnErr result (took self.old [] [] self.new) };
+
+    /// Marks what the sink holds as incomplete: a recording that is spoiled is never stored. It takes no memory.
+    fn spoil(&mut self)
+        ensures { spoils self.old self.new };
+
+    // nothing taken is nothing done
+    ghost starts: { (s : Self) → took s [] [] s };
+
+    // what is taken in two parts is taken
+    ghost joins: { (s t u : Self) (P Q : List (Self.Call × Self.Answer)) (V W : List Self.Call) → took s P V t → took t Q W u → took s (P ++ Q) (V ++ W) u };
+
+    // a sink that took something and then was spoiled is spoiled
+    ghost ends: { (s t u : Self) (P : List (Self.Call × Self.Answer)) (V : List Self.Call) → took s P V t → spoils t u → spoils s u };
+}
+
+/// A sink that keeps nothing, for calls that no memoized function stands around. It takes no memory and refuses nothing.
+///
+/// comemo takes `()` there.
+#[derive(Drop)]
+pub struct Top<C, R> {
+    calls: PhantomData<C>,
+    answers: PhantomData<R>,
+}
+
+impl<C, R> Top<C, R> {
+    /// Such a sink.
+    pub fn new() -> Self {
+        Top {
+            calls: PhantomData,
+            answers: PhantomData,
+        }
+    }
+}
+
+impl<C: Call, R: Clone + Ord> Sink for Top<C, R> {
+    type Call = C;
+
+    type Answer = R;
+
+    ghost took = { λ _ _ _ _. ⊤ };
+
+    ghost spoils = { λ _ _. ⊤ };
+
+    ghost holds = { λ _ _. false };
+
+    ghost starts = { λ _. tt };
+
+    ghost joins = { λ _ _ _ _ _ _ _ _ _. tt };
+
+    ghost ends = { λ _ _ _ _ _ _ _. tt };
+
+    fn emit(&mut self, call: C, answer: Option<R>) -> Result<bool, AllocError>
+        requires answered { is_none answer ≡ C.is_write call }
+        requires reads { C.is_write call ≡ false }
+        ensures { IfOk result (λ new. new ≡ true) }
+    {
+        let _ = (call, answer);
+        Ok(true)
+    }
+
+    fn spoil(&mut self) {}
+}
+
+/// A value whose calls are tracked.
+///
+/// An implementation says by `answers` what the value answers to each read; what that map gives for a write is never
+/// read. comemo's `Track`, with one answer type for all calls, and `ask` in the place of the methods that a macro makes.
+pub trait Track {
+    type Call: Call;
+
+    type Answer: Clone + Ord;
+
+    // what the value answers
+    ghost answers: { Self → Self.Call → Self.Answer };
+
+    /// The answer to a read. An error says that there was no memory for it.
+    fn ask(&self, call: &Self::Call) -> Result<Self::Answer, AllocError>
+        requires { Self.Call.is_write call.now ≡ false }
+        ensures { IfOk result (λ answer. IsTrue (Self.Answer.eq (answers self.now call.now) answer)) };
+
+    /// A view of the value, through which its reads are recorded.
+    final fn track(&self) -> Tracked<'_, Self>
+    where
+        Self: Sized,
+        ensures { result ≡ self.now }
+    {
+        Tracked { value: self }
+    }
+
+    // equal calls have equal answers
+    ghost alike: { (s : Self) → Respects Self.Call.eq Self.Answer.eq (answers s) };
+
+    // a clone of an answer is equal
+    ghost clones: { (x y : Self.Answer) → Self.Answer.is_clone x y → IsTrue (Self.Answer.eq x y) };
+}
+
+/// A view of a tracked value, which reads. Contracts see it as the value.
+///
+/// comemo's `Tracked`. It does not lend its value.
+#[derive(Drop)]
+pub struct Tracked<'a, T> {
+    value: &'a T,
+}
+
+impl<'a, T> Model for Tracked<'a, T> {
+    ghost Value = { T };
+
+    ghost coded = { T.code };
+
+    ghost view = { λ s. s.value.now };
+}
+
+impl<'a, T: Track> Tracked<'a, T> {
+    /// Asks the value a read, and sends the call with its answer to a sink.
+    ///
+    /// It clones the answer for the sink. An error says that there was no memory for the answer, its clone or the sink;
+    /// then the sink is as it was.
+    pub fn ask<S: Sink<Call = T::Call, Answer = T::Answer>>(
+        &mut self,
+        call: T::Call,
+        sink: &mut S,
+    ) -> Result<T::Answer, AllocError>
+        requires { T.Call.is_write call ≡ false }
+        ensures ok { IfOk result (λ answer. Asks T.Answer.eq S.took (T.answers self.old) sink.old call answer sink.new) }
+        ensures err { OnErr result (S.took sink.old [] [] sink.new) }
+        ensures same { self.new ≡ self.old }
+    {
+        let answer = self.value.ask(&call)?;
+        let noted = answer.clone()?;
+        let _ = sink.emit(call, Some(noted))?;
+        Ok(answer)
+    }
+
+    /// The answer to a read, with nothing sent: what an input that holds the view is asked by a look-up.
+    pub(crate) fn call(&mut self, call: &T::Call) -> Result<T::Answer, AllocError>
+        requires { T.Call.is_write call.now ≡ false }
+        ensures answer { IfOk result (λ answer. IsTrue (T.Answer.eq (T.answers self.old call.now) answer)) }
+        ensures same { self.new ≡ self.old }
+    {
+        self.value.ask(call)
+    }
+
+    /// Another view of the same value.
+    ///
+    /// comemo's `Tracked` is `Copy`; a branch takes a view of its own.
+    pub fn fork(&self) -> Tracked<'a, T>
+        ensures { result ≡ self.now }
+    {
+        Tracked { value: self.value }
+    }
+}
