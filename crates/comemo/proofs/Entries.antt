@@ -19,12 +19,12 @@ reads_same eq same w kind (p ∷ ps) (q ∷ qs) s h =
     All-cons (λ p. w p.0 ≡ false) p ps (kind p.0 q.0 s.0 ∙ h 0 q (omega arith)) (reads_same eq same w kind ps qs s.2 (λ j e m. h (suc j) e (omega arith)))
 
 module _ {K C R O : Type 0} {eq : C → C → Bool} {same : R → R → Bool} (calls : IsEquivalence eq) (answers : IsEquivalence same) (w : C → Bool) (def : K → (C → R) → O → List C → Type 0) (eqk : K → K → Bool) (cloned : O → O → Type 0)
-    (key_alike : (j k : K) (m : C → R) (o : O) (ws : List C) → IsTrue (eqk j k) → def j m o ws → def k m o ws)
-    (output_clones : (k : K) (m : C → R) (a b : O) (ws : List C) → cloned a b → def k m a ws → def k m b ws) where
+    (key_alike : (j k : K) (m : C → R) (o : O) (ws : List C) → Respects eq same m → IsTrue (eqk j k) → def j m o ws → def k m o ws)
+    (output_clones : (k : K) (m : C → R) (a b : O) (ws : List C) → Respects eq same m → cloned a b → def k m a ws → def k m b ws) where
   -- clones of a legal entry's path and output stand in the definition at an equal key
   pub Stands-found : (e : Stored K C R (Output O C)) (key : K) (path : List (C × R)) (output : O) → IsLegal eq same w def e → IsTrue (eqk e.key key) → IsSamePath eq same path e.path → cloned e.value.output output → e.value.writes ≡ [] → Stands eq same def key path output []
   Stands-found e key path output legal k s c none = λ m r a.
-      subst (λ ws. def key m output ws) none (output_clones key m e.value.output output e.value.writes c (key_alike e.key key m e.value.output e.value.writes k (legal.stands m r (Agrees-same calls answers m r path e.path s a))))
+      subst (λ ws. def key m output ws) none (output_clones key m e.value.output output e.value.writes r c (key_alike e.key key m e.value.output e.value.writes r k (legal.stands m r (Agrees-same calls answers m r path e.path s a))))
 
 module _ {K C R O : Type 0} (eq : C → C → Bool) (same : R → R → Bool) {eqk : K → K → Bool} (keys : IsEquivalence eqk) (es : List (Stored K C R (Output O C))) (j k : K) (alike : IsTrue (eqk j k)) where
   -- what is kept under a key is kept under an equal one

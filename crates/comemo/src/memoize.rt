@@ -2,6 +2,7 @@
 ghost use Rattle.std.specs.Prelude.{◌≡◌, [], ◌∷◌, List, Bool, true, false, IsTrue, IfOk, IfErr, OnOk, OnErr, IfSome, MatchOption, length};
 ghost use Rattle.std.specs.List.{All};
 ghost use Rattle.std.specs.List.Sorted.{IsPermutation};
+ghost use Rattle.comemo_base.specs.Answers.{Respects};
 ghost use Rattle.comemo_base.specs.Tree.{stored};
 ghost use Rattle.comemo_base.specs.Insertion.{Exists, Misses, IsNewPath, IsReason};
 ghost use Rattle.comemo.specs.Cache.{Output, Stands, HasNone, Has};
@@ -15,8 +16,8 @@ use std::marker::Model;
 
 /// A memoized function: the types of its calls, keys, answers and outputs, and what it means.
 ///
-/// `def` says which outputs and writes are right at a key and at answers. It knows of no cache. Its laws say that it
-/// doesn't tell apart what is equal, or a clone from its original. This project's own: comemo has the function alone.
+/// `def` says which outputs and writes are right at a key and at answers. It knows of no cache. Its laws say that, at
+/// answers that tell no equal calls apart, it doesn't tell apart equal keys, or a clone from its original. This project's own: comemo has the function alone.
 pub trait Memo {
     type Call: Call;
 
@@ -30,10 +31,10 @@ pub trait Memo {
     ghost def: { Self.Key → (Self.Call → Self.Answer) → Self.Out → List Self.Call → Type 0 };
 
     // a clone of a right output is right
-    ghost output_clones: { (key : Self.Key) (m : Self.Call → Self.Answer) (a b : Self.Out) (writes : List Self.Call) → Self.Out.is_clone a b → def key m a writes → def key m b writes };
+    ghost output_clones: { (key : Self.Key) (m : Self.Call → Self.Answer) (a b : Self.Out) (writes : List Self.Call) → Respects Self.Call.eq Self.Answer.eq m → Self.Out.is_clone a b → def key m a writes → def key m b writes };
 
     // what is right at a key is right at an equal one
-    ghost key_alike: { (j k : Self.Key) (m : Self.Call → Self.Answer) (output : Self.Out) (writes : List Self.Call) → IsTrue (Self.Key.eq j k) → def j m output writes → def k m output writes };
+    ghost key_alike: { (j k : Self.Key) (m : Self.Call → Self.Answer) (output : Self.Out) (writes : List Self.Call) → Respects Self.Call.eq Self.Answer.eq m → IsTrue (Self.Key.eq j k) → def j m output writes → def k m output writes };
 
     // a clone of a key is equal
     ghost key_clones: { (x y : Self.Key) → Self.Key.is_clone x y → IsTrue (Self.Key.eq x y) };

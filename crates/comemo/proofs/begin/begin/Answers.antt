@@ -16,7 +16,7 @@ returns-in-Some-clause-begun g c =
       is_enabled = c.if-enabled.true;
       kept = Has-alike g.M.Call.PartialEq.eq g.M.Answer.PartialEq.eq g.met.M.Key.Eq.laws c.args.cache.now c.in-Ok.key _ alike g.M.Out.Clone.is_clone m c.in-Some.found.pairs.items c.in-Some.found.output [] found;
       agrees = Agrees-found g.met.M.Call.Eq.laws g.met.M.Answer.Eq.laws g.M.Key.PartialEq.eq c.args.cache.now c.in-Ok.key g.M.Out.Clone.is_clone m c.in-Some.found.pairs.items c.in-Some.found.output [] (g.met.In.Input.alike c.args.input.now) found;
-      stands = λ n r a. g.met.M.Memo.key_alike c.in-Ok.key _ n c.in-Some.found.output [] alike (stands n r a);
+      stands = λ n r a. g.met.M.Memo.key_alike c.in-Ok.key _ n c.in-Some.found.output [] r alike (stands n r a);
       done = c.look.ensures.same;
       sent = c.in_ok-give_pairs.ensures.ok;
     }
