@@ -1,0 +1,19 @@
+use Rattle.std.proofs.Common.{rules, ◌≡◌, ◌∙◌, sym, subst, length, string_bytes}
+use Rattle.interpreter.specs.Files.{text_of, answer_of}
+use Rattle.interpreter.specs.Size.{IsSize}
+use Rattle.interpreter.proofs.Sizes.{same_bytes, run_stands}
+use Rattle.interpreter.proofs.measure.size.Goals as goal
+
+pub returns-in-Hit-clause-output : goal.returns-in-Hit-clause-output
+returns-in-Hit-clause-output g c =
+    let hit = rw c.in-Hit.is at c.in_ok-output.ensures.begun in
+    let found = hit.stands (answer_of c.fork.result.texts c.fork.result.missing) (λ x y h. search rules) hit.agrees in
+    let here = subst (λ files. c.in-Hit.output ≡ length (string_bytes (text_of files.texts files.missing (string_bytes c.in-Ok.key)))) c.fork.ensures found in
+    subst (λ path. c.in-Hit.output ≡ length (string_bytes (text_of c.args.files.now.texts c.args.files.now.missing path))) c.in-Ok.ensures.ok here
+
+pub finish-requires : goal.finish-requires
+finish-requires g c = λ whole m respects agrees.
+    let run = rw c.in-Run.is at c.in_ok-output.ensures.begun in
+    let told = c.in-Ok-read_text.ensures in
+    let long : length (string_bytes c.in-Ok-read_text.text) ≡ c.len-output.result = search rules in
+    subst (λ size. IsSize c.in-Run.pending.key m size) long (run_stands _ (λ a b h. h) _ told.0 c.in-Run.pending.key c.in-Ok-read_text.text _ _ (rw c.recording.ensures.value run.0.pairs) (told.1 ∙ sym c.in-Ok.ensures.ok ∙ same_bytes c.in-Ok.key c.in-Run.pending.key run.0.has_key) told.2 m respects agrees)

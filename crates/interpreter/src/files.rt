@@ -1,0 +1,89 @@
+//! Files in memory, as a tracked value.
+ghost use Rattle.std.specs.Prelude.{◌≡◌, ℕ, List, [], false, refl, string_bytes, bytes_eq, if◌then◌else◌, OnOk, OnErr, length};
+ghost use Rattle.std.proofs.Common.{rules};
+ghost use Rattle.interpreter.specs.Files.{text_of};
+
+use comemo::{Call, Track};
+use std::alloc::{AllocError, Global};
+use std::collections::HashMap;
+use std::hash::Hash;
+
+/// A call to the files.
+#[derive(Clone, Drop, Debug, PartialEq, Eq, Hash)]
+pub enum FileCall {
+    /// The text of the file at a path.
+    Read(String),
+}
+
+impl Call for FileCall {
+    ghost is_write = { λ _. false };
+
+    ghost same_kind = { λ x y h. refl };
+
+    ghost clones = { λ x y h. Prim.search rules };
+
+    fn is_mutable(&self) -> bool {
+        false
+    }
+}
+
+/// Files in memory: a text for each path. A file that was never written is empty.
+#[derive(Drop)]
+pub struct Files {
+    texts: HashMap<String, String>,
+    missing: String,
+    ghost empty: { string_bytes missing ≡ [] },
+}
+
+impl Files {
+    /// No files. It takes no memory.
+    pub fn new(alloc: Global) -> Self
+        ensures { (path : List ℕ) → string_bytes (text_of result.texts result.missing path) ≡ [] }
+    {
+        Files {
+            texts: HashMap::new(alloc),
+            missing: String::new(alloc),
+        }
+    }
+
+    /// The text of the file at a path.
+    fn text(&self, path: &str) -> &String
+        ensures { result.now ≡ text_of self.now.texts self.now.missing path.now }
+    {
+        match self.texts.get(path) {
+            Some(text) => text,
+            None => &self.missing,
+        }
+    }
+
+    /// Writes a text to the file at a path. An error says that there was no memory; then the files are as they were.
+    pub fn write(&mut self, path: String, text: String) -> Result<(), AllocError>
+        ensures ok { OnOk result ((q : List ℕ) → text_of self.new.texts self.new.missing q ≡ (if bytes_eq q (string_bytes path) then text else text_of self.old.texts self.old.missing q)) }
+        ensures err { OnErr result ((q : List ℕ) → text_of self.new.texts self.new.missing q ≡ text_of self.old.texts self.old.missing q) }
+    {
+        match self.texts.insert(path, text) {
+            Ok(_) => Ok(()),
+            Err(_) => Err(AllocError),
+        }
+    }
+}
+
+impl Track for Files {
+    type Call = FileCall;
+
+    type Answer = String;
+
+    ghost use Rattle.interpreter.specs.Files.{answer_of};
+
+    ghost answers = { λ s call. answer_of s.texts s.missing call };
+
+    ghost alike = { λ s x y h. Prim.search rules };
+
+    ghost clones = { λ x y h. Prim.search rules };
+
+    fn ask(&self, call: &FileCall) -> Result<String, AllocError> {
+        match call {
+            FileCall::Read(path) => self.text(path.as_str()).clone(),
+        }
+    }
+}

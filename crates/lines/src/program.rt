@@ -1,0 +1,72 @@
+ghost use Rattle.std.specs.Prelude.{◌≡◌, ℕ, ◌<◌, ◌++◌, length, OnOk};
+ghost use Rattle.std.specs.Io.KnownBytes.{Appends};
+ghost use Rattle.lines.specs.Started.{WritesFront, RanAs, fault_text, usage_of};
+
+use crate::output::put;
+use crate::{RunFault, Session, run};
+use std::alloc::Global;
+use std::io::{BufRead, Write};
+
+/// What the message of a fault says after the program's name.
+fn message_end(fault: RunFault) -> &'static str
+    ensures { result.now ≡ fault_text fault }
+{
+    match fault {
+        RunFault::Read => ": cannot read\n",
+        RunFault::Write => ": cannot write\n",
+        RunFault::Memory => ": out of memory\n",
+        RunFault::NotText => ": not UTF-8\n",
+    }
+}
+
+/// Writes a message in three parts, without memory for their joined text.
+///
+/// Refuses where the device failed or took no byte; then a beginning was written.
+fn put_message<E: Write>(errors: &mut E, front: &str, name: &str, end: &str) -> Result<(), RunFault>
+    ensures whole { OnOk result (Appends (E.contents errors.old) (E.contents errors.new)
+        (front.now ++ name.now ++ end.now)) }
+    ensures front { WritesFront (E.contents errors.old) (E.contents errors.new)
+        (front.now ++ name.now ++ end.now) }
+{
+    put(errors, front.as_bytes())?;
+    put(errors, name.as_bytes())?;
+    put(errors, end.as_bytes())
+}
+
+/// All of a line program but its streams: runs the session on the reader's lines, and gives the program's status.
+///
+/// The program takes no words: with any it writes `usage: NAME` on `errors`, reads and asks nothing, and the status
+/// is 2. Else the status is 0 where the run answered all lines, and 1 where it ended by a fault, which is written on
+/// `errors` as `NAME: cannot read`, `NAME: cannot write`, `NAME: out of memory` or `NAME: not UTF-8`. A failure of
+/// `errors` changes nothing but what is written there. What stands after a fault, and what it costs, is that of
+/// `run`; the messages take no memory.
+pub fn start<R: BufRead + Drop, W: Write, E: Write, S: Session>(
+    alloc: Global,
+    name: &str,
+    words: &[String],
+    reader: R,
+    writer: &mut W,
+    errors: &mut E,
+    session: &mut S,
+) -> u8
+    ensures ran { length words.now ≡ 0 → RanAs S.answers S.refuses name.now (R.remaining reader)
+        (W.contents writer.old) (W.contents writer.new)
+        (E.contents errors.old) (E.contents errors.new) session.old session.new result }
+    ensures usage { 0 < length words.now → result ≡ 2 }
+    ensures usage_written { 0 < length words.now
+        → WritesFront (E.contents errors.old) (E.contents errors.new) (usage_of name.now) }
+    ensures usage_keeps_writer { 0 < length words.now → writer.new ≡ writer.old }
+    ensures usage_keeps_session { 0 < length words.now → session.new ≡ session.old }
+{
+    if !words.is_empty() {
+        let _ = put_message(errors, "usage: ", name, "\n");
+        return 2;
+    }
+    match run(alloc, reader, writer, session) {
+        Ok(()) => 0,
+        Err(fault) => {
+            let _ = put_message(errors, "", name, message_end(fault));
+            1
+        }
+    }
+}

@@ -1,0 +1,69 @@
+ghost use Rattle.std.specs.Prelude.{◌≡◌, IfErr};
+ghost use Rattle.lines.specs.Runs.{Ran};
+ghost use Rattle.lines.specs.Written.{AnswersLine};
+
+use crate::input::next_line;
+use crate::output::put;
+use crate::{RunFault, Session};
+use std::alloc::Global;
+use std::io::{BufRead, Write};
+use std::str;
+
+/// Asks the session for its answer to a line that is not empty, and writes it.
+fn answer_line<W: Write, S: Session>(
+    line: &str,
+    writer: &mut W,
+    session: &mut S,
+) -> Result<(), RunFault>
+    ensures answered { AnswersLine S.answers S.refuses line.now
+        (W.contents writer.old) (W.contents writer.new) session.old session.new result }
+    ensures fault { IfErr result (λ fault. fault ≡ RunFault.Write) }
+{
+    if line.is_empty() {
+        return Ok(());
+    }
+    match session.answer(line) {
+        Ok(text) => put(writer, text.as_bytes()),
+        Err(_) => put(writer, b"out of memory\n"),
+    }
+}
+
+/// The loop of a line program: reads each line, asks the session, and writes what it prints, until the input ends.
+///
+/// A line ends at a line feed, and one carriage return right before that is no part of it. What follows the last line
+/// feed is a line too, with any carriage return that it has, unless it is empty. An empty line is skipped. Where the
+/// session refuses, the line prints `out of memory` and a line feed, and the run goes on.
+///
+/// It refuses
+/// - with `Read` or `Memory` where a line could not be read: all that the lines before it print was written, and what
+///   was read of that line is lost;
+/// - with `NotText` where a line is not UTF-8: all that the lines before it print was written, and the session was not
+///   asked that line;
+/// - with `Write` where what a line prints could not be written: all that the lines before it print was written, and
+///   a beginning of what it prints. The session has answered that line.
+///
+/// The reader is gone in each case. After 2^64 - 1 lines it gives up with `Read`, and after as many attempts at one
+/// write that a signal broke off with `Write`. It flushes nothing: a writer that buffers has to be flushed by its
+/// owner. It keeps one line in memory at a time, and takes time for the bytes read and written, and for the session's
+/// answers.
+pub fn run<R: BufRead + Drop, W: Write, S: Session>(
+    alloc: Global,
+    reader: R,
+    writer: &mut W,
+    session: &mut S,
+) -> Result<(), RunFault>
+    ensures { Ran S.answers S.refuses (R.remaining reader)
+        (W.contents writer.old) (W.contents writer.new) session.old session.new result }
+{
+    let mut reader = reader;
+    for _ in 0..u64::MAX {
+        let Some(line) = next_line(alloc, &mut reader)? else {
+            return Ok(());
+        };
+        let Ok(text) = str::from_utf8(line.as_slice()) else {
+            return Err(RunFault::NotText);
+        };
+        answer_line(text, writer, session)?;
+    }
+    Err(RunFault::Read)
+}

@@ -1,0 +1,287 @@
+use super::*;
+use std::alloc::{AllocError, Global};
+use std::io::{Error, ErrorKind, Read, Result as IoResult, Write};
+use std::test::Fail;
+
+/// Answers `>LINE` for each line, prints nothing for `quiet`, and has no memory for `large`.
+#[derive(Drop)]
+struct Echo {
+    alloc: Global,
+    asked: u8,
+}
+
+impl Echo {
+    fn new(alloc: Global) -> Echo {
+        Echo { alloc, asked: 0 }
+    }
+}
+
+impl Session for Echo {
+    ghost answers = { λ _ _ _ _. Unit {0} };
+
+    ghost refuses = { λ _ _ _. Unit {0} };
+
+    fn answer(&mut self, line: &str) -> Result<String, AllocError> {
+        self.asked = self.asked.saturating_add(1);
+        match line {
+            "quiet" => Ok(String::new(self.alloc)),
+            "large" => Err(AllocError),
+            _ => format!(in self.alloc; ">{line}\n"),
+        }
+    }
+}
+
+/// Gives its bytes, then fails in this way.
+#[derive(Drop)]
+struct Broken<'a>(&'a [u8], ErrorKind);
+
+impl Read for Broken<'_> {
+    fn read(&mut self, buf: &mut [u8]) -> IoResult<usize> {
+        if self.0.is_empty() {
+            return Err(Error::from(self.1));
+        }
+        self.0.read(buf)
+    }
+}
+
+/// Takes as many bytes as it has room for, then fails, or takes none where that is so wanted.
+#[derive(Drop)]
+struct Full {
+    taken: Vec<u8>,
+    room: usize,
+    fails: bool,
+}
+
+impl Write for Full {
+    fn write(&mut self, buf: &[u8]) -> IoResult<usize> {
+        let count = buf.len().min(self.room);
+        if count == 0 && self.fails {
+            return Err(Error::from(ErrorKind::StorageFull));
+        }
+        self.taken.extend_from_slice(&buf[..count])?;
+        self.room -= count;
+        Ok(count)
+    }
+
+    fn flush(&mut self) -> IoResult<()> {
+        Ok(())
+    }
+}
+
+/// Takes one byte at a time, and before each is broken off by a signal.
+#[derive(Drop)]
+struct Slow {
+    taken: Vec<u8>,
+    is_ready: bool,
+}
+
+impl Write for Slow {
+    fn write(&mut self, buf: &[u8]) -> IoResult<usize> {
+        self.is_ready = !self.is_ready;
+        if !self.is_ready {
+            return Err(Error::from(ErrorKind::Interrupted));
+        }
+        let Some(byte) = buf.first() else {
+            return Ok(0);
+        };
+        self.taken.push(*byte)?;
+        Ok(1)
+    }
+
+    fn flush(&mut self) -> IoResult<()> {
+        Ok(())
+    }
+}
+
+#[test]
+fn answers_each_line(rt: HostRuntime) -> Result<(), Fail> {
+    let alloc = rt.alloc();
+    let cases: [(&[u8], &str, u8); 11] = [
+        (b"a\r\n\nb", ">a\n>b\n", 2),
+        (b"", "", 0),
+        (b"\n\n\r\n\n", "", 0),
+        (b"a\nb", ">a\n>b\n", 2),
+        (b"a\nb\n", ">a\n>b\n", 2),
+        (b"a\r", ">a\r\n", 1),
+        (b"\r", ">\r\n", 1),
+        (b"a\r\r\n", ">a\r\n", 1),
+        (b"a\rb\n", ">a\rb\n", 1),
+        (b"quiet\na\n", ">a\n", 2),
+        (b"a\nlarge\nb\n", ">a\nout of memory\n>b\n", 3),
+    ];
+    for (input, want, asked) in cases {
+        let mut out: Vec<u8> = Vec::new(alloc);
+        let mut echo = Echo::new(alloc);
+        assert_eq!(rt; run(alloc, input, &mut out, &mut echo), Ok(()));
+        assert_eq!(rt; out.as_slice(), want.as_bytes(), "for {input:?}");
+        assert_eq!(rt; echo.asked, asked, "for {input:?}");
+    }
+    Ok(())
+}
+
+#[test]
+fn a_failed_read_ends_the_run(rt: HostRuntime) -> Result<(), Fail> {
+    let alloc = rt.alloc();
+    let cases = [
+        (ErrorKind::Other, RunFault::Read),
+        (ErrorKind::InvalidData, RunFault::Read),
+        (ErrorKind::OutOfMemory, RunFault::Memory),
+    ];
+    for (kind, fault) in cases {
+        let mut out: Vec<u8> = Vec::new(alloc);
+        let reader = std::io::BufReader::new(alloc, Broken(b"a\nb", kind))?;
+        assert_eq!(rt;
+            run(alloc, reader, &mut out, &mut Echo::new(alloc)),
+            Err(fault)
+        );
+        assert_eq!(rt; out.as_slice(), b">a\n".as_slice());
+    }
+    Ok(())
+}
+
+#[test]
+fn a_line_that_is_no_text_ends_the_run(rt: HostRuntime) -> Result<(), Fail> {
+    let alloc = rt.alloc();
+    let mut out: Vec<u8> = Vec::new(alloc);
+    let mut echo = Echo::new(alloc);
+    let input = b"a\nb\n\xff\nc\n".as_slice();
+    assert_eq!(rt;
+        run(alloc, input, &mut out, &mut echo),
+        Err(RunFault::NotText)
+    );
+    assert_eq!(rt; out.as_slice(), b">a\n>b\n".as_slice());
+    assert_eq!(rt; echo.asked, 2);
+    Ok(())
+}
+
+#[test]
+fn a_failed_write_ends_the_run(rt: HostRuntime) -> Result<(), Fail> {
+    let alloc = rt.alloc();
+    let cases = [(3, true, ">a\n"), (5, true, ">a\n>b"), (3, false, ">a\n")];
+    for (room, fails, want) in cases {
+        let taken = Vec::new(alloc);
+        let mut full = Full { taken, room, fails };
+        let mut echo = Echo::new(alloc);
+        let input = b"a\nb\nc\n".as_slice();
+        assert_eq!(rt;
+            run(alloc, input, &mut full, &mut echo),
+            Err(RunFault::Write)
+        );
+        assert_eq!(rt; full.taken.as_slice(), want.as_bytes());
+        assert_eq!(rt; echo.asked, 2);
+    }
+    Ok(())
+}
+
+#[test]
+fn a_slow_writer_gets_all(rt: HostRuntime) -> Result<(), Fail> {
+    let alloc = rt.alloc();
+    let taken = Vec::new(alloc);
+    let mut slow = Slow {
+        taken,
+        is_ready: true,
+    };
+    let input = b"a\nlarge\n".as_slice();
+    assert_eq!(rt; run(alloc, input, &mut slow, &mut Echo::new(alloc)), Ok(()));
+    assert_eq!(rt; slow.taken.as_slice(), b">a\nout of memory\n".as_slice());
+    Ok(())
+}
+
+#[test]
+fn starts_and_says_what_failed(rt: HostRuntime) -> Result<(), Fail> {
+    let alloc = rt.alloc();
+    let cases: [(&[u8], ErrorKind, usize, u8, &str); 5] = [
+        (b"a\n\xff\n", ErrorKind::Other, 9, 1, "echo: not UTF-8\n"),
+        (b"a\n", ErrorKind::Other, 9, 1, "echo: cannot read\n"),
+        (
+            b"a\n",
+            ErrorKind::OutOfMemory,
+            9,
+            1,
+            "echo: out of memory\n",
+        ),
+        (b"a\n", ErrorKind::Other, 2, 1, "echo: cannot write\n"),
+        (b"", ErrorKind::UnexpectedEof, 9, 1, "echo: cannot read\n"),
+    ];
+    let words: Vec<String> = Vec::new(alloc);
+    for (input, kind, room, status, message) in cases {
+        let reader = std::io::BufReader::new(alloc, Broken(input, kind))?;
+        let taken = Vec::new(alloc);
+        let mut full = Full {
+            taken,
+            room,
+            fails: true,
+        };
+        let mut errors: Vec<u8> = Vec::new(alloc);
+        let mut echo = Echo::new(alloc);
+        let words = words.as_slice();
+        let got = start(
+            alloc,
+            "echo",
+            words,
+            reader,
+            &mut full,
+            &mut errors,
+            &mut echo,
+        );
+        assert_eq!(rt; got, status, "for {message}");
+        assert_eq!(rt; errors.as_slice(), message.as_bytes());
+    }
+    Ok(())
+}
+
+#[test]
+fn starts_well_or_refuses_words(rt: HostRuntime) -> Result<(), Fail> {
+    let alloc = rt.alloc();
+    let mut words: Vec<String> = Vec::new(alloc);
+    let cases = [(0, ">a\n", ""), (2, "", "usage: echo\n")];
+    for (status, want, message) in cases {
+        let mut out: Vec<u8> = Vec::new(alloc);
+        let mut errors: Vec<u8> = Vec::new(alloc);
+        let mut echo = Echo::new(alloc);
+        let input = b"a\n".as_slice();
+        let given = words.as_slice();
+        let got = start(
+            alloc,
+            "echo",
+            given,
+            input,
+            &mut out,
+            &mut errors,
+            &mut echo,
+        );
+        assert_eq!(rt; got, status);
+        assert_eq!(rt; out.as_slice(), want.as_bytes());
+        assert_eq!(rt; errors.as_slice(), message.as_bytes());
+        words.push(String::from_str(alloc, "a")?)?;
+    }
+    Ok(())
+}
+
+#[test]
+fn a_failure_of_errors_changes_no_status(rt: HostRuntime) -> Result<(), Fail> {
+    let alloc = rt.alloc();
+    let words: Vec<String> = Vec::new(alloc);
+    let taken = Vec::new(alloc);
+    let mut errors = Full {
+        taken,
+        room: 3,
+        fails: true,
+    };
+    let mut out: Vec<u8> = Vec::new(alloc);
+    let mut echo = Echo::new(alloc);
+    let input = b"\xff".as_slice();
+    let given = words.as_slice();
+    let got = start(
+        alloc,
+        "echo",
+        given,
+        input,
+        &mut out,
+        &mut errors,
+        &mut echo,
+    );
+    assert_eq!(rt; got, 1);
+    assert_eq!(rt; errors.taken.as_slice(), b"ech".as_slice());
+    Ok(())
+}
