@@ -6,3 +6,6 @@ pub mod measure;
 
 pub use files::{FileCall, Files};
 pub use measure::{FileSize, size};
+
+#[cfg(test)]
+mod tests;

@@ -1,0 +1,52 @@
+use super::*;
+use comemo::{CacheData, Fault, How, Reply, Top, Track};
+use std::alloc::{AllocError, Global};
+use std::test::Fail;
+
+/// Writes a text to the file at a path.
+fn put(alloc: Global, files: &mut Files, path: &str, text: &str) -> Result<(), AllocError> {
+    let path = String::from_str(alloc, path)?;
+    let text = String::from_str(alloc, text)?;
+    files.write(path, text)
+}
+
+/// The size of the file at a path, and whether it was a hit.
+fn sized(
+    alloc: Global,
+    cache: &mut CacheData<FileSize>,
+    files: &Files,
+    path: &str,
+) -> Result<(u64, bool), Fault> {
+    let Reply { output, how } = size(alloc, cache, &files.track(), path, &mut Top::new())?;
+    Ok((output, how == How::Hit))
+}
+
+#[test]
+fn a_size_is_kept_until_its_file_changes(rt: HostRuntime) -> Result<(), Fail> {
+    let alloc = rt.alloc();
+    let mut files = Files::new(alloc);
+    let mut cache = CacheData::new(alloc);
+    put(alloc, &mut files, "a", "hello")?;
+    assert_eq!(rt; sized(alloc, &mut cache, &files, "a"), Ok((5, false)));
+    assert_eq!(rt; sized(alloc, &mut cache, &files, "a"), Ok((5, true)));
+    put(alloc, &mut files, "b", "x")?;
+    assert_eq!(rt; sized(alloc, &mut cache, &files, "a"), Ok((5, true)));
+    put(alloc, &mut files, "a", "hello!")?;
+    assert_eq!(rt; sized(alloc, &mut cache, &files, "a"), Ok((6, false)));
+    assert_eq!(rt; sized(alloc, &mut cache, &files, "none"), Ok((0, false)));
+    assert_eq!(rt; sized(alloc, &mut cache, &files, "none"), Ok((0, true)));
+    put(alloc, &mut files, "a", "hello")?;
+    assert_eq!(rt; sized(alloc, &mut cache, &files, "a"), Ok((5, true)));
+    assert_eq!(rt; cache.len(), 3);
+    Ok(())
+}
+
+#[test]
+fn a_size_is_in_bytes(rt: HostRuntime) -> Result<(), Fail> {
+    let alloc = rt.alloc();
+    let mut files = Files::new(alloc);
+    let mut cache = CacheData::new(alloc);
+    put(alloc, &mut files, "", "äé")?;
+    assert_eq!(rt; sized(alloc, &mut cache, &files, ""), Ok((4, false)));
+    Ok(())
+}
