@@ -1,0 +1,229 @@
+//! Memoized functions.
+ghost use Rattle.std.specs.Prelude.{◌≡◌, ℕ, List, [], refl, IfOk, OnErr, string_bytes, nat_eq, ◌+◌, ◌%◌, ◌^◌};
+ghost use Rattle.std.proofs.Common.{rules};
+ghost use Rattle.comemo_tests.specs.Gave.{Gave};
+
+use crate::cells::{Context, ContextCall, Page};
+use comemo::begin::begin;
+use comemo::{Begun, CacheData, Fault, How, Keyed, Memo, Reply, Sink, Track, Tracked};
+use std::alloc::Global;
+
+/// The location of a context.
+pub struct LocationMemo;
+
+impl Memo for LocationMemo {
+    type Call = ContextCall;
+
+    type Key = ();
+
+    type Answer = u64;
+
+    type Out = u64;
+
+    ghost use Rattle.comemo_tests.specs.declared.cells.ContextCall.TheVariants.{Location};
+
+    ghost def = { λ _ m out _. out ≡ m Location };
+
+    ghost output_clones = { λ key m a b writes h d. Prim.search rules };
+
+    ghost key_alike = { λ j k m output writes h d. Prim.search rules };
+
+    ghost key_clones = { λ x y h. Prim.search rules };
+
+    ghost answer_clones = { λ x y h. Prim.search rules };
+}
+
+/// The location of a context, kept.
+pub fn location<S: Sink<Call = ContextCall, Answer = u64>>(
+    alloc: Global,
+    cache: &mut CacheData<LocationMemo>,
+    context: &Tracked<'_, Context>,
+    sink: &mut S,
+    enabled: bool,
+) -> Result<Reply<u64>, Fault>
+    ensures output { IfOk result (λ reply. reply.output ≡ context.now.location) }
+    ensures gave { IfOk result (λ reply. Gave ⟦<ContextCall as PartialEq>⟧.eq nat_eq ⟦<LocationMemo as Memo>⟧.def S.took tt (⟦<Context as Track>⟧.answers context.now) sink.old reply.output sink.new) }
+    ensures err { OnErr result ((cache.new ≡ cache.old) × S.spoils sink.old sink.new) }
+{
+    let mut input = Keyed {
+        key: (),
+        view: context.fork(),
+    };
+    match begin(alloc, cache, &mut input, sink, enabled)? {
+        Begun::Hit(output) => Ok(Reply {
+            output,
+            how: How::Hit,
+        }),
+        Begun::Run(mut pending) => {
+            let mut view = context.fork();
+            let Ok(at) = view.ask(ContextCall::Location, pending.recording()) else {
+                pending.give_up(sink);
+                return Err(Fault::Memory);
+            };
+            pending.finish(cache, sink, at)
+        }
+    }
+}
+
+/// The sum of the location and the styles of a context, which wraps.
+pub struct SumMemo;
+
+impl Memo for SumMemo {
+    type Call = ContextCall;
+
+    type Key = ();
+
+    type Answer = u64;
+
+    type Out = u64;
+
+    ghost use Rattle.comemo_tests.specs.declared.cells.ContextCall.TheVariants.{Location, Styles};
+
+    ghost def = { λ _ m out _. out ≡ (m Location + m Styles) % 2 ^ 64 };
+
+    ghost output_clones = { λ key m a b writes h d. Prim.search rules };
+
+    ghost key_alike = { λ j k m output writes h d. Prim.search rules };
+
+    ghost key_clones = { λ x y h. Prim.search rules };
+
+    ghost answer_clones = { λ x y h. Prim.search rules };
+}
+
+/// The sum of the location and the styles of a context, kept.
+pub fn sum<S: Sink<Call = ContextCall, Answer = u64>>(
+    alloc: Global,
+    cache: &mut CacheData<SumMemo>,
+    context: &Tracked<'_, Context>,
+    sink: &mut S,
+    enabled: bool,
+) -> Result<Reply<u64>, Fault>
+    ensures output { IfOk result (λ reply. reply.output ≡ (context.now.location + context.now.styles) % 2 ^ 64) }
+    ensures err { OnErr result ((cache.new ≡ cache.old) × S.spoils sink.old sink.new) }
+{
+    let mut input = Keyed {
+        key: (),
+        view: context.fork(),
+    };
+    match begin(alloc, cache, &mut input, sink, enabled)? {
+        Begun::Hit(output) => Ok(Reply {
+            output,
+            how: How::Hit,
+        }),
+        Begun::Run(mut pending) => {
+            let mut view = context.fork();
+            let Ok(at) = view.ask(ContextCall::Location, pending.recording()) else {
+                pending.give_up(sink);
+                return Err(Fault::Memory);
+            };
+            let Ok(by) = view.ask(ContextCall::Styles, pending.recording()) else {
+                pending.give_up(sink);
+                return Err(Fault::Memory);
+            };
+            pending.finish(cache, sink, at.wrapping_add(by))
+        }
+    }
+}
+
+/// The double of a number, which wraps. It asks nothing.
+pub struct DoubleMemo;
+
+impl Memo for DoubleMemo {
+    type Call = ContextCall;
+
+    type Key = u64;
+
+    type Answer = u64;
+
+    type Out = u64;
+
+    ghost def = { λ n _ out _. out ≡ (n + n) % 2 ^ 64 };
+
+    ghost output_clones = { λ key m a b writes h d. Prim.search rules };
+
+    ghost key_alike = { λ j k m output writes h d. Prim.search rules };
+
+    ghost key_clones = { λ x y h. Prim.search rules };
+
+    ghost answer_clones = { λ x y h. Prim.search rules };
+}
+
+/// The double of a number, kept under it.
+pub fn double<S: Sink<Call = ContextCall, Answer = u64>>(
+    alloc: Global,
+    cache: &mut CacheData<DoubleMemo>,
+    number: u64,
+    context: &Tracked<'_, Context>,
+    sink: &mut S,
+    enabled: bool,
+) -> Result<Reply<u64>, Fault>
+    ensures output { IfOk result (λ reply. reply.output ≡ (number + number) % 2 ^ 64) }
+    ensures err { OnErr result ((cache.new ≡ cache.old) × S.spoils sink.old sink.new) }
+{
+    let mut input = Keyed {
+        key: number,
+        view: context.fork(),
+    };
+    match begin(alloc, cache, &mut input, sink, enabled)? {
+        Begun::Hit(output) => Ok(Reply {
+            output,
+            how: How::Hit,
+        }),
+        Begun::Run(pending) => pending.finish(cache, sink, number.wrapping_add(number)),
+    }
+}
+
+/// The text of a page, under a name.
+pub struct ShownMemo;
+
+impl Memo for ShownMemo {
+    type Call = ();
+
+    type Key = String;
+
+    type Answer = String;
+
+    type Out = String;
+
+    ghost def = { λ _ m out _. string_bytes out ≡ string_bytes (m tt) };
+
+    ghost output_clones = { λ key m a b writes h d. Prim.search rules };
+
+    ghost key_alike = { λ j k m output writes h d. Prim.search rules };
+
+    ghost key_clones = { λ x y h. Prim.search rules };
+
+    ghost answer_clones = { λ x y h. Prim.search rules };
+}
+
+/// The text of a page, kept under a name.
+pub fn shown<S: Sink<Call = (), Answer = String>>(
+    alloc: Global,
+    cache: &mut CacheData<ShownMemo>,
+    name: String,
+    page: &Tracked<'_, Page>,
+    sink: &mut S,
+    enabled: bool,
+) -> Result<Reply<String>, Fault>
+    ensures output { IfOk result (λ reply. string_bytes reply.output ≡ string_bytes page.now.text) }
+    ensures err { OnErr result ((cache.new ≡ cache.old) × S.spoils sink.old sink.new) }
+{
+    let mut input = Keyed {
+        key: name,
+        view: page.fork(),
+    };
+    match begin(alloc, cache, &mut input, sink, enabled)? {
+        Begun::Hit(output) => Ok(Reply {
+            output,
+            how: How::Hit,
+        }),
+        Begun::Run(mut pending) => {
+            let mut view = page.fork();
+            let Ok(text) = view.ask((), pending.recording()) else {
+                pending.give_up(sink);
+                return Err(Fault::Memory);
+            };
+            pending.finish(cache, sink, text)
+        }
+    }
+}

@@ -1,0 +1,12 @@
+//! Memoized functions as a caller writes them, each proved from the contracts of `begin` and `finish` alone, and tests of
+//! `comemo` from outside.
+#![tactic(auto)]
+
+pub mod cells;
+pub mod functions;
+pub mod nested;
+#[cfg(test)]
+mod replies;
+pub mod rows;
+#[cfg(test)]
+mod runs;

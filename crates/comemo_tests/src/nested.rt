@@ -1,0 +1,72 @@
+//! A memoized function that calls another one, whose reads go to its own recording.
+ghost use Rattle.std.specs.Prelude.{◌≡◌, IfOk, OnErr, ◌+◌, ◌%◌, ◌^◌, nat_eq};
+ghost use Rattle.std.proofs.Common.{rules};
+ghost use Rattle.comemo_tests.specs.Cells.{field};
+ghost use Rattle.comemo_tests.specs.Gave.{Gave};
+ghost use Rattle.comemo_tests.specs.declared.cells.ContextCall.TheVariants.{Location};
+
+use crate::cells::{Context, ContextCall};
+use crate::functions::{LocationMemo, location};
+use comemo::begin::begin;
+use comemo::{Begun, CacheData, Fault, How, Keyed, Memo, Reply, Sink, Track, Tracked};
+use std::alloc::Global;
+
+/// Twice the location of a context, which wraps.
+pub struct TwiceMemo;
+
+impl Memo for TwiceMemo {
+    type Call = ContextCall;
+
+    type Key = ();
+
+    type Answer = u64;
+
+    type Out = u64;
+
+    ghost def = { λ _ m out _. out ≡ (m Location + m Location) % 2 ^ 64 };
+
+    ghost output_clones = { Prim.search rules };
+
+    ghost key_alike = { Prim.search rules };
+
+    ghost key_clones = { Prim.search rules };
+
+    ghost answer_clones = { Prim.search rules };
+}
+
+/// Twice the location of a context, kept, by way of the locations that are kept.
+pub fn twice<S: Sink<Call = ContextCall, Answer = u64>>(
+    alloc: Global,
+    cache: &mut CacheData<TwiceMemo>,
+    locations: &mut CacheData<LocationMemo>,
+    context: &Tracked<'_, Context>,
+    sink: &mut S,
+    enabled: bool,
+) -> Result<Reply<u64>, Fault>
+    ensures output { IfOk result (λ reply. reply.output ≡ (context.now.location + context.now.location) % 2 ^ 64) }
+    ensures gave { IfOk result (λ reply. Gave ⟦<ContextCall as PartialEq>⟧.eq nat_eq ⟦<TwiceMemo as Memo>⟧.def S.took tt (⟦<Context as Track>⟧.answers context.now) sink.old reply.output sink.new) }
+    ensures err { OnErr result ((cache.new ≡ cache.old) × S.spoils sink.old sink.new) }
+{
+    let mut input = Keyed {
+        key: (),
+        view: context.fork(),
+    };
+    match begin(alloc, cache, &mut input, sink, enabled)? {
+        Begun::Hit(output) => Ok(Reply {
+            output,
+            how: How::Hit,
+        }),
+        Begun::Run(mut pending) => {
+            match location(alloc, locations, context, pending.recording(), enabled) {
+                Ok(reply) => {
+                    let at = reply.output;
+                    pending.finish(cache, sink, at.wrapping_add(at))
+                }
+                Err(fault) => {
+                    pending.give_up(sink);
+                    Err(fault)
+                }
+            }
+        }
+    }
+}

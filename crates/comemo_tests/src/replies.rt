@@ -1,0 +1,237 @@
+//! What becomes of calls, in worked order.
+use crate::cells::{Context, ContextCall, Page, Row};
+use crate::functions::{
+    DoubleMemo, LocationMemo, ShownMemo, SumMemo, double, location, shown, sum,
+};
+use crate::nested::{TwiceMemo, twice};
+use crate::rows::{FirstZeroMemo, first_zero};
+use comemo::{CacheData, Constraint, How, Reply, Sink, Top, Track};
+use std::process::Abort;
+use std::test::Fail;
+
+fn top() -> Top<ContextCall, u64> {
+    Top::new()
+}
+
+// A reply is this output, and this became of the call.
+fn expect<A: Abort>(rt: &A, reply: Reply<u64>, output: u64, how: How) {
+    let Reply {
+        output: given,
+        how: became,
+    } = reply;
+    assert_eq!(rt; given, output);
+    assert_eq!(rt; became, how);
+}
+
+#[test]
+fn a_sum_is_kept_for_its_answers(rt: HostRuntime) -> Result<(), Fail> {
+    let alloc = rt.alloc();
+    let mut cache: CacheData<SumMemo> = CacheData::new(alloc);
+    let here = Context {
+        location: 3,
+        styles: 40,
+    };
+    let there = Context {
+        location: 5,
+        styles: 40,
+    };
+    for (context, output, how, len) in [
+        (&here, 43, How::Stored, 1),
+        (&here, 43, How::Hit, 1),
+        (&there, 45, How::Stored, 2),
+        (&here, 43, How::Hit, 2),
+        (&there, 45, How::Hit, 2),
+    ] {
+        let reply = sum(alloc, &mut cache, &context.track(), &mut top(), true)?;
+        expect(&rt, reply, output, how);
+        assert_eq!(rt; cache.len(), len);
+    }
+    let last = Context {
+        location: u64::MAX,
+        styles: 2,
+    };
+    let reply = sum(alloc, &mut cache, &last.track(), &mut top(), true)?;
+    expect(&rt, reply, 1, How::Stored);
+    Ok(())
+}
+
+#[test]
+fn what_is_not_asked_is_not_looked_at(rt: HostRuntime) -> Result<(), Fail> {
+    let alloc = rt.alloc();
+    let mut cache: CacheData<LocationMemo> = CacheData::new(alloc);
+    for (at, styles, how, len) in [
+        (3, 40, How::Stored, 1),
+        (3, 41, How::Hit, 1),
+        (4, 41, How::Stored, 2),
+        (4, 40, How::Hit, 2),
+    ] {
+        let context = Context {
+            location: at,
+            styles,
+        };
+        let reply = location(alloc, &mut cache, &context.track(), &mut top(), true)?;
+        expect(&rt, reply, at, how);
+        assert_eq!(rt; cache.len(), len);
+    }
+    Ok(())
+}
+
+#[test]
+fn a_double_is_kept_under_its_number(rt: HostRuntime) -> Result<(), Fail> {
+    let alloc = rt.alloc();
+    let mut cache: CacheData<DoubleMemo> = CacheData::new(alloc);
+    for (number, at, output, how) in [
+        (4, 1, 8, How::Stored),
+        (4, 2, 8, How::Hit),
+        (5, 2, 10, How::Stored),
+        (4, 3, 8, How::Hit),
+    ] {
+        let context = Context {
+            location: at,
+            styles: 0,
+        };
+        let reply = double(
+            alloc,
+            &mut cache,
+            number,
+            &context.track(),
+            &mut top(),
+            true,
+        )?;
+        expect(&rt, reply, output, how);
+    }
+    assert_eq!(rt; cache.len(), 2);
+    Ok(())
+}
+
+#[test]
+fn what_is_not_enabled_is_neither_looked_up_nor_stored(rt: HostRuntime) -> Result<(), Fail> {
+    let alloc = rt.alloc();
+    let mut cache: CacheData<SumMemo> = CacheData::new(alloc);
+    let context = Context {
+        location: 3,
+        styles: 40,
+    };
+    for (enabled, how, len) in [
+        (false, How::Disabled, 0),
+        (false, How::Disabled, 0),
+        (true, How::Stored, 1),
+        (false, How::Disabled, 1),
+        (true, How::Hit, 1),
+    ] {
+        let reply = sum(alloc, &mut cache, &context.track(), &mut top(), enabled)?;
+        expect(&rt, reply, 43, how);
+        assert_eq!(rt; cache.len(), len);
+    }
+    Ok(())
+}
+
+#[test]
+fn equal_texts_hit(rt: HostRuntime) -> Result<(), Fail> {
+    let alloc = rt.alloc();
+    let mut cache: CacheData<ShownMemo> = CacheData::new(alloc);
+    for (name, text, how) in [
+        ("first", "Ada", How::Stored),
+        ("first", "Ada", How::Hit),
+        ("second", "Ada", How::Stored),
+        ("first", "Bea", How::Stored),
+        ("first", "Ada", How::Hit),
+        ("first", "Bea", How::Hit),
+    ] {
+        let page = Page {
+            text: String::from_str(alloc, text)?,
+        };
+        let reply = shown(
+            alloc,
+            &mut cache,
+            String::from_str(alloc, name)?,
+            &page.track(),
+            &mut Top::new(),
+            true,
+        )?;
+        assert_eq!(rt; reply.output.as_str(), text);
+        assert_eq!(rt; reply.how, how);
+    }
+    assert_eq!(rt; cache.len(), 3);
+    Ok(())
+}
+
+#[test]
+fn what_a_call_asked_goes_to_its_sink(rt: HostRuntime) -> Result<(), Fail> {
+    let alloc = rt.alloc();
+    let mut cache: CacheData<LocationMemo> = CacheData::new(alloc);
+    let context = Context {
+        location: 3,
+        styles: 40,
+    };
+    // A run and a hit give the same: the read of the location, and no other one.
+    for how in [How::Stored, How::Hit] {
+        let mut outer = Constraint::new(alloc);
+        let reply = location(alloc, &mut cache, &context.track(), &mut outer, true)?;
+        expect(&rt, reply, 3, how);
+        assert!(rt; outer.is_whole());
+        assert!(rt; !outer.emit(ContextCall::Location, Some(3))?);
+        assert!(rt; outer.emit(ContextCall::Styles, Some(40))?);
+    }
+    Ok(())
+}
+
+#[test]
+fn a_run_asks_no_more_than_it_needs(rt: HostRuntime) -> Result<(), Fail> {
+    let alloc = rt.alloc();
+    let mut cache: CacheData<FirstZeroMemo> = CacheData::new(alloc);
+    // A change behind the first 0 is not looked at; one before it is.
+    for (numbers, length, output, how) in [
+        ([5, 0, 7], 3, 1, How::Stored),
+        ([5, 0, 8], 3, 1, How::Hit),
+        ([5, 6, 0], 3, 2, How::Stored),
+        ([0, 6, 0], 3, 0, How::Stored),
+        ([5, 6, 0], 2, 2, How::Stored),
+        ([5, 6, 9], 2, 2, How::Hit),
+        ([5, 0, 1], 3, 1, How::Hit),
+        ([5, 6, 0], 3, 2, How::Hit),
+    ] {
+        let row = Row {
+            numbers: numbers.to_vec(alloc)?,
+        };
+        let reply = first_zero(
+            alloc,
+            &mut cache,
+            length,
+            &row.track(),
+            &mut Top::new(),
+            true,
+        )?;
+        expect(&rt, reply, output, how);
+    }
+    assert_eq!(rt; cache.len(), 4);
+    Ok(())
+}
+
+#[test]
+fn a_function_that_calls_another_is_kept_for_its_reads(rt: HostRuntime) -> Result<(), Fail> {
+    let alloc = rt.alloc();
+    let mut cache: CacheData<TwiceMemo> = CacheData::new(alloc);
+    let mut again: CacheData<TwiceMemo> = CacheData::new(alloc);
+    let mut locations: CacheData<LocationMemo> = CacheData::new(alloc);
+    for (at, styles, how, len) in [
+        (3, 40, How::Stored, 1),
+        (3, 41, How::Hit, 1),
+        (5, 41, How::Stored, 2),
+    ] {
+        let context = Context {
+            location: at,
+            styles,
+        };
+        let view = context.track();
+        let reply = twice(alloc, &mut cache, &mut locations, &view, &mut top(), true)?;
+        expect(&rt, reply, at + at, how);
+        assert_eq!(rt; cache.len(), len);
+        assert_eq!(rt; locations.len(), len);
+        // Where the location is a hit, the run is stored by the same reads.
+        let reply = twice(alloc, &mut again, &mut locations, &view, &mut top(), true)?;
+        expect(&rt, reply, at + at, how);
+        assert_eq!(rt; locations.len(), len);
+    }
+    Ok(())
+}
