@@ -4,3 +4,5 @@ pub mod NewPath
 pub mod Sendings
 pub mod Copies
 pub mod Endings
+pub mod Told
+pub mod Calls

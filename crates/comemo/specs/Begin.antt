@@ -1,7 +1,7 @@
 -- How a call of a memoized function begins.
 use Rattle.std.specs.Prelude.{◌≡◌, Bool, true, List, [], IsTrue, refl}
 use Rattle.std.specs.Coded.{Coded, code_by, coded×, coded_bool}
-use Rattle.comemo_base.specs.Answers.{Agrees}
+use Rattle.comemo_base.specs.Answers.{Respects, Agrees}
 use Rattle.comemo_base.specs.Tree.{Stored}
 use Rattle.comemo.specs.Recording.{Recording, recording_code}
 use Rattle.comemo.specs.Cache.{Output, Stands, HasNone, Has}
@@ -17,9 +17,11 @@ run_code {K} {C} {R} k c r =
     code_by (K × (Bool × Recording C R)) (coded× k (coded× coded_bool (recording_code c r))) (λ s. (s.key, (s.enabled, s.recording))) (λ p. record { key = p.0; enabled = p.1.0; recording = p.1.1 }) (λ _. refl)
 
 module _ {K C R O : Type 0} (eq : C → C → Bool) (same : R → R → Bool) (eqk : K → K → Bool) (es : List (Stored K C R (Output O C))) (key : K) (m : C → R) (enabled : Bool) where
-  -- a run begins with the key and an empty recording that is whole, and where it is enabled no kept entry has the key and agrees
-  pub record IsRun (run : PendingRun K C R) : Type 0 where
+  -- a run begins with the key, up to equality, and an empty recording that is whole, and where it is enabled no kept entry
+  -- has the key and agrees
+  pub record IsRun (def : K → (C → R) → O → List C → Type 0) (run : PendingRun K C R) : Type 0 where
     pub has_key : IsTrue (eqk key run.key)
+    pub right : (n : C → R) (output : O) (writes : List C) → Respects eq same n → def run.key n output writes → def key n output writes
     pub is_enabled : run.enabled ≡ enabled
     pub pairs : run.recording.pairs ≡ []
     pub writes : run.recording.writes ≡ []

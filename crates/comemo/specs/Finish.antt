@@ -1,6 +1,7 @@
 -- How a run of a memoized function ends.
-use Rattle.std.specs.Prelude.{◌≡◌, Bool, List, [], ◌∷◌}
+use Rattle.std.specs.Prelude.{◌≡◌, ◌↔◌, Bool, List, [], ◌∷◌}
 use Rattle.std.specs.List.Sorted.{IsPermutation}
+use Rattle.comemo_base.specs.Answers.{Respects, Agrees}
 use Rattle.comemo_base.specs.Tree.{Stored, IsSamePath, stored}
 use Rattle.comemo_base.specs.Insertion.{Exists, Misses, IsNewPath}
 use Rattle.comemo.specs.Cache.{Output}
@@ -25,8 +26,9 @@ module _ {K C R O : Type 0} (eq : C → C → Bool) (same : R → R → Bool) (e
   Ends how.NotStored es' = es' ≡ es
   Ends how.Disabled es' = es' ≡ es
 
--- the pairs went to the sink, up to equality
+-- the pairs went to the sink, up to equality, so that the same answers agree with what went there
 pub record Gives {C R S : Type 0} (eq : C → C → Bool) (same : R → R → Bool) (took : S → List (C × R) → List C → S → Type 0) (s : S) (pairs : List (C × R)) (writes : List C) (t : S) : Type 0 where
   pub given : List (C × R)
   pub alike : IsSamePath eq same given pairs
+  pub agreeing : (m : C → R) → Respects eq same m → Agrees same m given ↔ Agrees same m pairs
   pub sent : took s given writes t

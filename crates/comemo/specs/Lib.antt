@@ -5,3 +5,4 @@ pub mod Cache
 pub mod Begin
 pub mod Begun
 pub mod Finish
+pub mod Called

@@ -110,7 +110,7 @@ pub fn begin<
 ) -> Result<Begun<M>, Fault>
     ensures begun { IfOk result (λ b. OnBegun b
         (λ output. IsHit M.Call.eq M.Answer.eq M.Key.eq cache.old (In.key_of input.old) (In.answers input.old) enabled M.def M.Out.is_clone In.did S.took input.old input.new sink.old sink.new output)
-        (λ run. IsRun M.Call.eq M.Answer.eq M.Key.eq cache.old (In.key_of input.old) (In.answers input.old) enabled run × In.did input.old [] input.new × (sink.new ≡ sink.old))) }
+        (λ run. IsRun M.Call.eq M.Answer.eq M.Key.eq cache.old (In.key_of input.old) (In.answers input.old) enabled M.def run × In.did input.old [] input.new × (sink.new ≡ sink.old))) }
     ensures unchanged { cache.new ≡ cache.old }
     ensures err { IfErr result (λ fault. (fault ≡ Fault.Memory) × S.spoils sink.old sink.new × In.did input.old [] input.new) }
 {

@@ -1,4 +1,2 @@
-pub mod Told
 pub mod Places
 pub mod Contexts
-pub mod Giving

@@ -23,11 +23,6 @@ not_zero a b h n e = search rules
 pub first_zero_alike : (j k : ℕ) (row : ℕ → ℕ) (place : ℕ) → IsTrue (nat_eq j k) → IsFirstZero j row place → IsFirstZero k row place
 first_zero_alike j k row place h f = let e : j ≡ k = search rules in subst (λ n. IsFirstZero n row place) e f
 
--- what holds of a value holds of an output that is it
-pub holds_of_output : {T E O : Type 0} (output : T → O) (Q : O → Type 0) (value : O) (r : Result T E) → IfOk r (λ x. output x ≡ value) → Q value → IfOk r (λ x. Q (output x))
-holds_of_output output Q value (Ok x) e q = subst Q (sym e) q
-holds_of_output output Q value (Err x) e q = tt
-
 -- an answer that equals one is it, turned round
 pub same_number : (a b : ℕ) → IsTrue (nat_eq a b) → b ≡ a
 same_number a b h = search rules

@@ -1,7 +1,7 @@
 //! Memoized functions.
 ghost use Rattle.std.specs.Prelude.{◌≡◌, ℕ, List, [], refl, IfOk, OnErr, string_bytes, nat_eq, ◌+◌, ◌%◌, ◌^◌};
 ghost use Rattle.std.proofs.Common.{rules};
-ghost use Rattle.comemo_tests.specs.Gave.{Gave};
+ghost use Rattle.comemo.specs.Called.{Gave};
 
 use crate::cells::{Context, ContextCall, Page};
 use comemo::begin::begin;

@@ -2,7 +2,7 @@
 ghost use Rattle.std.specs.Prelude.{◌≡◌, IfOk, OnErr, ◌+◌, ◌%◌, ◌^◌, nat_eq};
 ghost use Rattle.std.proofs.Common.{rules};
 ghost use Rattle.comemo_tests.specs.Cells.{field};
-ghost use Rattle.comemo_tests.specs.Gave.{Gave};
+ghost use Rattle.comemo.specs.Called.{Gave};
 ghost use Rattle.comemo_tests.specs.declared.cells.ContextCall.TheVariants.{Location};
 
 use crate::cells::{Context, ContextCall};

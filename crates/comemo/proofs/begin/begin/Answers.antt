@@ -32,6 +32,7 @@ returns-clause-begun g c =
     ] in (
       record {
         has_key = c.in-Ok.ensures;
+        right = λ n output writes r d. g.met.M.Memo.key_alike c.in-Ok.key _ n output writes r alike d;
         is_enabled = refl;
         pairs = c.new.ensures.pairs;
         writes = c.new.ensures.writes;

@@ -1,14 +1,13 @@
 use Rattle.std.proofs.Common.{[]}
 use Rattle.comemo.proofs.Entries.{reads_same}
-use Rattle.comemo.proofs.Endings.{IsSamePath-itself, Ends-cloned}
+use Rattle.comemo.proofs.Endings.{IsSamePath-itself, Ends-cloned, given}
 use Rattle.comemo.proofs.finish.end_run.Goals as goal
 
 pub returns-in_default-clause-gives : goal.returns-in_default-clause-gives
-returns-in_default-clause-gives g c = record {
-  given = c.args.reads.pairs;
-  alike = IsSamePath-itself g.met.M.Call.Eq.laws g.met.M.Answer.Eq.laws c.args.reads.pairs;
-  sent = c.in_ok-give_reads.ensures.ok;
-}
+returns-in_default-clause-gives g c = given g.met.M.Call.Eq.laws g.met.M.Answer.Eq.laws g.S.Sink.took _ _ _ c.args.reads.pairs [] (IsSamePath-itself g.met.M.Call.Eq.laws g.met.M.Answer.Eq.laws c.args.reads.pairs) c.in_ok-give_reads.ensures.ok
+
+pub returns-clause-gives : goal.returns-clause-gives
+returns-clause-gives g c = given g.met.M.Call.Eq.laws g.met.M.Answer.Eq.laws g.S.Sink.took _ _ _ c.args.reads.pairs [] c.in-Ok.ensures.pairs c.in_ok-give_pairs.ensures.ok
 
 pub give_pairs-requires : goal.give_pairs-requires
 give_pairs-requires g c = reads_same g.M.Call.PartialEq.eq g.M.Answer.PartialEq.eq g.M.Call.Call.is_write g.met.M.Call.Call.same_kind _ c.args.reads.pairs c.in-Ok.ensures.pairs c.requires.reads

@@ -1,6 +1,6 @@
 use Rattle.std.proofs.Common.{rules}
-use Rattle.comemo_tests.proofs.Told.{told_answer}
-use Rattle.comemo_tests.proofs.Giving.{gave_by_finish}
+use Rattle.comemo.proofs.Told.{told_answer}
+use Rattle.comemo.proofs.Calls.{gave_by_run}
 use Rattle.comemo_tests.proofs.Contexts.{same_calls}
 use Rattle.comemo_tests.proofs.Places.{same_numbers, same_number}
 use Rattle.comemo_tests.proofs.functions.location.Goals as goal
@@ -12,7 +12,7 @@ returns-in-Hit-clause-output g c =
 
 pub returns-in-Ok-clause-gave : goal.returns-in-Ok-clause-gave
 returns-in-Ok-clause-gave g c =
-    let run = rw c.in-Run.is at c.in_ok-output.ensures.begun in
+    let run = rw (c.in-Run.is, c.fork.ensures) at c.in_ok-output.ensures.begun in
     let asks = rw (c.fork-view.ensures, c.recording.ensures.value) at c.in-Ok.ensures.ok in
     let t = told_answer same_calls same_numbers _ (λ x y h. search rules) _ _ _ _ (rw run.0.pairs tt) asks in
-    gave_by_finish same_calls same_numbers _ _ tt _ (λ x y h. search rules) _ _ _ _ _ _ c.finish.result t.agrees (λ m r a. same_number _ _ (t.told m r a)) c.finish.ensures.output (rw run.2 at c.finish.ensures.gives)
+    gave_by_run run.0 _ _ _ _ _ _ c.finish.result (λ x y h. search rules) t.agrees (λ m r a. same_number _ _ (t.told m r a)) c.finish.ensures.output (rw run.2 at c.finish.ensures.gives)

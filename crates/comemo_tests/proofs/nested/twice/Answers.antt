@@ -1,6 +1,6 @@
 use Rattle.std.proofs.Common.{rules, ◌+◌, ◌%◌, ◌^◌, ap}
-use Rattle.comemo_tests.proofs.Told.{told_pairs}
-use Rattle.comemo_tests.proofs.Giving.{gave_by_finish}
+use Rattle.comemo.proofs.Told.{told_pairs}
+use Rattle.comemo.proofs.Calls.{gave_by_run}
 use Rattle.comemo_tests.proofs.Contexts.{same_calls}
 use Rattle.comemo_tests.proofs.Places.{same_numbers}
 use Rattle.comemo_tests.proofs.nested.twice.Goals as goal
@@ -19,7 +19,7 @@ finish-requires g c =
 
 pub returns-in-Ok-clause-gave : goal.returns-in-Ok-clause-gave
 returns-in-Ok-clause-gave g c =
-    let run = rw c.in-Run.is at c.in_ok-output.ensures.begun in
+    let run = rw (c.in-Run.is, c.fork.ensures) at c.in_ok-output.ensures.begun in
     let gave = rw c.recording.ensures.value at c.in-Ok.ensures.gave in
     let t = told_pairs same_calls same_numbers _ (λ x y h. search rules) _ _ gave.pairs gave.writes (rw run.0.pairs tt) gave.agrees gave.sent in
-    gave_by_finish same_calls same_numbers _ _ tt _ (λ x y h. search rules) _ _ _ _ _ _ c.finish.result t.agrees (λ m r a. ap (λ n. (n + n) % 2 ^ 64) (gave.stands m r (t.told m r a))) c.finish.ensures.output (rw run.2 at c.finish.ensures.gives)
+    gave_by_run run.0 _ _ _ _ _ _ c.finish.result (λ x y h. search rules) t.agrees (λ m r a. ap (λ n. (n + n) % 2 ^ 64) (gave.stands m r (t.told m r a))) c.finish.ensures.output (rw run.2 at c.finish.ensures.gives)

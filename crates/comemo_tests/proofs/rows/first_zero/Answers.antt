@@ -1,5 +1,6 @@
 use Rattle.comemo_tests.specs.Rows.{by_call, numbers, IsFirstZero}
-use Rattle.comemo_tests.proofs.Places.{respects_places, first_zero_alike, holds_of_output}
+use Rattle.comemo_tests.proofs.Places.{respects_places, first_zero_alike}
+use Rattle.comemo.proofs.Calls.{holds_of_output}
 use Rattle.comemo_tests.proofs.rows.first_zero.Goals as goal
 
 pub returns-in-Hit-clause-output : goal.returns-in-Hit-clause-output
@@ -16,4 +17,4 @@ finish-requires g c =
 pub returns-in-Ok-clause-output : goal.returns-in-Ok-clause-output
 returns-in-Ok-clause-output g c =
     let row = numbers c.args.row.now.numbers.items in
-    holds_of_output _ (λ place. IsFirstZero c.args.length (by_call row) place) c.in-Ok.at c.finish.result c.finish.ensures.output (c.in-Ok.ensures.told row (respects_places row) (rw c.fork-view.ensures at c.in-Ok.ensures.agrees))
+    holds_of_output (λ place. IsFirstZero c.args.length (by_call row) place) c.in-Ok.at c.finish.result c.finish.ensures.output (c.in-Ok.ensures.told row (respects_places row) (rw c.fork-view.ensures at c.in-Ok.ensures.agrees))

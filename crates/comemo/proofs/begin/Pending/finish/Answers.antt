@@ -1,6 +1,6 @@
-use Rattle.std.proofs.Common.{◌≡◌, ◌∙◌, true, false, sym, ap}
+use Rattle.std.proofs.Common.{◌≡◌, ◌∙◌, [], true, false, sym, ap}
 use Rattle.comemo.specs.Begin.{PendingRun}
-use Rattle.comemo.proofs.Endings.{IsSamePath-itself}
+use Rattle.comemo.proofs.Endings.{IsSamePath-itself, given}
 use Rattle.comemo.proofs.begin.Pending.finish.Goals as goal
 use Rattle.comemo.proofs.begin.Pending.finish.Goals.{then-enabled+in_ok-how, else-enabled+in_ok-give_reads}
 
@@ -36,9 +36,5 @@ returns-clause-gives g c =
     elim c.if-enabled.branch [
       | then-enabled+in_ok-how w ↦ rw (← c.self.view_is, ← c.into_reads-reads.ensures.pairs, c.into_reads-reads.ensures.writes, w.sink-is) w.in_ok-how.ensures.gives
       | else-enabled+in_ok-give_reads w ↦
-          rw (← c.self.view_is, ← c.into_reads-reads.ensures.pairs, c.into_reads-reads.ensures.writes, w.sink-is) (record {
-            given = c.into_reads-reads.result.pairs;
-            alike = IsSamePath-itself g.met.M.Call.Eq.laws g.met.M.Answer.Eq.laws c.into_reads-reads.result.pairs;
-            sent = w.in_ok-give_reads.ensures.ok;
-          })
+          rw (← c.self.view_is, ← c.into_reads-reads.ensures.pairs, c.into_reads-reads.ensures.writes, w.sink-is) (given g.met.M.Call.Eq.laws g.met.M.Answer.Eq.laws g.S.Sink.took _ _ _ _ [] (IsSamePath-itself g.met.M.Call.Eq.laws g.met.M.Answer.Eq.laws c.into_reads-reads.result.pairs) w.in_ok-give_reads.ensures.ok)
     ]
