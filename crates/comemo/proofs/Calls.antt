@@ -5,7 +5,7 @@ use Rattle.comemo_base.specs.Tree.{Stored}
 use Rattle.comemo.specs.Begin.{PendingRun, IsHit, IsRun}
 use Rattle.comemo.specs.Cache.{Output, Stands}
 use Rattle.comemo.specs.Called.{Gave, Came}
-use Rattle.comemo.specs.Finish.{Ends, Gives}
+use Rattle.comemo.specs.Finish.{Ends}
 use Rattle.comemo.specs.declared.finish.How.{How}
 use Rattle.comemo.specs.declared.finish.How.TheVariants as how
 use Rattle.comemo.specs.declared.finish.Reply.{Reply}
@@ -23,15 +23,17 @@ module _ {K C R O : Type 0} {eq : C → C → Bool} {same : R → R → Bool} {e
   came_by_hit mid es' hit e = record { is_enabled = hit.is_enabled; pairs = hit.pairs; writes = hit.writes; kept = hit.kept; entries = e }
 
   module _ {begun : PendingRun K C R} (is : IsRun eq same eqk es key m enabled def begun) (pairs : List (C × R)) where
-    pub gave_by_run : {E S : Type 0} (took : S → List (C × R) → List C → S → Type 0) (s t : S) (writes : List C) (output : O) (r : Result (Reply O) E) → Respects eq same m → Agrees same m pairs → Stands eq same def begun.key pairs output writes → IfOk r (λ reply. reply.output ≡ output) → OnOk r (Gives eq same took s pairs writes t) → IfOk r (λ reply. Gave eq same def took key m s reply.output t)
-    gave_by_run took s t writes output (Ok reply) respects agrees stands e g = record {
-      pairs = g.given;
-      writes = writes;
-      agrees = (g.agreeing m respects).1 agrees;
-      stands = λ n r a. is.right n reply.output writes r (subst (λ o. def begun.key n o writes) (sym e) (stands n r ((g.agreeing n r).0 a)));
-      sent = g.sent;
-    }
-    gave_by_run took s t writes output (Err x) respects agrees stands e g = tt
+    pub gave_by_run : {E S : Type 0} (took : S → List (C × R) → List C → S → Type 0) (s t : S) (r : Result (Reply O) E) → Respects eq same m → Agrees same m pairs → IfOk r (λ reply. (n : C → R) → Respects eq same n → Agrees same n pairs → Gave eq same def took begun.key n s reply.output t) → IfOk r (λ reply. Gave eq same def took key m s reply.output t)
+    gave_by_run took s t (Ok reply) respects agrees gave =
+        let own = gave m respects agrees in
+        record {
+          pairs = own.pairs;
+          writes = own.writes;
+          agrees = own.agrees;
+          stands = λ n r a. is.right n reply.output own.writes r (own.stands n r a);
+          sent = own.sent;
+        }
+    gave_by_run took s t (Err x) respects agrees gave = tt
 
     came_by_ends : (cloned : O → O → Type 0) (mid es' : List (Stored K C R (Output O C))) (output : O) (reply : How) → Ends eq same eqk cloned mid begun.key pairs output reply es' → (reply ≡ how.Disabled) ↔ (begun.enabled ≡ false) → Came eq same eqk cloned key m enabled output es mid reply es'
     came_by_ends cloned mid es' output how.Hit e d = absurd e

@@ -26,6 +26,10 @@ module _ (eq : FileCall → FileCall → Bool) (reads : (a b : String Global) �
       let there = same_bytes (n (Read own)) (n (Read key)) (respects (Read own) (Read key) (reads own key (same_text own key same))) in
       ap length (sym given ∙ noted ∙ sym here ∙ there)
 
+  -- what is recorded agrees with the answers of which the text came
+  pub run_agrees : (s t : Recording FileCall (String Global)) → s.pairs ≡ [] → Asks string_eq (Took eq) m s (Read own) text t → Agrees string_eq m t.pairs
+  run_agrees s t empty asked = subst (λ ps. Agrees string_eq m ps) (sym (asked.sent.pairs ∙ ap (λ ps. absorbed eq ps ((Read own, asked.noted) ∷ [])) empty)) (asked.alike, tt)
+
 pub mapped : {A E : Type 0} {P Q : A → Type 0} → ((a : A) → P a → Q a) → (r : Result A E) → IfOk r P → IfOk r Q
 mapped f (Ok a) p = f a p
 mapped f (Err e) p = tt

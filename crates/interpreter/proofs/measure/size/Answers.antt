@@ -1,7 +1,8 @@
-use Rattle.std.proofs.Common.{rules, ◌≡◌, ◌∙◌, sym, subst, length, string_bytes}
+use Rattle.std.proofs.Common.{rules, ◌≡◌, ◌∙◌, refl, sym, subst, length, string_bytes, [], ◌∷◌}
+use Rattle.comemo.proofs.Calls.{gave_by_hit, came_by_hit, gave_by_run, came_by_run}
 use Rattle.interpreter.specs.Files.{text_of, answer_of}
 use Rattle.interpreter.specs.Size.{IsSize}
-use Rattle.interpreter.proofs.Sizes.{same_bytes, run_stands}
+use Rattle.interpreter.proofs.Sizes.{mapped, same_bytes, run_stands, run_agrees}
 use Rattle.interpreter.proofs.measure.size.Goals as goal
 
 pub returns-in-Hit-clause-output : goal.returns-in-Hit-clause-output
@@ -11,9 +12,31 @@ returns-in-Hit-clause-output g c =
     let here = subst (λ files. c.in-Hit.output ≡ length (string_bytes (text_of files.texts files.missing (string_bytes c.in-Ok.key)))) c.fork.ensures found in
     subst (λ path. c.in-Hit.output ≡ length (string_bytes (text_of c.args.files.now.texts c.args.files.now.missing path))) c.in-Ok.ensures.ok here
 
+pub returns-in-Hit-clause-gave : goal.returns-in-Hit-clause-gave
+returns-in-Hit-clause-gave g c =
+    let hit = rw (c.in-Hit.is, c.fork.ensures) at c.in_ok-output.ensures.begun in
+    (c.in-Ok.key, c.in-Ok.ensures.ok, gave_by_hit hit)
+
+pub returns-in-Hit-clause-came : goal.returns-in-Hit-clause-came
+returns-in-Hit-clause-came g c =
+    let hit = rw (c.in-Hit.is, c.fork.ensures) at c.in_ok-output.ensures.begun in
+    (c.in-Ok.key, c.in-Ok.ensures.ok, came_by_hit c.args.cache.now _ hit c.begin.ensures.unchanged)
+
 pub finish-requires : goal.finish-requires
 finish-requires g c = λ whole m respects agrees.
     let run = rw c.in-Run.is at c.in_ok-output.ensures.begun in
     let told = c.in-Ok-read_text.ensures in
     let long : length (string_bytes c.in-Ok-read_text.text) ≡ c.len-output.result = search rules in
     subst (λ size. IsSize c.in-Run.pending.key m size) long (run_stands _ (λ a b h. h) _ told.0 c.in-Run.pending.key c.in-Ok-read_text.text _ _ (rw c.recording.ensures.value run.0.pairs) (told.1 ∙ sym c.in-Ok.ensures.ok ∙ same_bytes c.in-Ok.key c.in-Run.pending.key run.0.has_key) told.2 m respects agrees)
+
+pub returns-clause-gave : goal.returns-clause-gave
+returns-clause-gave g c =
+    let run = rw (c.in-Run.is, c.fork.ensures) at c.in_ok-output.ensures.begun in
+    let told = c.in-Ok-read_text.ensures in
+    let agrees = run_agrees _ (λ a b h. h) _ told.0 c.in-Run.pending.key c.in-Ok-read_text.text _ _ (rw c.recording.ensures.value run.0.pairs) told.2 in
+    mapped (λ reply gave. (c.in-Ok.key, c.in-Ok.ensures.ok, gave)) c.finish.result (gave_by_run run.0 _ _ _ _ c.finish.result (λ x y h. search rules) agrees (rw run.2 at c.finish.ensures.gave))
+
+pub returns-clause-came : goal.returns-clause-came
+returns-clause-came g c =
+    let run = rw (c.in-Run.is, c.fork.ensures) at c.in_ok-output.ensures.begun in
+    mapped (λ reply came. (c.in-Ok.key, c.in-Ok.ensures.ok, came)) c.finish.result (came_by_run run.0 _ _ _ _ _ c.finish.result c.finish.ensures.output (rw c.begin.ensures.unchanged at c.finish.ensures.ends) c.finish.ensures.disabled)

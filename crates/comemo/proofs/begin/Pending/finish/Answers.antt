@@ -38,3 +38,15 @@ returns-clause-gives g c =
       | else-enabled+in_ok-give_reads w ↦
           rw (← c.self.view_is, ← c.into_reads-reads.ensures.pairs, c.into_reads-reads.ensures.writes, w.sink-is) (given g.met.M.Call.Eq.laws g.met.M.Answer.Eq.laws g.S.Sink.took _ _ _ _ [] (IsSamePath-itself g.met.M.Call.Eq.laws g.met.M.Answer.Eq.laws c.into_reads-reads.result.pairs) w.in_ok-give_reads.ensures.ok)
     ]
+
+pub returns-clause-gave : goal.returns-clause-gave
+returns-clause-gave g c =
+    let gives = returns-clause-gives g c in
+    let whole : c.args.self.recording.whole ≡ true = ap (λ (s : PendingRun _ _ _). s.recording.whole) (sym c.self.view_is) ∙ sym c.is_whole.ensures ∙ c.if-not-is_whole.false in
+    λ m r a. record {
+      pairs = gives.given;
+      writes = c.args.self.recording.writes;
+      agrees = (gives.agreeing m r).1 a;
+      stands = λ n q b. c.requires whole n q ((gives.agreeing n q).0 b);
+      sent = gives.sent;
+    }

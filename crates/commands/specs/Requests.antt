@@ -1,0 +1,31 @@
+-- The lines that are commands.
+use Rattle.std.specs.Prelude.{◌≡◌, ◌≢◌, ◌⊎◌, ℕ, ◌<◌, List, [], ◌∷◌, ◌++◌, length, All, codes, string_bytes}
+use Rattle.commands.specs.declared.command.Command.{Command}
+use Rattle.commands.specs.declared.command.Command.TheVariants.{Write, Size}
+
+-- what a line asks for, at paths and texts as bytes
+pub data Request : Type 0 where
+  write : (path text : List ℕ) → Request
+  size : (path : List ℕ) → Request
+
+-- what a command asks for
+abbrev pub request_of : Command → Request
+request_of (Write path text) = write (string_bytes path) (string_bytes text)
+request_of (Size path) = size (string_bytes path)
+
+-- a path that `write` can name: of at least one byte, and without a blank
+abbrev pub IsWord : List ℕ → Type 0
+IsWord path = (0 < length path) × All (λ byte. byte ≢ 32) path
+
+-- the text is all after the blank that ends the path, and empty if there is none
+abbrev pub IsWriteOf : List ℕ → List ℕ → List ℕ → Type 0
+IsWriteOf line path text = (line ≡ codes "write " ++ path ++ 32 ∷ text) ⊎ ((line ≡ codes "write " ++ path) × (text ≡ []))
+
+-- a line, without its end, asks for this
+abbrev pub IsLineOf : List ℕ → Request → Type 0
+IsLineOf line (write path text) = IsWord path × IsWriteOf line path text
+IsLineOf line (size path) = line ≡ codes "size " ++ path
+
+-- a line asks for nothing
+abbrev pub IsNoCommand : List ℕ → Type 0
+IsNoCommand line = (request : Request) → ¬ IsLineOf line request

@@ -1,0 +1,40 @@
+//! What a line asks for.
+ghost use Rattle.std.specs.Prelude.{IfOk, MatchOption};
+ghost use Rattle.commands.specs.Requests.{IsLineOf, IsNoCommand, request_of};
+
+use std::alloc::{AllocError, Global};
+
+/// A command to a session.
+#[derive(Clone, Drop, Debug, PartialEq, Eq)]
+pub enum Command {
+    /// Writes a text to the file at a path: the path, then the text.
+    Write(String, String),
+    /// Asks for the size of the file at a path.
+    Size(String),
+}
+
+impl Command {
+    /// The command that a line asks for, or `None` where it asks for nothing. The line comes without its end.
+    ///
+    /// `write PATH TEXT` has as PATH all up to the next blank, at least one character, and as TEXT all after that blank,
+    /// which is empty where there is none. `size PATH` has all after its first blank, which may be nothing. An error says
+    /// that there was no memory for the path or the text. It takes time for the line's length.
+    pub fn parse(alloc: Global, line: &str) -> Result<Option<Command>, AllocError>
+        ensures { IfOk result (λ found. MatchOption found (IsNoCommand line.now) (λ command. IsLineOf line.now (request_of command))) }
+    {
+        if let Some(rest) = line.strip_prefix("write ") {
+            let (path, text) = rest.split_once(' ').unwrap_or((rest, ""));
+            if path.is_empty() {
+                return Ok(None);
+            }
+            let path = String::from_str(alloc, path)?;
+            let text = String::from_str(alloc, text)?;
+            return Ok(Some(Command::Write(path, text)));
+        }
+        let Some(path) = line.strip_prefix("size ") else {
+            return Ok(None);
+        };
+        let path = String::from_str(alloc, path)?;
+        Ok(Some(Command::Size(path)))
+    }
+}

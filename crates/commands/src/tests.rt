@@ -1,0 +1,98 @@
+use super::*;
+use std::test::Fail;
+
+#[test]
+fn a_write_has_its_path_and_its_text(rt: HostRuntime) -> Result<(), Fail> {
+    let alloc = rt.alloc();
+    let cases = [
+        ("write a hello", "a", "hello"),
+        ("write a", "a", ""),
+        ("write a ", "a", ""),
+        ("write a b c", "a", "b c"),
+        ("write a  b", "a", " b"),
+        ("write a b ", "a", "b "),
+        ("write a\tb c", "a\tb", "c"),
+        ("write \t", "\t", ""),
+        ("write größe äé 漢", "größe", "äé 漢"),
+        ("write a\u{a0}b c", "a\u{a0}b", "c"),
+        ("write write write", "write", "write"),
+    ];
+    for (line, path, text) in cases {
+        let path = String::from_str(alloc, path)?;
+        let text = String::from_str(alloc, text)?;
+        assert_eq!(rt;
+            Command::parse(alloc, line),
+            Ok(Some(Command::Write(path, text))),
+            "for {line:?}"
+        );
+    }
+    Ok(())
+}
+
+#[test]
+fn a_size_has_all_after_its_blank(rt: HostRuntime) -> Result<(), Fail> {
+    let alloc = rt.alloc();
+    let cases = [
+        ("size a", "a"),
+        ("size ", ""),
+        ("size a b", "a b"),
+        ("size  a", " a"),
+        ("size a ", "a "),
+        ("size größe\t漢", "größe\t漢"),
+    ];
+    for (line, path) in cases {
+        let path = String::from_str(alloc, path)?;
+        assert_eq!(rt;
+            Command::parse(alloc, line),
+            Ok(Some(Command::Size(path))),
+            "for {line:?}"
+        );
+    }
+    Ok(())
+}
+
+#[test]
+fn other_lines_are_no_commands(rt: HostRuntime) -> Result<(), Fail> {
+    let alloc = rt.alloc();
+    let lines = [
+        "",
+        " ",
+        "help",
+        "write",
+        "write ",
+        "write  ",
+        "write  a",
+        "write\ta b",
+        "writea b",
+        " write a b",
+        "Write a b",
+        "size",
+        "size\ta",
+        " size a",
+        "Size a",
+        "sizes a",
+    ];
+    for line in lines {
+        assert_eq!(rt; Command::parse(alloc, line), Ok(None), "for {line:?}");
+    }
+    Ok(())
+}
+
+#[test]
+fn an_answer_prints_its_text(rt: HostRuntime) -> Result<(), Fail> {
+    let alloc = rt.alloc();
+    let size = |hit, bytes| Answer::Size { hit, bytes };
+    let cases = [
+        (Answer::Written, ""),
+        (size(true, 5), "hit 5\n"),
+        (size(true, 10), "hit 10\n"),
+        (size(false, 0), "miss 0\n"),
+        (size(false, u64::MAX), "miss 18446744073709551615\n"),
+        (Answer::Memory, "out of memory\n"),
+    ];
+    for (answer, want) in cases {
+        let text = answer.text(alloc)?;
+        assert_eq!(rt; text.as_str(), want);
+    }
+    Ok(())
+}
