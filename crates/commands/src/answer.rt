@@ -1,5 +1,5 @@
 //! What a command is answered, and how that is printed.
-ghost use Rattle.std.specs.Prelude.{◌≡◌, IfOk, string_bytes};
+ghost use Rattle.std.specs.Prelude.{◌≡◌, ◌≢◌, IfOk, OnErr, string_bytes};
 ghost use Rattle.commands.specs.Printed.{printed};
 
 use std::alloc::{AllocError, Global};
@@ -18,9 +18,10 @@ pub enum Answer {
 impl Answer {
     /// What the answer prints, with its line's end; nothing where it is `Written`.
     ///
-    /// An error says that there was no memory for the text.
+    /// An error says that there was no memory for the text; `Written`, which prints nothing, takes none.
     pub fn text(&self, alloc: Global) -> Result<String, AllocError>
-        ensures { IfOk result (λ text. string_bytes text ≡ printed self.now) }
+        ensures ok { IfOk result (λ text. string_bytes text ≡ printed self.now) }
+        ensures err { OnErr result (self.now ≢ Answer.Written) }
     {
         match self {
             Answer::Written => Ok(String::new(alloc)),

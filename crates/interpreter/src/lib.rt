@@ -3,9 +3,15 @@
 
 pub mod files;
 pub mod measure;
+pub mod program;
+pub mod state;
 
+pub use commands::{Answer, Command};
 pub use files::{FileCall, Files};
+pub use lines::RunFault;
 pub use measure::{FileSize, size};
+pub use program::{run, start};
+pub use state::State;
 
 #[cfg(test)]
 mod tests;

@@ -1,0 +1,8 @@
+use Rattle.std.proofs.Common.{rules}
+use Rattle.lines.proofs.Seen.{Ran_seen}
+use Rattle.interpreter.specs.Sessions.{texts_of, Prints, Refuses}
+use Rattle.interpreter.proofs.program.run.Goals as goal
+
+pub returns : goal.returns
+returns g c =
+    (_, _, c.new.ensures, Ran_seen (λ s. texts_of s.files.texts s.files.missing) _ _ Prints Refuses (λ s line text t p. p) (λ s line t p. p) _ _ _ _ _ c.run.result c.run.ensures)
