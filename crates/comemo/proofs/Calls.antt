@@ -22,17 +22,19 @@ module _ {K C R O : Type 0} {eq : C → C → Bool} {same : R → R → Bool} {e
   pub came_by_hit : {I S : Type 0} {cloned : O → O → Type 0} {took : S → List (C × R) → List C → S → Type 0} {did : I → List C → I → Type 0} {i j : I} {s t : S} {output : O} (mid es' : List (Stored K C R (Output O C))) → IsHit eq same eqk es key m enabled def cloned did took i j s t output → es' ≡ es → Came eq same eqk cloned key m enabled output es mid how.Hit es'
   came_by_hit mid es' hit e = record { is_enabled = hit.is_enabled; pairs = hit.pairs; writes = hit.writes; kept = hit.kept; entries = e }
 
+  -- what a call gave its sink at the key of its run, it gave at the function's key
+  pub gave_at_key : {begun : PendingRun K C R} → IsRun eq same eqk es key m enabled def begun → {S : Type 0} {took : S → List (C × R) → List C → S → Type 0} {s t : S} {output : O} → Gave eq same def took begun.key m s output t → Gave eq same def took key m s output t
+  gave_at_key is {output = output} own = record {
+    pairs = own.pairs;
+    writes = own.writes;
+    agrees = own.agrees;
+    stands = λ n r a. is.right n output own.writes r (own.stands n r a);
+    sent = own.sent;
+  }
+
   module _ {begun : PendingRun K C R} (is : IsRun eq same eqk es key m enabled def begun) (pairs : List (C × R)) where
     pub gave_by_run : {E S : Type 0} (took : S → List (C × R) → List C → S → Type 0) (s t : S) (r : Result (Reply O) E) → Respects eq same m → Agrees same m pairs → IfOk r (λ reply. (n : C → R) → Respects eq same n → Agrees same n pairs → Gave eq same def took begun.key n s reply.output t) → IfOk r (λ reply. Gave eq same def took key m s reply.output t)
-    gave_by_run took s t (Ok reply) respects agrees gave =
-        let own = gave m respects agrees in
-        record {
-          pairs = own.pairs;
-          writes = own.writes;
-          agrees = own.agrees;
-          stands = λ n r a. is.right n reply.output own.writes r (own.stands n r a);
-          sent = own.sent;
-        }
+    gave_by_run took s t (Ok reply) respects agrees gave = gave_at_key is (gave m respects agrees)
     gave_by_run took s t (Err x) respects agrees gave = tt
 
     came_by_ends : (cloned : O → O → Type 0) (mid es' : List (Stored K C R (Output O C))) (output : O) (reply : How) → Ends eq same eqk cloned mid begun.key pairs output reply es' → (reply ≡ how.Disabled) ↔ (begun.enabled ≡ false) → Came eq same eqk cloned key m enabled output es mid reply es'

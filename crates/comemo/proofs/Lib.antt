@@ -6,3 +6,4 @@ pub mod Copies
 pub mod Endings
 pub mod Told
 pub mod Calls
+pub mod Growing

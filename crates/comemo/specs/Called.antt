@@ -1,5 +1,6 @@
 -- What a memoized function says of a call, for its caller.
-use Rattle.std.specs.Prelude.{◌≡◌, ◌↔◌, Bool, true, false, List, IsTrue}
+use Rattle.std.specs.Prelude.{◌≡◌, ◌↔◌, ◌++◌, Bool, true, false, List, IsTrue}
+use Rattle.std.specs.List.Sorted.{IsPermutation}
 use Rattle.comemo_base.specs.Answers.{Agrees}
 use Rattle.comemo_base.specs.Tree.{Stored}
 use Rattle.comemo.specs.Cache.{Output, Stands, HasNone, Has}
@@ -41,3 +42,7 @@ module _ {K C R O : Type 0} (eq : C → C → Bool) (same : R → R → Bool) (e
   Came es mid how.MissingCall es' = CameByRun es mid how.MissingCall es'
   Came es mid how.NotStored es' = CameByRun es mid how.NotStored es'
   Came es mid how.Disabled es' = CameByRun es mid how.Disabled es'
+
+-- no entry was lost, and some may have come
+abbrev pub Grows : {E : Type 0} → List E → List E → Type 0
+Grows {E} es es' = (more : List E) × IsPermutation (more ++ es) es'

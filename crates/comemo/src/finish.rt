@@ -4,7 +4,7 @@ ghost use Rattle.std.specs.List.{All};
 ghost use Rattle.comemo_base.specs.Answers.{Respects, Agrees};
 ghost use Rattle.comemo_base.specs.Tree.{IsSamePath};
 ghost use Rattle.comemo.specs.Cache.{Stands};
-ghost use Rattle.comemo.specs.Called.{Gave};
+ghost use Rattle.comemo.specs.Called.{Gave, Grows};
 ghost use Rattle.comemo.specs.Finish.{Ends, Gives};
 
 use crate::begin::{Fault, Pending, give_pairs};
@@ -164,6 +164,7 @@ impl<M: Memo> Pending<M> {
         ensures disabled { IfOk result (λ reply. (reply.how ≡ How.Disabled) ↔ (self.enabled ≡ false)) }
         ensures gives { OnOk result (Gives M.Call.eq M.Answer.eq S.took sink.old self.recording.pairs self.recording.writes sink.new) }
         ensures gave { IfOk result (λ reply. (m : M.Call → M.Answer) → Respects M.Call.eq M.Answer.eq m → Agrees M.Answer.eq m self.recording.pairs → Gave M.Call.eq M.Answer.eq M.def S.took self.key m sink.old reply.output sink.new) }
+        ensures grows { Grows cache.old cache.new }
         ensures incomplete { (result ≡ Err Fault.Incomplete) ↔ (self.recording.whole ≡ false) }
         ensures err { OnErr result ((cache.new ≡ cache.old) × S.spoils sink.old sink.new) }
     {

@@ -1,3 +1,4 @@
 pub mod Files
 pub mod Size
 pub mod Sessions
+pub mod Evaluations

@@ -1,16 +1,19 @@
 //! What the program `calc` is made of: files in memory, the memoized `size`, and the session that answers lines.
 #![tactic(auto)]
 
+pub mod evaluation;
 pub mod files;
 pub mod measure;
 pub mod program;
 pub mod state;
 
 pub use commands::{Answer, Command};
+pub use evaluation::{Eval, EvalFault, evaluate};
 pub use files::{FileCall, Files};
 pub use lines::RunFault;
 pub use measure::{FileSize, size};
 pub use program::{run, start};
+pub use scripts::{CalcFault, Outcome};
 pub use state::State;
 
 #[cfg(test)]

@@ -38,7 +38,7 @@ impl Memo for FileSize {
 }
 
 /// Asks the files the text at a path, into a recording.
-fn read_text<S: Sink<Call = FileCall, Answer = String>>(
+pub(crate) fn read_text<S: Sink<Call = FileCall, Answer = String>>(
     alloc: Global,
     files: &Tracked<'_, Files>,
     path: &str,

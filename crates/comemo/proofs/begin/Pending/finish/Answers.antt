@@ -1,6 +1,7 @@
-use Rattle.std.proofs.Common.{◌≡◌, ◌∙◌, [], true, false, sym, ap}
+use Rattle.std.proofs.Common.{◌≡◌, ◌∙◌, [], true, false, refl, sym, ap}
 use Rattle.comemo.specs.Begin.{PendingRun}
 use Rattle.comemo.proofs.Endings.{IsSamePath-itself, given}
+use Rattle.comemo.proofs.Growing.{grows_by_ends, grows_not}
 use Rattle.comemo.proofs.begin.Pending.finish.Goals as goal
 use Rattle.comemo.proofs.begin.Pending.finish.Goals.{then-enabled+in_ok-how, else-enabled+in_ok-give_reads}
 
@@ -50,3 +51,15 @@ returns-clause-gave g c =
       stands = λ n q b. c.requires whole n q ((gives.agreeing n q).0 b);
       sent = gives.sent;
     }
+
+pub returns-clause-grows : goal.returns-clause-grows
+returns-clause-grows g c = grows_by_ends g.M.Call.PartialEq.eq g.M.Answer.PartialEq.eq g.M.Key.PartialEq.eq g.M.Out.Clone.is_clone _ c.args.self.key c.args.self.recording.pairs c.args.output _ _ (returns-clause-ends g c)
+
+pub returns-then-not-is_whole-clause-grows : goal.returns-then-not-is_whole-clause-grows
+returns-then-not-is_whole-clause-grows g c = grows_not _ _ refl
+
+pub returns-in_err-how-clause-grows : goal.returns-in_err-how-clause-grows
+returns-in_err-how-clause-grows g c = grows_not _ _ c.in_err-how.ensures.err.1
+
+pub returns-in_err-give_reads-clause-grows : goal.returns-in_err-give_reads-clause-grows
+returns-in_err-give_reads-clause-grows g c = grows_not _ _ refl

@@ -1,0 +1,19 @@
+-- The calls of files are told apart by their paths, and texts by their bytes.
+use Rattle.std.proofs.Common.{◌≡◌, ◌∙◌, Bool, true, false, List, refl, sym, ap, String, string_bytes, string_eq, IsTrue, rules}
+use Rattle.std.specs.Cmp.{IsEquivalence}
+use Rattle.std.specs.Global.{Global}
+use Rattle.std.specs.HashMap.{HashMap}
+use Rattle.comemo_base.specs.Answers.{Respects}
+use Rattle.interpreter.specs.Files.{answer_of}
+use Rattle.interpreter.specs.declared.files.FileCall.{FileCall}
+use Rattle.interpreter.specs.declared.files.FileCall.TheVariants.{Read}
+use Rattle.interpreter.specs.contracts.files.FileCallPartialEq.TheImpl.{ghosts}
+
+pub same_texts : IsEquivalence (string_eq {Z = Global})
+same_texts = search rules
+
+pub same_calls : IsEquivalence ghosts.eq
+same_calls = search rules
+
+pub answers_alike : {H : Type 0} (texts : HashMap (String Global) (String Global) H) (missing : String Global) → Respects ghosts.eq string_eq (answer_of texts missing)
+answers_alike texts missing (Read p) (Read q) h = search rules

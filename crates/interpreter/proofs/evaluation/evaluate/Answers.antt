@@ -1,0 +1,19 @@
+use Rattle.comemo.proofs.Calls.{gave_at_key}
+use Rattle.comemo.proofs.Growing.{grows_on}
+use Rattle.interpreter.proofs.FileCalls.{answers_alike}
+use Rattle.interpreter.proofs.evaluation.evaluate.Goals as goal
+
+pub returns-in-Hit-clause-gave : goal.returns-in-Hit-clause-gave
+returns-in-Hit-clause-gave g c =
+    let (key, same, hit) = rw c.in-Hit.is at c.in_ok-output.ensures.begun in
+    (key, same, hit.1)
+
+pub returns-in-Ok-finish-clause-gave : goal.returns-in-Ok-finish-clause-gave
+returns-in-Ok-finish-clause-gave g c =
+    let (key, same, run) = rw c.in-Run.is at c.in_ok-output.ensures.begun in
+    let learnt = c.in-Ok.ensures.ok in
+    (key, same, gave_at_key run.2 ((rw (c.in-Ok-finish.is, run.1) at c.finish.ensures.gave) _ (answers_alike c.args.files.now.texts c.args.files.now.missing) learnt.1.0))
+
+pub returns-in-Ok-finish-clause-grows : goal.returns-in-Ok-finish-clause-grows
+returns-in-Ok-finish-clause-grows g c =
+    grows_on _ _ _ (rw c.in_ok-output.ensures.unchanged at c.in-Ok.ensures.grows) c.finish.ensures.grows

@@ -1,0 +1,32 @@
+-- What a script comes to, by what its files answer.
+use Rattle.std.specs.Prelude.{◌≡◌, Bool, ℕ, List, String, string_bytes, string_eq}
+use Rattle.std.specs.Global.{Global}
+use Rattle.comemo_base.specs.Answers.{Respects, Agrees}
+use Rattle.comemo.specs.Recording.{Recording}
+use Rattle.scripts.specs.Meaning.{Means, PartMeans, Deep}
+use Rattle.scripts.specs.Parts.{IsEval}
+use Rattle.scripts.specs.declared.outcome.Outcome.{Outcome}
+use Rattle.interpreter.specs.declared.files.FileCall.{FileCall}
+use Rattle.interpreter.specs.declared.files.FileCall.TheVariants.{Read}
+
+-- the text at a path is what is answered when that path is read
+abbrev pub At : (FileCall → String Global) → List ℕ → List ℕ → Type 0
+At m path text = (own : String Global) × (string_bytes own ≡ path) × (string_bytes (m (Read own)) ≡ text)
+
+-- the script comes to this
+abbrev pub ComesTo : (FileCall → String Global) → List ℕ → Outcome → Type 0
+ComesTo m script outcome = Means (At m) script outcome.value outcome.height
+
+-- a part of a script comes to this
+abbrev pub PartComesTo : (FileCall → String Global) → List ℕ → Outcome → Type 0
+PartComesTo m part outcome = PartMeans (At m) part outcome.value outcome.height
+
+-- the part calls a script that goes deeper than the limit
+abbrev pub CallsDeep : (FileCall → String Global) → List ℕ → ℕ → Type 0
+CallsDeep m part limit = (path text : List ℕ) × IsEval part path × At m path text × Deep (At m) text limit
+
+-- a recording went on from `before` to `after`, with pairs that the answers m agree with; and whichever answers agree with
+-- those of `after` agree with those of `before`, and P holds of them
+abbrev pub Learnt : (FileCall → FileCall → Bool) → (FileCall → String Global) → Recording FileCall (String Global) → Recording FileCall (String Global) → ((FileCall → String Global) → Type 0) → Type 0
+Learnt eq m before after P =
+    Agrees string_eq m after.pairs × ((n : FileCall → String Global) → Respects eq string_eq n → Agrees string_eq n after.pairs → Agrees string_eq n before.pairs × P n)

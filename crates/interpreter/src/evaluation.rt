@@ -1,0 +1,226 @@
+//! The memoized value of a script.
+ghost use Rattle.std.specs.Prelude.{◌≡◌, ◌<◌, ◌≤◌, ℕ, List, [], true, refl, String, string_bytes, string_eq, IfOk, OnErr, Err};
+ghost use Rattle.std.proofs.Common.{rules};
+ghost use Rattle.std.specs.Global.{Global};
+ghost use Rattle.comemo_base.specs.Answers.{Agrees};
+ghost use Rattle.comemo.specs.Begin.{IsRun};
+ghost use Rattle.comemo.specs.Begun.{OnBegun};
+ghost use Rattle.comemo.specs.Called.{Gave, Came, Grows};
+ghost use Rattle.scripts.specs.Kinds.{IsPart};
+ghost use Rattle.scripts.specs.Meaning.{Deep};
+ghost use Rattle.interpreter.specs.Files.{answer_of};
+ghost use Rattle.interpreter.specs.Evaluations.{At, ComesTo, PartComesTo, CallsDeep, Learnt};
+
+use crate::files::{FileCall, Files};
+use crate::measure::read_text;
+use comemo::begin::begin;
+use comemo::{Begun, CacheData, Constraint, How, Keyed, Memo, Reply, Sink, Tracked};
+use scripts::{CalcFault, Outcome, Part, Parts, Total};
+use std::alloc::Global;
+
+/// What a script comes to.
+pub struct Eval;
+
+impl Memo for Eval {
+    type Call = FileCall;
+
+    type Key = String;
+
+    type Answer = String;
+
+    type Out = Outcome;
+
+    ghost def = { λ script m outcome _. ComesTo m (string_bytes script) outcome };
+
+    ghost output_clones = { λ key m a b writes h c d. Prim.search rules };
+
+    ghost key_alike = { λ j k m output writes h e d. Prim.search rules };
+
+    ghost key_clones = { λ x y h. Prim.search rules };
+
+    ghost answer_clones = { λ x y h. Prim.search rules };
+}
+
+/// Why a script was not evaluated.
+#[derive(Clone, Copy, Debug, PartialEq, Eq)]
+pub enum EvalFault {
+    /// The script goes deeper than the limit.
+    TooDeep,
+    /// There was no memory.
+    Memory,
+}
+
+/// Begins a script: finds what it comes to, or begins a run.
+fn begin_script<S: Sink<Call = FileCall, Answer = String>>(
+    alloc: Global,
+    cache: &mut CacheData<Eval>,
+    files: &Tracked<'_, Files>,
+    script: &str,
+    limit: u64,
+    sink: &mut S,
+) -> Result<Begun<Eval>, EvalFault>
+    ensures begun { IfOk result (λ b. (key : String Global) × (string_bytes key ≡ script.now) × OnBegun b
+        (λ outcome. (outcome.height ≤ limit)
+            × Gave ⟦<FileCall as PartialEq>⟧.eq string_eq ⟦<Eval as Memo>⟧.def S.took key (answer_of files.now.texts files.now.missing) sink.old outcome sink.new
+            × Came ⟦<FileCall as PartialEq>⟧.eq string_eq string_eq ⟦<Outcome as Clone>⟧.is_clone key (answer_of files.now.texts files.now.missing) true outcome cache.old cache.old How.Hit cache.new)
+        (λ run. (0 < limit) × (sink.new ≡ sink.old)
+            × IsRun ⟦<FileCall as PartialEq>⟧.eq string_eq string_eq cache.old key (answer_of files.now.texts files.now.missing) true ⟦<Eval as Memo>⟧.def run)) }
+    ensures unchanged { cache.new ≡ cache.old }
+    ensures deep { result ≡ Err EvalFault.TooDeep → Deep (At (answer_of files.now.texts files.now.missing)) script.now limit }
+    ensures err { OnErr result (S.spoils sink.old sink.new) }
+{
+    if limit == 0 {
+        sink.spoil();
+        return Err(EvalFault::TooDeep);
+    }
+    let Ok(key) = String::from_str(alloc, script) else {
+        sink.spoil();
+        return Err(EvalFault::Memory);
+    };
+    let mut input = Keyed {
+        key,
+        view: files.fork(),
+    };
+    let Ok(begun) = begin(alloc, cache, &mut input, sink, true) else {
+        return Err(EvalFault::Memory);
+    };
+    match begun {
+        Begun::Hit(outcome) => {
+            if outcome.height > limit {
+                sink.spoil();
+                return Err(EvalFault::TooDeep);
+            }
+            Ok(Begun::Hit(outcome))
+        }
+        Begun::Run(pending) => Ok(Begun::Run(pending)),
+    }
+}
+
+/// What the script comes to that was begun so: `evaluate` for any sink, and for the recording of a run around it. It is
+/// written once as a macro, since a function can't call itself for another sink.
+macro_rules! evaluate_script {
+    ($alloc:ident, $cache:ident, $files:ident, $script:ident, $limit:ident, $sink:ident) => {
+        match begin_script($alloc, $cache, $files, $script, $limit, $sink)? {
+            Begun::Hit(output) => Ok(Reply {
+                output,
+                how: How::Hit,
+            }),
+            Begun::Run(mut pending) => {
+                match run_script($alloc, $cache, $files, $script, $limit, pending.recording()) {
+                    Ok(outcome) => match pending.finish($cache, $sink, outcome) {
+                        Ok(reply) => Ok(reply),
+                        Err(_) => Err(EvalFault::Memory),
+                    },
+                    Err(fault) => {
+                        pending.give_up($sink);
+                        Err(fault)
+                    }
+                }
+            }
+        }
+    };
+}
+
+/// What one part of a script comes to, with the scripts that it calls under a limit.
+#[cycle(evaluating)]
+fn evaluate_part(
+    alloc: Global,
+    cache: &mut CacheData<Eval>,
+    files: &Tracked<'_, Files>,
+    part: Part<'_>,
+    limit: u64,
+    recording: &mut Constraint<FileCall, String>,
+) -> Result<Outcome, EvalFault>
+    requires { Agrees string_eq (answer_of files.now.texts files.now.missing) recording.now.pairs }
+    ensures ok { (bytes : List ℕ) → IsPart bytes part.entry → IfOk result (λ outcome. (outcome.height ≤ limit)
+        × Learnt ⟦<FileCall as PartialEq>⟧.eq (answer_of files.now.texts files.now.missing) recording.old recording.new (λ n. PartComesTo n bytes outcome)) }
+    ensures deep { (bytes : List ℕ) → IsPart bytes part.entry → result ≡ Err EvalFault.TooDeep → CallsDeep (answer_of files.now.texts files.now.missing) bytes limit }
+    ensures grows { Grows cache.old cache.new }
+{
+    match part {
+        Part::Number(number) => Ok(Outcome {
+            value: Ok(number),
+            height: 0,
+        }),
+        Part::Bad => Ok(Outcome {
+            value: Err(CalcFault::NotANumber),
+            height: 0,
+        }),
+        Part::Eval(path) => {
+            let Ok(text) = read_text(alloc, files, path, recording) else {
+                return Err(EvalFault::Memory);
+            };
+            let reply = evaluate_within(alloc, cache, files, text.as_str(), limit, recording)?;
+            Ok(reply.output)
+        }
+    }
+}
+
+/// What a script comes to, with what it reads recorded.
+#[cycle(evaluating)]
+fn run_script(
+    alloc: Global,
+    cache: &mut CacheData<Eval>,
+    files: &Tracked<'_, Files>,
+    script: &str,
+    limit: u64,
+    recording: &mut Constraint<FileCall, String>,
+) -> Result<Outcome, EvalFault>
+    requires room { 0 < limit }
+    requires fresh { recording.now.pairs ≡ [] }
+    ensures ok { IfOk result (λ outcome. (outcome.height ≤ limit)
+        × Learnt ⟦<FileCall as PartialEq>⟧.eq (answer_of files.now.texts files.now.missing) recording.old recording.new (λ n. ComesTo n script.now outcome)) }
+    ensures deep { result ≡ Err EvalFault.TooDeep → Deep (At (answer_of files.now.texts files.now.missing)) script.now limit }
+    ensures grows { Grows cache.old cache.new }
+{
+    let mut parts = Parts::new(script);
+    let mut total = Total::new();
+    while let Some(part) = parts.next() {
+        let outcome = evaluate_part(alloc, cache, files, part, limit - 1, recording)?;
+        if let Err(fault) = total.add(outcome) {
+            return Ok(total.outcome(Err(fault)));
+        }
+    }
+    Ok(total.outcome(Ok(())))
+}
+
+/// What a script comes to that a run around it called: `evaluate`, with what was read told to that run's recording.
+#[cycle(evaluating)]
+fn evaluate_within(
+    alloc: Global,
+    cache: &mut CacheData<Eval>,
+    files: &Tracked<'_, Files>,
+    script: &str,
+    limit: u64,
+    sink: &mut Constraint<FileCall, String>,
+) -> Result<Reply<Outcome>, EvalFault>
+    ensures outcome { IfOk result (λ reply. ComesTo (answer_of files.now.texts files.now.missing) script.now reply.output × (reply.output.height ≤ limit)) }
+    ensures gave { IfOk result (λ reply. (key : String Global) × (string_bytes key ≡ script.now)
+        × Gave ⟦<FileCall as PartialEq>⟧.eq string_eq ⟦<Eval as Memo>⟧.def ⟦<Constraint<FileCall, String> as Sink>⟧.took key (answer_of files.now.texts files.now.missing) sink.old reply.output sink.new) }
+    ensures deep { result ≡ Err EvalFault.TooDeep → Deep (At (answer_of files.now.texts files.now.missing)) script.now limit }
+    ensures grows { Grows cache.old cache.new }
+{
+    evaluate_script!(alloc, cache, files, script, limit, sink)
+}
+
+/// What a script comes to, kept under the script and what was read of the files.
+///
+/// `TooDeep` comes exactly where the script is higher than the limit or never ends, on a hit as on a run; `Memory` says
+/// that there was no memory. Both spoil the sink; what was kept on the way stays.
+pub fn evaluate<S: Sink<Call = FileCall, Answer = String>>(
+    alloc: Global,
+    cache: &mut CacheData<Eval>,
+    files: &Tracked<'_, Files>,
+    script: &str,
+    limit: u64,
+    sink: &mut S,
+) -> Result<Reply<Outcome>, EvalFault>
+    ensures outcome { IfOk result (λ reply. ComesTo (answer_of files.now.texts files.now.missing) script.now reply.output × (reply.output.height ≤ limit)) }
+    ensures gave { IfOk result (λ reply. (key : String Global) × (string_bytes key ≡ script.now)
+        × Gave ⟦<FileCall as PartialEq>⟧.eq string_eq ⟦<Eval as Memo>⟧.def S.took key (answer_of files.now.texts files.now.missing) sink.old reply.output sink.new) }
+    ensures deep { result ≡ Err EvalFault.TooDeep → Deep (At (answer_of files.now.texts files.now.missing)) script.now limit }
+    ensures grows { Grows cache.old cache.new }
+    ensures err { OnErr result (S.spoils sink.old sink.new) }
+{
+    evaluate_script!(alloc, cache, files, script, limit, sink)
+}

@@ -1,0 +1,5 @@
+pub mod Kinds
+pub mod Meaning
+pub mod Parts
+pub mod Taken
+pub mod Totals
