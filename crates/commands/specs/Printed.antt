@@ -1,19 +1,35 @@
 -- What is printed.
-use Rattle.std.specs.Prelude.{ℕ, Bool, true, false, List, [], ◌∷◌, ◌++◌, codes, decimal}
+use Rattle.std.specs.Prelude.{ℕ, Bool, true, false, List, [], ◌∷◌, ◌++◌, codes, decimal, Ok, Err}
+use Rattle.std.specs.Fmt.{signed_decimal}
+use Rattle.scripts.specs.Meaning.{Value}
+use Rattle.scripts.specs.declared.outcome.CalcFault.{CalcFault}
+use Rattle.scripts.specs.declared.outcome.CalcFault.TheVariants.{NotANumber, Overflow}
 use Rattle.lines.specs.Answers.{out_of_memory}
 use Rattle.commands.specs.declared.answer.Answer.{Answer}
-use Rattle.commands.specs.declared.answer.Answer.TheVariants.{Written, Size, Memory}
+use Rattle.commands.specs.declared.answer.Answer.TheVariants as answer
 
 -- what stands before a value: whether it was found in a cache
 abbrev pub found : Bool → List ℕ
 found true = codes "hit "
 found false = codes "miss "
 
+-- what stands for a number where a script has none
+abbrev pub fault_text : CalcFault → List ℕ
+fault_text NotANumber = codes "not a number"
+fault_text Overflow = codes "overflow"
+
+-- what a script's value prints
+abbrev pub value_text : Value → List ℕ
+value_text (Ok n) = signed_decimal n
+value_text (Err fault) = fault_text fault
+
 -- what an answer prints
 abbrev pub printed : Answer → List ℕ
-printed Written = []
-printed (Size hit bytes) = found hit ++ decimal bytes ++ 10 ∷ []
-printed Memory = out_of_memory
+printed answer.Written = []
+printed (answer.Value hit kept value) = found hit ++ value_text value ++ 10 ∷ []
+printed (answer.Size hit bytes) = found hit ++ decimal bytes ++ 10 ∷ []
+printed answer.TooDeep = codes "too deep\n"
+printed answer.Memory = out_of_memory
 
 -- what a line prints that asks for nothing
 abbrev pub bad_command : List ℕ

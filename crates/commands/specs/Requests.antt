@@ -1,16 +1,18 @@
 -- The lines that are commands.
 use Rattle.std.specs.Prelude.{◌≡◌, ◌≢◌, ◌⊎◌, ℕ, ◌<◌, List, [], ◌∷◌, ◌++◌, length, All, codes, string_bytes}
 use Rattle.commands.specs.declared.command.Command.{Command}
-use Rattle.commands.specs.declared.command.Command.TheVariants.{Write, Size}
+use Rattle.commands.specs.declared.command.Command.TheVariants.{Write, Eval, Size}
 
 -- what a line asks for, at paths and texts as bytes
 pub data Request : Type 0 where
   write : (path text : List ℕ) → Request
+  eval : (script : List ℕ) → Request
   size : (path : List ℕ) → Request
 
 -- what a command asks for
 abbrev pub request_of : Command → Request
 request_of (Write path text) = write (string_bytes path) (string_bytes text)
+request_of (Eval script) = eval (string_bytes script)
 request_of (Size path) = size (string_bytes path)
 
 -- a path that `write` can name: of at least one byte, and without a blank
@@ -24,6 +26,7 @@ IsWriteOf line path text = (line ≡ codes "write " ++ path ++ 32 ∷ text) ⊎ 
 -- a line, without its end, asks for this
 abbrev pub IsLineOf : List ℕ → Request → Type 0
 IsLineOf line (write path text) = IsWord path × IsWriteOf line path text
+IsLineOf line (eval script) = line ≡ codes "eval " ++ script
 IsLineOf line (size path) = line ≡ codes "size " ++ path
 
 -- a line asks for nothing

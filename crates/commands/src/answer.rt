@@ -1,7 +1,8 @@
 //! What a command is answered, and how that is printed.
-ghost use Rattle.std.specs.Prelude.{◌≡◌, ◌≢◌, IfOk, OnErr, string_bytes};
-ghost use Rattle.commands.specs.Printed.{printed};
+ghost use Rattle.std.specs.Prelude.{◌≡◌, ◌≢◌, ◌++◌, ◌∷◌, [], IfOk, OnErr, string_bytes};
+ghost use Rattle.commands.specs.Printed.{printed, found as found_text, value_text as text_of_value, fault_text as text_of_fault};
 
+use scripts::CalcFault;
 use std::alloc::{AllocError, Global};
 
 /// What a session answers to a command.
@@ -9,10 +10,26 @@ use std::alloc::{AllocError, Global};
 pub enum Answer {
     /// The text was written.
     Written,
+    /// The script has this value, by a kept output (`hit`) or by a run; `kept` says that the run is in the cache
+    /// afterwards.
+    Value {
+        hit: bool,
+        kept: bool,
+        value: Result<i32, CalcFault>,
+    },
     /// The file has so many bytes, by a kept output (`hit`) or by a run.
     Size { hit: bool, bytes: u64 },
+    /// The script goes deeper than the session's limit.
+    TooDeep,
     /// There was no memory for the command.
     Memory,
+}
+
+/// What stands before a value: whether it was found in a cache.
+fn found(hit: bool) -> &'static str
+    ensures { result.now ≡ found_text hit }
+{
+    if hit { "hit " } else { "miss " }
 }
 
 impl Answer {
@@ -23,11 +40,42 @@ impl Answer {
         ensures ok { IfOk result (λ text. string_bytes text ≡ printed self.now) }
         ensures err { OnErr result (self.now ≢ Answer.Written) }
     {
-        match self {
+        match *self {
             Answer::Written => Ok(String::new(alloc)),
-            Answer::Size { hit: true, bytes } => format!(in alloc; "hit {bytes}\n"),
-            Answer::Size { hit: false, bytes } => format!(in alloc; "miss {bytes}\n"),
+            Answer::Value { hit, value, .. } => value_text(alloc, found(hit), value),
+            Answer::Size { hit, bytes } => {
+                let found = found(hit);
+                format!(in alloc; "{found}{bytes}\n")
+            }
+            Answer::TooDeep => String::from_str(alloc, "too deep\n"),
             Answer::Memory => String::from_str(alloc, "out of memory\n"),
+        }
+    }
+}
+
+/// What stands for a number where a script has none.
+fn fault_text(fault: CalcFault) -> &'static str
+    ensures { result.now ≡ text_of_fault fault }
+{
+    match fault {
+        CalcFault::NotANumber => "not a number",
+        CalcFault::Overflow => "overflow",
+    }
+}
+
+/// The line of a script's value.
+fn value_text(
+    alloc: Global,
+    found: &str,
+    value: Result<i32, CalcFault>,
+) -> Result<String, AllocError>
+    ensures { IfOk result (λ text. string_bytes text ≡ found.now ++ text_of_value value ++ 10 ∷ []) }
+{
+    match value {
+        Ok(number) => format!(in alloc; "{found}{number}\n"),
+        Err(fault) => {
+            let fault = fault_text(fault);
+            format!(in alloc; "{found}{fault}\n")
         }
     }
 }

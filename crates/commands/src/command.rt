@@ -9,6 +9,8 @@ use std::alloc::{AllocError, Global};
 pub enum Command {
     /// Writes a text to the file at a path: the path, then the text.
     Write(String, String),
+    /// Asks for the value of a script.
+    Eval(String),
     /// Asks for the size of the file at a path.
     Size(String),
 }
@@ -17,8 +19,8 @@ impl Command {
     /// The command that a line asks for, or `None` where it asks for nothing. The line comes without its end.
     ///
     /// `write PATH TEXT` has as PATH all up to the next blank, at least one character, and as TEXT all after that blank,
-    /// which is empty where there is none. `size PATH` has all after its first blank, which may be nothing. An error says
-    /// that there was no memory for the path or the text. It takes time for the line's length.
+    /// which is empty where there is none. `eval SCRIPT` and `size PATH` have all after their first blank, which may be nothing. An error says
+    /// that there was no memory for its texts. It takes time for the line's length.
     pub fn parse(alloc: Global, line: &str) -> Result<Option<Command>, AllocError>
         ensures { IfOk result (λ found. MatchOption found (IsNoCommand line.now) (λ command. IsLineOf line.now (request_of command))) }
     {
@@ -30,6 +32,10 @@ impl Command {
             let path = String::from_str(alloc, path)?;
             let text = String::from_str(alloc, text)?;
             return Ok(Some(Command::Write(path, text)));
+        }
+        if let Some(script) = line.strip_prefix("eval ") {
+            let script = String::from_str(alloc, script)?;
+            return Ok(Some(Command::Eval(script)));
         }
         let Some(path) = line.strip_prefix("size ") else {
             return Ok(None);

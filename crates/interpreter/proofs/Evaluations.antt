@@ -9,6 +9,9 @@ use Rattle.comemo.proofs.Told.{told_answer, told_pairs}
 use Rattle.scripts.specs.Meaning.{Means, Deep, PartMeans, is_eval}
 use Rattle.scripts.specs.Parts.{IsEval}
 use Rattle.scripts.specs.declared.outcome.Outcome.{Outcome}
+use Rattle.std.specs.HashMap.{HashMap}
+use Rattle.interpreter.specs.Files.{text_of, answer_of}
+use Rattle.interpreter.specs.Sessions.{Reads, texts_of}
 use Rattle.interpreter.specs.declared.evaluation.EvalFault.{EvalFault}
 use Rattle.interpreter.specs.Evaluations.{At, ComesTo, PartComesTo, CallsDeep, Learnt}
 use Rattle.interpreter.specs.declared.files.FileCall.{FileCall}
@@ -46,3 +49,7 @@ fault_or d (Err f) = f
 pub handed_on : {A : Type 0} (r : Result A EvalFault) (f g : EvalFault) → IsErrAnd r (λ e. e ≡ f) → r ≡ Err g → f ≡ g
 handed_on (Ok x) f g h e = absurd h
 handed_on (Err x) f g h e = sym h ∙ ap (fault_or f) e
+
+-- what is answered when a path is read is the text there
+pub reads : {H : Type 0} (texts : HashMap (String Global) (String Global) H) (missing : String Global) (path text : List ℕ) → At (answer_of texts missing) path text → Reads (texts_of texts missing) path text
+reads texts missing path text (own, named, gives) = subst (λ p. string_bytes (text_of texts missing p) ≡ text) named gives

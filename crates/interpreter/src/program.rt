@@ -25,8 +25,9 @@ impl Session for State {
 
 /// Reads lines, carries out the command of each, and writes what it is answered, until the input ends.
 ///
-/// A session begins with no files. `write PATH TEXT` prints nothing; `size PATH` prints `miss N` or `hit N`, N the bytes of
-/// the file; any other line that isn't empty prints `bad command`; and a command that found no memory `out of memory`. How
+/// A session begins with no files. `write PATH TEXT` prints nothing; `eval SCRIPT` prints `miss V` or `hit V`, V
+/// the script's number, `not a number` or `overflow`, or `too deep` where it is higher than 128; `size PATH` prints
+/// `miss N` or `hit N`, N the bytes of the file; any other line that isn't empty prints `bad command`; and a command that found no memory `out of memory`. How
 /// lines end, which fault comes when, what stands then and what it costs is as in `lines::run`.
 pub fn run<R: BufRead + Drop, W: Write>(
     alloc: Global,

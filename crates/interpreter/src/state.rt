@@ -1,20 +1,32 @@
 //! The state of a session, and what it answers to a command.
 ghost use Rattle.std.specs.Prelude.{◌≡◌, ℕ, List, []};
-ghost use Rattle.commands.specs.Requests.{request_of, size as size_of};
-ghost use Rattle.interpreter.specs.Sessions.{texts_of, Answers};
+ghost use Rattle.commands.specs.Requests.{request_of, eval as eval_of, size as size_of};
+ghost use Rattle.interpreter.specs.Sessions.{in_cache, texts_of, Answers};
 
 use crate::files::Files;
+use crate::evaluation::{Eval, EvalFault, evaluate};
 use crate::measure::{FileSize, size};
 use commands::{Answer, Command};
 use comemo::{CacheData, How, Reply, Top, Track};
 use std::alloc::Global;
+
+/// The greatest height of a script that a session evaluates.
+const HEIGHT_LIMIT: u64 = 128;
 
 /// What a session knows between two commands: its files, and what its memoized functions gave.
 #[derive(Drop)]
 pub struct State {
     pub(crate) alloc: Global,
     pub(crate) files: Files,
+    pub(crate) evaluated: CacheData<Eval>,
     pub(crate) sizes: CacheData<FileSize>,
+}
+
+/// Whether the run is in the cache after a call that ended so.
+fn is_kept(how: How) -> bool
+    ensures { result ≡ in_cache how }
+{
+    matches!(how, How::Hit | How::Stored | How::AlreadyExists)
 }
 
 impl State {
@@ -25,6 +37,7 @@ impl State {
         State {
             alloc,
             files: Files::new(alloc),
+            evaluated: CacheData::new(alloc),
             sizes: CacheData::new(alloc),
         }
     }
@@ -41,7 +54,25 @@ impl State {
                 Ok(()) => Answer::Written,
                 Err(_) => Answer::Memory,
             },
+            Command::Eval(script) => self.value_of(script.as_str()),
             Command::Size(path) => self.size_at(path.as_str()),
+        }
+    }
+
+    /// The value of a script.
+    fn value_of(&mut self, script: &str) -> Answer
+        ensures { Answers (texts_of self.old.files.texts self.old.files.missing) (eval_of script.now) result (texts_of self.new.files.texts self.new.files.missing) }
+    {
+        let view = self.files.track();
+        let cache = &mut self.evaluated;
+        match evaluate(self.alloc, cache, &view, script, HEIGHT_LIMIT, &mut Top::new()) {
+            Ok(Reply { output, how }) => Answer::Value {
+                hit: how == How::Hit,
+                kept: is_kept(how),
+                value: output.value,
+            },
+            Err(EvalFault::TooDeep) => Answer::TooDeep,
+            Err(EvalFault::Memory) => Answer::Memory,
         }
     }
 
