@@ -58,7 +58,7 @@ Answers before (size path) answer.Memory after = Same before after
 
 -- what a list of requests is answered, one after the other
 abbrev pub AnswersEach : Texts → List Request → List Answer → Texts → Type 0
-AnswersEach before [] [] after = Same before after
+AnswersEach before [] [] after = after ≡ before
 AnswersEach before [] (a ∷ rest) after = ⊥
 AnswersEach before (r ∷ rs) [] after = ⊥
 AnswersEach before (r ∷ rs) (a ∷ rest) after = (mid : Texts) × Answers before r a mid × AnswersEach mid rs rest after

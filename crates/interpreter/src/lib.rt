@@ -5,6 +5,7 @@ pub mod evaluation;
 pub mod files;
 pub mod measure;
 pub mod program;
+pub mod sessions;
 pub mod state;
 
 pub use commands::{Answer, Command};
@@ -14,6 +15,7 @@ pub use lines::RunFault;
 pub use measure::{FileSize, size};
 pub use program::{run, start};
 pub use scripts::{CalcFault, Outcome};
+pub use sessions::session;
 pub use state::State;
 
 #[cfg(test)]

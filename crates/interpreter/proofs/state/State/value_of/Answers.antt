@@ -9,8 +9,8 @@ use Rattle.interpreter.proofs.state.State.value_of.Goals as goal
 pub returns-in-Ok : goal.returns-in-Ok
 returns-in-Ok c =
     let files = c.args.self.now.files in
-    let (means, low) = rw c.track-view.ensures at c.in-Ok.ensures.outcome in
-    ((c.in-Ok.field-0.output.height, means_map (At (answer_of files.texts files.missing)) (Reads (texts_of files.texts files.missing)) (reads files.texts files.missing) means, low), λ path. refl)
+    let (meaning, low) = rw c.track-view.ensures at c.in-Ok.ensures.outcome in
+    ((c.in-Ok.field-0.output.height, means_map (At (answer_of files.texts files.missing)) (Reads (texts_of files.texts files.missing)) (reads files.texts files.missing) meaning, low), λ path. refl)
 
 pub returns-in-Err-TooDeep : goal.returns-in-Err-TooDeep
 returns-in-Err-TooDeep c =

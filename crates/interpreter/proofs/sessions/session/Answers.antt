@@ -1,0 +1,12 @@
+use Rattle.std.proofs.Common.{arith}
+use Rattle.interpreter.proofs.EachAnswer.{next_command}
+use Rattle.interpreter.proofs.sessions.session.Goals as goal
+
+pub loop-command-preserved : goal.loop-command-preserved
+loop-command-preserved c =
+    let i = c.loop-command.invariant in
+    record {
+      long = omega (arith, c.push_reserved.ensures.len, i.long);
+      room = omega (arith, c.push_reserved.ensures.capacity, i.room);
+      each = next_command _ _ _ c.args.commands.now c.loop-command.command-index c.command-item.result _ _ _ c.loop-command-test.true c.command-item.is c.push_reserved.ensures.items i.each c.answer_to.ensures;
+    }

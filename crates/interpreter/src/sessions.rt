@@ -1,0 +1,33 @@
+//! A whole session: a list of commands to the list of their answers.
+ghost use Rattle.std.specs.Prelude.{◌≡◌, ℕ, List, [], map, IfOk};
+ghost use Rattle.commands.specs.Requests.{request_of};
+ghost use Rattle.interpreter.specs.Sessions.{Texts, texts_of, Answers, AnswersEach};
+
+use crate::state::State;
+use commands::{Answer, Command};
+use std::alloc::{AllocError, Global};
+
+/// Carries out a clone of a command.
+fn answer_to(state: &mut State, command: &Command) -> Answer
+    ensures { Answers (texts_of state.old.files.texts state.old.files.missing) (request_of command.now) result (texts_of state.new.files.texts state.new.files.missing) }
+{
+    match command.clone() {
+        Ok(command) => state.carry_out(command),
+        Err(_) => Answer::Memory,
+    }
+}
+
+/// Carries out commands one after the other, from no files and nothing kept, and gives the answer of each.
+///
+/// An error says that there was no memory for the list of answers; then no command was carried out. A command that found
+/// no memory is answered by `Answer::Memory`, and the next one goes on.
+pub fn session(alloc: Global, commands: &[Command]) -> Result<Vec<Answer>, AllocError>
+    ensures { IfOk result (λ answers. (before after : Texts) × ((path : List ℕ) → before path ≡ []) × AnswersEach before (map request_of commands.now) answers.items after) }
+{
+    let mut answers = Vec::with_capacity(alloc, commands.len())?;
+    let mut state = State::new(alloc);
+    for command in commands {
+        answers.push_reserved(answer_to(&mut state, command));
+    }
+    Ok(answers)
+}
