@@ -45,6 +45,9 @@ module _ {K C R O : Type 0} {eq : C → C → Bool} {same : R → R → Bool} {e
     came_by_ends cloned mid es' output how.NotStored e d = record { none = is.none; own = begun.key; has_key = is.has_key; pairs = pairs; ends = e; disabled = rw (← is.is_enabled) d }
     came_by_ends cloned mid es' output how.Disabled e d = record { none = is.none; own = begun.key; has_key = is.has_key; pairs = pairs; ends = e; disabled = rw (← is.is_enabled) d }
 
+    pub came_by_reply : (cloned : O → O → Type 0) (mid es' : List (Stored K C R (Output O C))) (output : O) (reply : Reply O) → reply.output ≡ output → Ends eq same eqk cloned mid begun.key pairs output reply.how es' → (reply.how ≡ how.Disabled) ↔ (begun.enabled ≡ false) → Came eq same eqk cloned key m enabled reply.output es mid reply.how es'
+    came_by_reply cloned mid es' output reply o e d = subst (λ x. Came eq same eqk cloned key m enabled x es mid reply.how es') (sym o) (came_by_ends cloned mid es' output reply.how e d)
+
     pub came_by_run : {E : Type 0} (cloned : O → O → Type 0) (mid es' : List (Stored K C R (Output O C))) (output : O) (r : Result (Reply O) E) → IfOk r (λ reply. reply.output ≡ output) → IfOk r (λ reply. Ends eq same eqk cloned mid begun.key pairs output reply.how es') → IfOk r (λ reply. (reply.how ≡ how.Disabled) ↔ (begun.enabled ≡ false)) → IfOk r (λ reply. Came eq same eqk cloned key m enabled reply.output es mid reply.how es')
-    came_by_run cloned mid es' output (Ok reply) o e d = subst (λ x. Came eq same eqk cloned key m enabled x es mid reply.how es') (sym o) (came_by_ends cloned mid es' output reply.how e d)
+    came_by_run cloned mid es' output (Ok reply) o e d = came_by_reply cloned mid es' output reply o e d
     came_by_run cloned mid es' output (Err x) o e d = tt

@@ -1,7 +1,11 @@
 -- What a script comes to, by what its files answer.
-use Rattle.std.specs.Prelude.{◌≡◌, Bool, ℕ, List, String, string_bytes, string_eq}
+use Rattle.std.specs.Prelude.{◌≡◌, Bool, true, ℕ, List, String, string_bytes, string_eq}
 use Rattle.std.specs.Global.{Global}
 use Rattle.comemo_base.specs.Answers.{Respects, Agrees}
+use Rattle.comemo_base.specs.Tree.{Stored}
+use Rattle.comemo.specs.Cache.{Output}
+use Rattle.comemo.specs.Called.{Came, Grows}
+use Rattle.comemo.specs.declared.finish.How.{How}
 use Rattle.comemo.specs.Recording.{Recording}
 use Rattle.scripts.specs.Meaning.{Means, PartMeans, Deep}
 use Rattle.scripts.specs.Parts.{IsEval}
@@ -30,3 +34,13 @@ CallsDeep m part limit = (path text : List ℕ) × IsEval part path × At m path
 abbrev pub Learnt : (FileCall → FileCall → Bool) → (FileCall → String Global) → Recording FileCall (String Global) → Recording FileCall (String Global) → ((FileCall → String Global) → Type 0) → Type 0
 Learnt eq m before after P =
     Agrees string_eq m after.pairs × ((n : FileCall → String Global) → Respects eq string_eq n → Agrees string_eq n after.pairs → Agrees string_eq n before.pairs × P n)
+
+-- what a cache of outcomes keeps
+abbrev pub Outcomes : Type 0
+Outcomes = List (Stored (String Global) FileCall (String Global) (Output Outcome FileCall))
+
+-- by which way the outcome of a script came: from an entry of es that agrees with m; or none of them did, and the run ended
+-- so, after which the entries are es'. The scripts that the run called may have added some first
+abbrev pub OutcomeCame : (FileCall → FileCall → Bool) → (Outcome → Outcome → Type 0) → (FileCall → String Global) → List ℕ → Outcomes → Outcome → How → Outcomes → Type 0
+OutcomeCame eq cloned m script es outcome how es' =
+    (key : String Global) × (mid : Outcomes) × (string_bytes key ≡ script) × Grows es mid × Came eq string_eq string_eq cloned key m true outcome es mid how es'

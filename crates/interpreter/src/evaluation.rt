@@ -9,7 +9,7 @@ ghost use Rattle.comemo.specs.Called.{Gave, Came, Grows};
 ghost use Rattle.scripts.specs.Kinds.{IsPart};
 ghost use Rattle.scripts.specs.Meaning.{Deep};
 ghost use Rattle.interpreter.specs.Files.{answer_of};
-ghost use Rattle.interpreter.specs.Evaluations.{At, ComesTo, PartComesTo, CallsDeep, Learnt};
+ghost use Rattle.interpreter.specs.Evaluations.{At, ComesTo, PartComesTo, CallsDeep, Learnt, OutcomeCame};
 
 use crate::files::{FileCall, Files};
 use crate::measure::read_text;
@@ -218,6 +218,7 @@ pub fn evaluate<S: Sink<Call = FileCall, Answer = String>>(
     ensures outcome { IfOk result (λ reply. ComesTo (answer_of files.now.texts files.now.missing) script.now reply.output × (reply.output.height ≤ limit)) }
     ensures gave { IfOk result (λ reply. (key : String Global) × (string_bytes key ≡ script.now)
         × Gave ⟦<FileCall as PartialEq>⟧.eq string_eq ⟦<Eval as Memo>⟧.def S.took key (answer_of files.now.texts files.now.missing) sink.old reply.output sink.new) }
+    ensures came { IfOk result (λ reply. OutcomeCame ⟦<FileCall as PartialEq>⟧.eq ⟦<Outcome as Clone>⟧.is_clone (answer_of files.now.texts files.now.missing) script.now cache.old reply.output reply.how cache.new) }
     ensures deep { result ≡ Err EvalFault.TooDeep → Deep (At (answer_of files.now.texts files.now.missing)) script.now limit }
     ensures grows { Grows cache.old cache.new }
     ensures err { OnErr result (S.spoils sink.old sink.new) }

@@ -1,5 +1,6 @@
-use Rattle.comemo.proofs.Calls.{gave_at_key}
-use Rattle.comemo.proofs.Growing.{grows_on}
+use Rattle.std.proofs.Common.{refl}
+use Rattle.comemo.proofs.Calls.{gave_at_key, came_by_reply}
+use Rattle.comemo.proofs.Growing.{grows_on, grows_not}
 use Rattle.interpreter.proofs.FileCalls.{answers_alike}
 use Rattle.interpreter.proofs.evaluation.evaluate.Goals as goal
 
@@ -17,3 +18,13 @@ returns-in-Ok-finish-clause-gave g c =
 pub returns-in-Ok-finish-clause-grows : goal.returns-in-Ok-finish-clause-grows
 returns-in-Ok-finish-clause-grows g c =
     grows_on _ _ _ (rw c.in_ok-output.ensures.unchanged at c.in-Ok.ensures.grows) c.finish.ensures.grows
+
+pub returns-in-Hit-clause-came : goal.returns-in-Hit-clause-came
+returns-in-Hit-clause-came g c =
+    let (key, same, hit) = rw c.in-Hit.is at c.in_ok-output.ensures.begun in
+    (key, c.args.cache.now, same, grows_not _ _ refl, hit.2)
+
+pub returns-in-Ok-finish-clause-came : goal.returns-in-Ok-finish-clause-came
+returns-in-Ok-finish-clause-came g c =
+    let (key, same, run) = rw c.in-Run.is at c.in_ok-output.ensures.begun in
+    (key, c.run_script.new.cache, same, rw c.in_ok-output.ensures.unchanged at c.in-Ok.ensures.grows, came_by_reply run.2 _ _ _ _ _ c.in-Ok-finish.reply (rw c.in-Ok-finish.is at c.finish.ensures.output) (rw c.in-Ok-finish.is at c.finish.ensures.ends) (rw c.in-Ok-finish.is at c.finish.ensures.disabled))
