@@ -1,4 +1,5 @@
 pub mod Recordings
+pub mod Absorbing
 pub mod Entries
 pub mod NewPath
 pub mod Sendings

@@ -13,7 +13,7 @@ or_turned true false = refl
 or_turned false true = refl
 or_turned false false = refl
 
-held-push : {C R : Type 0} (eq : C → C → Bool) (ps : List (C × R)) (call : C) (answer : R) (other : C) → held eq (ps ++ (call, answer) ∷ []) other ≡ (held eq ps other || eq other call)
+pub held-push : {C R : Type 0} (eq : C → C → Bool) (ps : List (C × R)) (call : C) (answer : R) (other : C) → held eq (ps ++ (call, answer) ∷ []) other ≡ (held eq ps other || eq other call)
 held-push eq [] call answer other = elim (cases_Bool (eq other call)) [ inl a ↦ rw a refl | inr a ↦ rw a refl ]
 held-push eq (p ∷ ps) call answer other = elim (cases_Bool (eq other p.0)) [ inl a ↦ rw a refl | inr a ↦ rw a (held-push eq ps call answer other) ]
 

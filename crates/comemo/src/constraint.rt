@@ -1,7 +1,7 @@
 //! Recordings: what a run asked, and what it did.
-ghost use Rattle.std.specs.Prelude.{◌≡◌, [], ◌∷◌, ◌++◌, Bool, true, false, IsTrue, IfOk, OnOk, OnErr, not, is_none};
+ghost use Rattle.std.specs.Prelude.{◌≡◌, ◌&&◌, [], ◌∷◌, ◌++◌, Bool, true, false, IsTrue, IfOk, OnOk, OnErr, not, is_none};
 ghost use Rattle.std.specs.List.{All};
-ghost use Rattle.comemo.specs.Recording.{held, Took};
+ghost use Rattle.comemo.specs.Recording.{held, absorbed, Took};
 ghost use Rattle.comemo.specs.Sending.{sent_pairs, sent_writes};
 
 use crate::track::{Call, Sink};
@@ -64,6 +64,27 @@ impl<C: Call, R> Constraint<C, R> {
     {
         let Constraint { reads, whole: _ } = self;
         reads
+    }
+}
+
+impl<C: Call, R: Drop> Constraint<C, R> {
+    /// Adds what another recording holds: its reads whose calls aren't held, in their order, and its writes after the own
+    /// ones. Of a read that is held the own answer stays. Where the other is spoiled this one is spoiled too.
+    ///
+    /// Where there is no memory it answers `AllocError`: then reads and writes stay as they were and the recording is
+    /// spoiled, since the other is gone. It takes the room for all reads of the other at once, clones nothing, and takes
+    /// constant expected time for each of them. comemo's `Constraint` has nothing like it.
+    pub fn absorb(&mut self, other: Constraint<C, R>) -> Result<(), AllocError>
+        ensures pairs { OnOk result (self.new.pairs ≡ absorbed C.eq self.old.pairs other.pairs) }
+        ensures writes { OnOk result (self.new.writes ≡ self.old.writes ++ other.writes) }
+        ensures whole { OnOk result (self.new.whole ≡ (self.old.whole && other.whole)) }
+        ensures err { OnErr result ((self.new.pairs ≡ self.old.pairs) × (self.new.writes ≡ self.old.writes) × (self.new.whole ≡ false)) }
+    {
+        let Constraint { reads, whole } = other;
+        reads.has_distinct_calls();
+        let absorbed = self.reads.absorb(reads);
+        self.whole = self.whole && whole && absorbed.is_ok();
+        absorbed
     }
 }
 

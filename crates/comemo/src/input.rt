@@ -8,6 +8,7 @@ use crate::track::{Call, Track, Tracked};
 use comemo_base::CallTree;
 use std::alloc::AllocError;
 use std::hash::Hash;
+use std::marker::Model;
 
 /// An input of a memoized function.
 ///
@@ -97,6 +98,129 @@ impl<'a, K: Clone + Eq + Hash, T: Track> Input for Keyed<'a, K, T> {
 
     fn call(&mut self, call: &T::Call) -> Result<T::Answer, AllocError> {
         self.view.call(call)
+    }
+}
+
+/// A view: an input with no key, whose calls and answers are the view's. Lent as `&mut`, it is its caller's again after a
+/// look-up. The key takes no memory; an answer is refused where the value refuses it.
+///
+/// comemo's `Input` for `Tracked`.
+impl<'a, T: Track> Input for Tracked<'a, T> {
+    type Call = T::Call;
+
+    type Key = ();
+
+    type Answer = T::Answer;
+
+    ghost key_of = { λ _. tt };
+
+    ghost answers = { λ s. T.answers s };
+
+    ghost did = { λ s _ t. t ≡ s };
+
+    ghost alike = { λ s. T.alike s };
+
+    ghost starts = { λ _. refl };
+
+    ghost joins = { λ s t u V W a b. b ∙ a };
+
+    ghost keeps = { λ s t W a call. ap (λ x. T.answers x call) a };
+
+    ghost keeps_key = { λ _ _ _ _. refl };
+
+    fn key(&self) -> Result<(), AllocError> {
+        Ok(())
+    }
+
+    fn call(&mut self, call: &T::Call) -> Result<T::Answer, AllocError> {
+        self.call(call)
+    }
+}
+
+/// A reference to a view: an input like the view itself, for a place where the view can't be moved to.
+///
+/// A proof that hands in a reference to such a reference knows nothing of the view behind it afterwards; one that lends the
+/// view itself does. It takes what the view takes. comemo has `Input` for `Tracked` alone, which is `Copy` there.
+impl<'a, T: Track> Input for &mut Tracked<'a, T> {
+    type Call = T::Call;
+
+    type Key = ();
+
+    type Answer = T::Answer;
+
+    ghost key_of = { λ _. tt };
+
+    ghost answers = { λ s. T.answers s.now };
+
+    ghost did = { λ s _ t. (t.now ≡ s.now) × (t.ghost_name ≡ s.ghost_name) };
+
+    ghost alike = { λ s. T.alike s.now };
+
+    ghost starts = { λ s. (refl, refl) };
+
+    ghost joins = { λ s t u V W a b. (b.0 ∙ a.0, b.1 ∙ a.1) };
+
+    ghost keeps = { λ s t W a call. ap (λ x. T.answers x call) a.0 };
+
+    ghost keeps_key = { λ s t W a. refl };
+
+    fn key(&self) -> Result<(), AllocError> {
+        Ok(())
+    }
+
+    fn call(&mut self, call: &T::Call) -> Result<T::Answer, AllocError> {
+        let mut view = self.fork();
+        view.call(call)
+    }
+}
+
+/// A value that isn't tracked: an input that is a key alone, told from others by its `Eq`. Contracts see it as the value.
+///
+/// Its one call is `()`, whose answer tells nothing. To make one, a clone of the value has to be equal to it. It takes
+/// the memory of that clone, and is refused where the clone is. comemo's `Input` for each type that can be hashed, which
+/// keeps the value's hash where this keeps the value.
+#[derive(Drop)]
+pub struct Hashed<T: Clone + Eq + Hash>(pub T);
+
+impl<T: Clone + Eq + Hash> Model for Hashed<T> {
+    ghost Value = { T };
+
+    ghost coded = { T.code };
+
+    ghost view = { λ s. s.0 };
+
+    ghost invariant = { λ _. (x y : T) → T.is_clone x y → IsTrue (T.eq x y) };
+}
+
+impl<T: Clone + Eq + Hash> Input for Hashed<T> {
+    type Call = ();
+
+    type Key = T;
+
+    type Answer = ();
+
+    ghost key_of = { λ s. s };
+
+    ghost answers = { λ _ _. tt };
+
+    ghost did = { λ s _ t. t ≡ s };
+
+    ghost alike = { λ _ _ _ _. refl };
+
+    ghost starts = { λ _. refl };
+
+    ghost joins = { λ s t u V W a b. b ∙ a };
+
+    ghost keeps = { λ _ _ _ _ _. refl };
+
+    ghost keeps_key = { λ s t W a. a };
+
+    fn key(&self) -> Result<T, AllocError> {
+        self.0.clone()
+    }
+
+    fn call(&mut self, _call: &()) -> Result<(), AllocError> {
+        Ok(())
     }
 }
 

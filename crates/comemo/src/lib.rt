@@ -12,6 +12,6 @@ pub mod track;
 pub use begin::{Begun, Fault, Pending};
 pub use constraint::Constraint;
 pub use finish::{How, Reply};
-pub use input::{Input, Keyed};
+pub use input::{Hashed, Input, Keyed};
 pub use memoize::{CacheData, Found, Memo};
 pub use track::{Call, Sink, Top, Track, Tracked};

@@ -1,5 +1,6 @@
 //! Tracked values, the calls that they answer, and what takes note of the calls.
 ghost use Rattle.std.specs.Prelude.{◌≡◌, [], ◌∷◌, ◌++◌, List, Bool, true, false, not, is_none, IsTrue, IfOk, OnOk, OnErr, ⊤, refl};
+ghost use Rattle.std.proofs.Common.{◌∙◌};
 ghost use Rattle.comemo_base.specs.Answers.{Respects};
 ghost use Rattle.comemo.specs.Sending.{sent_pairs, sent_writes, Asks};
 
@@ -81,6 +82,41 @@ pub trait Sink {
 
     // a sink that took something and then was spoiled is spoiled
     ghost ends: { (s t u : Self) (P : List (Self.Call × Self.Answer)) (V : List Self.Call) → took s P V t → spoils t u → spoils s u };
+}
+
+/// A sink by reference: what it is sent goes to the sink that it refers to. It takes no memory of its own.
+///
+/// comemo has this for `&S`.
+impl<S: Sink> Sink for &mut S {
+    type Call = S::Call;
+
+    type Answer = S::Answer;
+
+    ghost took = { λ s P W t. S.took s.now P W t.now × (t.ghost_name ≡ s.ghost_name) };
+
+    ghost spoils = { λ s t. S.spoils s.now t.now × (t.ghost_name ≡ s.ghost_name) };
+
+    ghost holds = { λ s call. S.holds s.now call };
+
+    ghost starts = { λ s. (S.starts s.now, refl) };
+
+    ghost joins = { λ s t u P Q V W a b. (S.joins s.now t.now u.now P Q V W a.0 b.0, b.1 ∙ a.1) };
+
+    ghost ends = { λ s t u P V a b. (S.ends s.now t.now u.now P V a.0 b.0, b.1 ∙ a.1) };
+
+    fn emit(&mut self, call: S::Call, answer: Option<S::Answer>) -> Result<bool, AllocError>
+        requires answered { is_none answer ≡ S.Call.is_write call }
+        requires reads { S.Call.is_write call ≡ false }
+        ensures ok { OnOk result (S.took self.old.now (sent_pairs call answer) (sent_writes call answer) self.new.now × (self.new.ghost_name ≡ self.old.ghost_name)) }
+        ensures new { IfOk result (λ new. new ≡ not (S.holds self.old.now call)) }
+        ensures err { OnErr result (S.took self.old.now [] [] self.new.now × (self.new.ghost_name ≡ self.old.ghost_name)) }
+    {
+        (**self).emit(call, answer)
+    }
+
+    fn spoil(&mut self) {
+        (**self).spoil();
+    }
 }
 
 /// A sink that keeps nothing, for calls that no memoized function stands around. It takes no memory and refuses nothing.

@@ -1,6 +1,6 @@
 -- A sequence of calls with their answers. Calls are told apart by `eq`, and equal ones need not be identical.
-use Rattle.std.specs.Prelude.{◌≡◌, Bool, List, [], ◌∷◌, Option, None, refl}
-use Rattle.std.specs.List.{list_any, filter_map}
+use Rattle.std.specs.Prelude.{◌≡◌, Bool, List, [], ◌∷◌, Option, None, not, refl}
+use Rattle.std.specs.List.{list_any, filter, filter_map}
 use Rattle.std.specs.Map.{lookup}
 use Rattle.std.specs.Coded.{Coded, code_by, coded×, coded_list}
 
@@ -17,6 +17,10 @@ HasDistinctCalls eq (p ∷ ps) = (lookup (eq p.0) ps ≡ None) × HasDistinctCal
 -- whether a call was ever seen
 abbrev pub was_seen : {C R : Type 0} → (C → C → Bool) → Sequence C R → C → Bool
 was_seen eq s call = list_any (eq call) s.seen
+
+-- the pairs whose calls were never seen, in their order
+abbrev pub unseen : {C R : Type 0} → (C → C → Bool) → Sequence C R → List (C × R) → List (C × R)
+unseen eq s ps = filter (λ p. not (was_seen eq s p.0)) ps
 
 -- the pairs that are left in slots, of which some are empty
 abbrev pub remaining : {P : Type 0} → List (Option P) → List P

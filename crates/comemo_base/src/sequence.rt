@@ -1,7 +1,7 @@
 //! A sequence of calls with their answers: what one run of a memoized function asked, each call once.
-ghost use Rattle.std.specs.Prelude.{◌≡◌, ◌||◌, [], ◌∷◌, ◌++◌, not, IsTrue, IfOk, OnErr, MatchOption};
+ghost use Rattle.std.specs.Prelude.{◌≡◌, ◌||◌, [], ◌∷◌, ◌++◌, not, is_some, IsTrue, IfOk, OnOk, OnErr, MatchOption};
 ghost use Rattle.std.specs.Map.{lookup, remove_entry};
-ghost use Rattle.comemo_base.specs.Sequence.{was_seen, remaining, HasDistinctCalls};
+ghost use Rattle.comemo_base.specs.Sequence.{was_seen, unseen, remaining, HasDistinctCalls};
 
 use std::alloc::{AllocError, Global};
 use std::collections::HashMap;
@@ -102,6 +102,43 @@ impl<C: Eq + Hash, R> CallSequence<C, R> {
         let at = *self.places.get(call)?;
         let (_, answer) = self.slots[at].take()?;
         Some(answer)
+    }
+
+    /// Adds, at the end and in their order, the remaining pairs of another sequence whose calls were never seen here. A
+    /// call that was ever seen here, also one that was taken out since, is left out with its answer.
+    ///
+    /// It takes the room for all pairs of the other at once, before it adds the first. Where there is no memory for them
+    /// it answers `AllocError`, with the sequence unchanged, and the other is gone. It clones nothing, and takes constant
+    /// expected time for each call that the other ever saw. comemo's `CallSequence` has nothing like it.
+    pub fn absorb(&mut self, other: CallSequence<C, R>) -> Result<(), AllocError>
+    where
+        C: Drop,
+        R: Drop,
+        ensures pairs { OnOk result (self.new.pairs ≡ self.old.pairs ++ unseen C.eq self.old other.pairs) }
+        ensures seen { OnOk result ((call : C) → was_seen C.eq self.new call ≡ (was_seen C.eq self.old call || is_some (lookup (C.eq call) other.pairs))) }
+        ensures err { OnErr result (self.new ≡ self.old) }
+    {
+        let CallSequence {
+            slots,
+            mut places,
+            cursor: _,
+        } = other;
+        self.slots.reserve(slots.len())?;
+        self.places.reserve(slots.len())?;
+        for slot in slots {
+            let Some(pair) = slot else {
+                continue;
+            };
+            if self.places.contains_key(&pair.0) {
+                continue;
+            }
+            // The key that the other sequence kept of the call, so that none is cloned.
+            let (key, _) = places.remove_entry(&pair.0).unwrap();
+            let at = self.slots.len();
+            let _ = self.places.insert(key, at);
+            self.slots.push_reserved(Some(pair));
+        }
+        Ok(())
     }
 }
 
