@@ -3,6 +3,7 @@
 #![tactic(auto)]
 
 pub mod cells;
+pub mod fibonacci;
 pub mod functions;
 pub mod nested;
 #[cfg(test)]
