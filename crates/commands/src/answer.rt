@@ -18,7 +18,10 @@ pub enum Answer {
         value: Result<i32, CalcFault>,
     },
     /// The file has so many bytes, by a kept output (`hit`) or by a run.
-    Size { hit: bool, bytes: u64 },
+    Size {
+        hit: bool,
+        bytes: u64,
+    },
     /// The script goes deeper than the session's limit.
     TooDeep,
     /// There was no memory for the command.

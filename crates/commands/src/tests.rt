@@ -1,4 +1,5 @@
 use super::*;
+use scripts::CalcFault;
 use std::test::Fail;
 
 #[test]
@@ -52,6 +53,27 @@ fn a_size_has_all_after_its_blank(rt: HostRuntime) -> Result<(), Fail> {
 }
 
 #[test]
+fn an_eval_has_all_after_its_blank(rt: HostRuntime) -> Result<(), Fail> {
+    let alloc = rt.alloc();
+    let cases = [
+        ("eval 1 + 2", "1 + 2"),
+        ("eval ", ""),
+        ("eval  a", " a"),
+        ("eval eval a b", "eval a b"),
+        ("eval 1\t", "1\t"),
+    ];
+    for (line, script) in cases {
+        let script = String::from_str(alloc, script)?;
+        assert_eq!(rt;
+            Command::parse(alloc, line),
+            Ok(Some(Command::Eval(script))),
+            "for {line:?}"
+        );
+    }
+    Ok(())
+}
+
+#[test]
 fn other_lines_are_no_commands(rt: HostRuntime) -> Result<(), Fail> {
     let alloc = rt.alloc();
     let lines = [
@@ -71,6 +93,10 @@ fn other_lines_are_no_commands(rt: HostRuntime) -> Result<(), Fail> {
         " size a",
         "Size a",
         "sizes a",
+        "eval",
+        "eval\t1",
+        "evals 1",
+        " eval 1",
     ];
     for line in lines {
         assert_eq!(rt; Command::parse(alloc, line), Ok(None), "for {line:?}");
@@ -82,12 +108,25 @@ fn other_lines_are_no_commands(rt: HostRuntime) -> Result<(), Fail> {
 fn an_answer_prints_its_text(rt: HostRuntime) -> Result<(), Fail> {
     let alloc = rt.alloc();
     let size = |hit, bytes| Answer::Size { hit, bytes };
+    let value = |hit, kept, value| Answer::Value { hit, kept, value };
     let cases = [
         (Answer::Written, ""),
         (size(true, 5), "hit 5\n"),
         (size(true, 10), "hit 10\n"),
         (size(false, 0), "miss 0\n"),
         (size(false, u64::MAX), "miss 18446744073709551615\n"),
+        (value(false, true, Ok(7)), "miss 7\n"),
+        (value(true, true, Ok(-2_147_483_648)), "hit -2147483648\n"),
+        (value(false, false, Ok(0)), "miss 0\n"),
+        (
+            value(true, true, Err(CalcFault::NotANumber)),
+            "hit not a number\n",
+        ),
+        (
+            value(false, true, Err(CalcFault::Overflow)),
+            "miss overflow\n",
+        ),
+        (Answer::TooDeep, "too deep\n"),
         (Answer::Memory, "out of memory\n"),
     ];
     for (answer, want) in cases {

@@ -19,4 +19,10 @@ pub use sessions::session;
 pub use state::State;
 
 #[cfg(test)]
+mod evaluation_tests;
+#[cfg(test)]
+mod sample_tests;
+#[cfg(test)]
+mod session_tests;
+#[cfg(test)]
 mod tests;

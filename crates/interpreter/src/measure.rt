@@ -1,5 +1,5 @@
 //! The memoized size of a file.
-ghost use Rattle.std.specs.Prelude.{◌≡◌, ℕ, List, [], refl, true, string_bytes, string_eq, String, length, IfOk, OnErr};
+ghost use Rattle.std.specs.Prelude.{◌≡◌, ℕ, List, [], refl, true, string_bytes, string_eq, String, length, IfOk, IfErr, OnErr};
 ghost use Rattle.std.proofs.Common.{rules, ◌∙◌, ap};
 ghost use Rattle.std.specs.Global.{Global};
 ghost use Rattle.comemo.specs.Called.{Gave, Came};
@@ -64,6 +64,7 @@ pub fn size<S: Sink<Call = FileCall, Answer = String>>(
     ensures output { IfOk result (λ reply. reply.output ≡ length (string_bytes (text_of files.now.texts files.now.missing path.now))) }
     ensures gave { IfOk result (λ reply. (key : String Global) × (string_bytes key ≡ path.now) × Gave ⟦<FileCall as PartialEq>⟧.eq string_eq ⟦<FileSize as Memo>⟧.def S.took key (answer_of files.now.texts files.now.missing) sink.old reply.output sink.new) }
     ensures came { IfOk result (λ reply. (key : String Global) × (string_bytes key ≡ path.now) × Came ⟦<FileCall as PartialEq>⟧.eq string_eq string_eq ⟦<u64 as Clone>⟧.is_clone key (answer_of files.now.texts files.now.missing) true reply.output cache.old cache.old reply.how cache.new) }
+    ensures fault { IfErr result (λ fault. fault ≡ Fault.Memory) }
     ensures err { OnErr result ((cache.new ≡ cache.old) × S.spoils sink.old sink.new) }
 {
     let Ok(key) = String::from_str(alloc, path) else {

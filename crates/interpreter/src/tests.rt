@@ -3,6 +3,10 @@ use comemo::{CacheData, Fault, How, Reply, Top, Track};
 use std::alloc::{AllocError, Global};
 use std::test::Fail;
 
+mod sessions;
+mod starts;
+mod states;
+
 /// Writes a text to the file at a path.
 fn put(alloc: Global, files: &mut Files, path: &str, text: &str) -> Result<(), AllocError> {
     let path = String::from_str(alloc, path)?;
