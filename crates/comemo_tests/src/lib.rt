@@ -2,11 +2,16 @@
 //! `comemo` from outside.
 #![tactic(auto)]
 
+pub mod absorbing;
 pub mod cells;
 pub mod functions;
+pub mod inputs;
 pub mod nested;
+#[cfg(test)]
+mod recordings;
 #[cfg(test)]
 mod replies;
 pub mod rows;
 #[cfg(test)]
 mod runs;
+pub mod sinks;
