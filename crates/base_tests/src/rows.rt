@@ -156,6 +156,43 @@ fn a_call_that_was_taken_out_stays_seen(rt: HostRuntime) -> Result<(), Fail> {
     Ok(())
 }
 
+// The remaining pairs of a sequence, in their order.
+fn pairs_of(
+    alloc: Global,
+    sequence: &CallSequence<u8, u128>,
+) -> Result<Vec<(u8, u128)>, AllocError> {
+    let mut pairs = Vec::new(alloc);
+    for (call, answer) in sequence.slots().iter().flatten() {
+        pairs.push((*call, *answer))?;
+    }
+    Ok(pairs)
+}
+
+#[test]
+fn a_sequence_absorbs_what_it_never_saw(rt: HostRuntime) -> Result<(), Fail> {
+    let alloc = rt.alloc();
+    let mut left = sequence_of(alloc, &[(b'a', 1), (b'b', 2)])?;
+    let right = sequence_of(alloc, &[(b'b', 9), (b'c', 3)])?;
+    left.absorb(right)?;
+    assert_eq!(rt;
+        pairs_of(alloc, &left)?.as_slice(),
+        [(b'a', 1), (b'b', 2), (b'c', 3)].as_slice()
+    );
+    assert!(rt; !left.insert(b'c', 4)?);
+    // What was taken out of the one stays seen; what was taken out of the other is not absorbed.
+    assert_eq!(rt; left.extract(&b'b'), Some(2));
+    let mut other = sequence_of(alloc, &[(b'd', 4), (b'b', 9), (b'e', 5)])?;
+    assert_eq!(rt; other.extract(&b'd'), Some(4));
+    left.absorb(other)?;
+    assert_eq!(rt;
+        pairs_of(alloc, &left)?.as_slice(),
+        [(b'a', 1), (b'c', 3), (b'e', 5)].as_slice()
+    );
+    assert!(rt; left.insert(b'd', 6)?);
+    assert!(rt; !left.insert(b'e', 6)?);
+    Ok(())
+}
+
 #[test]
 fn entries_and_remaining_pairs_are_counted(rt: HostRuntime) -> Result<(), Fail> {
     let alloc = rt.alloc();
@@ -165,10 +202,9 @@ fn entries_and_remaining_pairs_are_counted(rt: HostRuntime) -> Result<(), Fail> 
     assert_eq!(rt; tree.len(), 1);
     let mut sequence = sequence_of(alloc, &[(b'a', 1), (b'b', 2), (b'c', 3)])?;
     assert_eq!(rt; sequence.extract(&b'b'), Some(2));
-    let mut left = Vec::new(alloc);
-    for (call, answer) in sequence.slots().iter().flatten() {
-        left.push((*call, *answer))?;
-    }
-    assert_eq!(rt; left.as_slice(), [(b'a', 1), (b'c', 3)].as_slice());
+    assert_eq!(rt;
+        pairs_of(alloc, &sequence)?.as_slice(),
+        [(b'a', 1), (b'c', 3)].as_slice()
+    );
     Ok(())
 }

@@ -15,6 +15,10 @@ by_call m at = m (record { at = at })
 abbrev pub same_place : Place → Place → Bool
 same_place p q = nat_eq p.at q.at
 
+-- the call at a place
+abbrev pub at_place : ℕ → Place
+at_place at = record { at = at }
+
 -- what a row of these numbers answers
 abbrev pub numbers : List ℕ → Place → ℕ
 numbers items place = slice_index items place.at

@@ -2,12 +2,17 @@
 //! `comemo` from outside.
 #![tactic(auto)]
 
+pub mod absorbing;
 pub mod cells;
 pub mod fibonacci;
 pub mod functions;
+pub mod inputs;
 pub mod nested;
+#[cfg(test)]
+mod recordings;
 #[cfg(test)]
 mod replies;
 pub mod rows;
 #[cfg(test)]
 mod runs;
+pub mod sinks;

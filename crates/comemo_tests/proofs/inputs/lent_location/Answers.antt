@@ -1,0 +1,7 @@
+use Rattle.std.proofs.Common.{rules}
+use Rattle.comemo_tests.proofs.inputs.lent_location.Goals as goal
+
+pub returns-in-Hit-clause-output : goal.returns-in-Hit-clause-output
+returns-in-Hit-clause-output g c =
+    let hit = rw c.in-Hit.is at c.in_ok-output.ensures.begun in
+    hit.stands _ (λ x y h. search rules) hit.agrees

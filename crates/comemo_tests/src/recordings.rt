@@ -1,0 +1,173 @@
+//! Recordings that absorb, sinks and views by reference, and a value as an input.
+ghost use Rattle.std.proofs.Common.{rules};
+
+use crate::absorbing::absorbed_row;
+use crate::cells::{Context, Place, Row};
+use crate::functions::LocationMemo;
+use crate::inputs::{SquareMemo, lent_location, look_location, square};
+use crate::sinks::{lose_by_reference, send_by_reference};
+use comemo::begin::begin;
+use comemo::{Begun, CacheData, Constraint, Fault, How, Memo, Pending, Reply, Sink, Top, Track};
+use std::alloc::{AllocError, Global};
+use std::process::Abort;
+use std::test::Fail;
+
+/// A function of a row of which any output is right.
+struct AnyRowMemo;
+
+impl Memo for AnyRowMemo {
+    type Call = Place;
+
+    type Key = ();
+
+    type Answer = u64;
+
+    type Out = u64;
+
+    ghost def = { λ _ _ _ _. Unit {0} };
+
+    ghost output_clones = { Prim.search rules };
+
+    ghost key_alike = { Prim.search rules };
+
+    ghost key_clones = { λ x y h. Prim.search rules };
+
+    ghost answer_clones = { λ x y h. Prim.search rules };
+}
+
+#[test]
+fn a_recording_absorbs_another(rt: HostRuntime) -> Result<(), Fail> {
+    let mut recording = absorbed_row(rt.alloc(), false)?;
+    assert!(rt; recording.is_whole());
+    for (at, new) in [(1, false), (2, false), (3, false), (4, true)] {
+        assert_eq!(rt; recording.emit(Place { at }, Some(7))?, new, "{at}");
+    }
+    Ok(())
+}
+
+#[test]
+fn a_spoiled_recording_spoils_the_one_that_absorbs_it(rt: HostRuntime) -> Result<(), Fail> {
+    let recording = absorbed_row(rt.alloc(), true)?;
+    assert!(rt; !recording.is_whole());
+    Ok(())
+}
+
+// The call of a row, by a view that is lent.
+fn begin_row(
+    alloc: Global,
+    cache: &mut CacheData<AnyRowMemo>,
+    row: &Row,
+) -> Result<Begun<AnyRowMemo>, Fault> {
+    begin(alloc, cache, &mut row.track(), &mut Top::new(), true)
+}
+
+// A run that read two places itself and absorbed a recording of two.
+fn run_absorbing(alloc: Global, pending: &mut Pending<AnyRowMemo>) -> Result<(), AllocError> {
+    let _ = pending.recording().emit(Place { at: 0 }, Some(1))?;
+    let _ = pending.recording().emit(Place { at: 1 }, Some(2))?;
+    let mut other = Constraint::new(alloc);
+    let _ = other.emit(Place { at: 1 }, Some(9))?;
+    let _ = other.emit(Place { at: 2 }, Some(3))?;
+    pending.recording().absorb(other)
+}
+
+#[test]
+fn a_run_is_kept_for_what_it_absorbed(rt: HostRuntime) -> Result<(), Fail> {
+    let alloc = rt.alloc();
+    let mut cache = CacheData::new(alloc);
+    let row = Row {
+        numbers: vec![in alloc; 1, 2, 3]?,
+    };
+    let mut pending = match begin_row(alloc, &mut cache, &row)? {
+        Begun::Hit(_) => return Err("an empty cache has nothing")?,
+        Begun::Run(pending) => pending,
+    };
+    if run_absorbing(alloc, &mut pending).is_err() {
+        pending.give_up(&mut Top::new());
+        return Err(Fault::Memory)?;
+    }
+    let reply = pending.finish(&mut cache, &mut Top::new(), 6)?;
+    assert_eq!(rt; reply.how, How::Stored);
+    for (numbers, hits) in [
+        ([1, 2, 3], true),
+        ([1, 9, 3], false),
+        ([1, 2, 4], false),
+        ([2, 2, 3], false),
+    ] {
+        let row = Row {
+            numbers: numbers.to_vec(alloc)?,
+        };
+        match begin_row(alloc, &mut cache, &row)? {
+            Begun::Hit(output) => {
+                assert!(rt; hits);
+                assert_eq!(rt; output, 6);
+            }
+            Begun::Run(pending) => {
+                pending.give_up(&mut Top::new());
+                assert!(rt; !hits);
+            }
+        }
+    }
+    Ok(())
+}
+
+#[test]
+fn a_sink_by_reference_sends_on(rt: HostRuntime) -> Result<(), Fail> {
+    let mut recording = Constraint::new(rt.alloc());
+    assert!(rt; send_by_reference(Place { at: 1 }, 5, &mut recording)?);
+    assert!(rt; !send_by_reference(Place { at: 1 }, 6, &mut recording)?);
+    assert!(rt; !recording.emit(Place { at: 1 }, Some(5))?);
+    assert!(rt; recording.is_whole());
+    lose_by_reference(&mut recording);
+    assert!(rt; !recording.is_whole());
+    Ok(())
+}
+
+// A reply is this output, and this became of the call.
+fn expect<A: Abort>(rt: &A, reply: &Reply<u64>, output: u64, how: How) {
+    assert_eq!(rt; reply.output, output);
+    assert_eq!(rt; reply.how, how);
+}
+
+#[test]
+fn a_lent_view_is_an_input(rt: HostRuntime) -> Result<(), Fail> {
+    let alloc = rt.alloc();
+    let mut cache: CacheData<LocationMemo> = CacheData::new(alloc);
+    for (at, how, len) in [
+        (3, How::Stored, 1),
+        (3, How::Hit, 1),
+        (5, How::Stored, 2),
+        (3, How::Hit, 2),
+    ] {
+        let context = Context {
+            location: at,
+            styles: len as u64,
+        };
+        let mut view = context.track();
+        let before = look_location(&cache, &mut context.track())?;
+        assert_eq!(rt; before.is_some(), how == How::Hit);
+        let reply = lent_location(alloc, &mut cache, &mut view, &mut Top::new())?;
+        expect(&rt, &reply, at, how);
+        assert_eq!(rt; look_location(&cache, &mut view)?, Some(at));
+        assert_eq!(rt; cache.len(), len);
+    }
+    Ok(())
+}
+
+#[test]
+fn a_value_alone_is_an_input(rt: HostRuntime) -> Result<(), Fail> {
+    let alloc = rt.alloc();
+    let mut cache: CacheData<SquareMemo> = CacheData::new(alloc);
+    for (number, output, how) in [
+        (4, 16, How::Stored),
+        (4, 16, How::Hit),
+        (5, 25, How::Stored),
+        (4, 16, How::Hit),
+        (4_294_967_296, 0, How::Stored),
+    ] {
+        let reply = square(alloc, &mut cache, number, &mut Top::new())?;
+        expect(&rt, &reply, output, how);
+    }
+    assert_eq!(rt; cache.len(), 3);
+    Ok(())
+}
