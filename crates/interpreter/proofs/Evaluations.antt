@@ -1,12 +1,12 @@
 -- What a part of a script comes to where it calls another one, and what a run of a script learnt.
-use Rattle.std.proofs.Common.{◌≡◌, ℕ, ◌≤◌, List, [], Result, Ok, Err, IsErrAnd, ◌∙◌, String, string_bytes, string_eq, IsTrue, refl, sym, ap, subst}
+use Rattle.std.proofs.Common.{◌≡◌, ℕ, List, Result, Ok, Err, IsErrAnd, ◌∙◌, String, string_bytes, string_eq, sym, ap, subst}
 use Rattle.std.specs.Global.{Global}
 use Rattle.comemo_base.specs.Answers.{Respects, Agrees}
 use Rattle.comemo.specs.Called.{Gave}
 use Rattle.comemo.specs.Recording.{Recording, Took}
 use Rattle.comemo.specs.Sending.{Asks}
 use Rattle.comemo.proofs.Told.{told_answer, told_pairs}
-use Rattle.scripts.specs.Meaning.{Means, Deep, PartMeans, is_eval}
+use Rattle.scripts.specs.Meaning.{Means, Deep, is_eval}
 use Rattle.scripts.specs.Parts.{IsEval}
 use Rattle.scripts.specs.declared.outcome.Outcome.{Outcome}
 use Rattle.std.specs.HashMap.{HashMap}

@@ -1,11 +1,10 @@
 -- The calls of files are told apart by their paths, and texts by their bytes.
-use Rattle.std.proofs.Common.{◌≡◌, ◌∙◌, Bool, true, false, List, refl, sym, ap, String, string_bytes, string_eq, IsTrue, rules}
+use Rattle.std.proofs.Common.{String, string_eq, rules}
 use Rattle.std.specs.Cmp.{IsEquivalence}
 use Rattle.std.specs.Global.{Global}
 use Rattle.std.specs.HashMap.{HashMap}
 use Rattle.comemo_base.specs.Answers.{Respects}
 use Rattle.interpreter.specs.Files.{answer_of}
-use Rattle.interpreter.specs.declared.files.FileCall.{FileCall}
 use Rattle.interpreter.specs.declared.files.FileCall.TheVariants.{Read}
 use Rattle.interpreter.specs.contracts.files.FileCallPartialEq.TheImpl.{ghosts}
 

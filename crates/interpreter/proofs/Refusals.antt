@@ -1,5 +1,5 @@
 -- A command whose text was refused left the texts.
-use Rattle.std.proofs.Common.{◌≡◌, ◌≢◌, Result, Ok, Err, OnErr, refl}
+use Rattle.std.proofs.Common.{◌≢◌, Result, Ok, Err, OnErr, refl}
 use Rattle.commands.specs.Requests.{Request, write, eval, size}
 use Rattle.commands.specs.declared.answer.Answer.{Answer}
 use Rattle.commands.specs.declared.answer.Answer.TheVariants as answer

@@ -61,10 +61,10 @@ fn begin_script<S: Sink<Call = FileCall, Answer = String>>(
 ) -> Result<Begun<Eval>, EvalFault>
     ensures begun { IfOk result (λ b. (key : String Global) × (string_bytes key ≡ script.now) × OnBegun b
         (λ outcome. (outcome.height ≤ limit)
-            × Gave ⟦<FileCall as PartialEq>⟧.eq string_eq ⟦<Eval as Memo>⟧.def S.took key (answer_of files.now.texts files.now.missing) sink.old outcome sink.new
-            × Came ⟦<FileCall as PartialEq>⟧.eq string_eq string_eq ⟦<Outcome as Clone>⟧.is_clone key (answer_of files.now.texts files.now.missing) true outcome cache.old cache.old How.Hit cache.new)
+        × Gave ⟦<FileCall as PartialEq>⟧.eq string_eq ⟦<Eval as Memo>⟧.def S.took key (answer_of files.now.texts files.now.missing) sink.old outcome sink.new
+        × Came ⟦<FileCall as PartialEq>⟧.eq string_eq string_eq ⟦<Outcome as Clone>⟧.is_clone key (answer_of files.now.texts files.now.missing) true outcome cache.old cache.old How.Hit cache.new)
         (λ run. (0 < limit) × (sink.new ≡ sink.old)
-            × IsRun ⟦<FileCall as PartialEq>⟧.eq string_eq string_eq cache.old key (answer_of files.now.texts files.now.missing) true ⟦<Eval as Memo>⟧.def run)) }
+        × IsRun ⟦<FileCall as PartialEq>⟧.eq string_eq string_eq cache.old key (answer_of files.now.texts files.now.missing) true ⟦<Eval as Memo>⟧.def run)) }
     ensures unchanged { cache.new ≡ cache.old }
     ensures deep { result ≡ Err EvalFault.TooDeep → Deep (At (answer_of files.now.texts files.now.missing)) script.now limit }
     ensures err { OnErr result (S.spoils sink.old sink.new) }

@@ -3,11 +3,11 @@ ghost use Rattle.std.specs.Prelude.{◌≡◌, ℕ, List, []};
 ghost use Rattle.commands.specs.Requests.{request_of, eval as eval_of, size as size_of};
 ghost use Rattle.interpreter.specs.Sessions.{in_cache, texts_of, Answers};
 
-use crate::files::Files;
 use crate::evaluation::{Eval, EvalFault, evaluate};
+use crate::files::Files;
 use crate::measure::{FileSize, size};
-use commands::{Answer, Command};
 use comemo::{CacheData, How, Reply, Top, Track};
+use commands::{Answer, Command};
 use std::alloc::Global;
 
 /// The greatest height of a script that a session evaluates.
@@ -65,7 +65,14 @@ impl State {
     {
         let view = self.files.track();
         let cache = &mut self.evaluated;
-        match evaluate(self.alloc, cache, &view, script, HEIGHT_LIMIT, &mut Top::new()) {
+        match evaluate(
+            self.alloc,
+            cache,
+            &view,
+            script,
+            HEIGHT_LIMIT,
+            &mut Top::new(),
+        ) {
             Ok(Reply { output, how }) => Answer::Value {
                 hit: how == How::Hit,
                 kept: is_kept(how),

@@ -1,4 +1,4 @@
-use Rattle.std.proofs.Common.{rules, arith, ◌≡◌, ◌<◌, [], refl, sym, ap, subst, Ok, Err, string_eq}
+use Rattle.std.proofs.Common.{arith, ◌≡◌, [], sym, ap, subst, Err, string_eq}
 use Rattle.comemo_base.specs.Answers.{Agrees}
 use Rattle.comemo.proofs.Calls.{gave_at_key}
 use Rattle.comemo.proofs.Growing.{grows_on}
@@ -67,10 +67,15 @@ run_script-returns-in-Err-clause-ok t c =
     let fresh : c.args.recording.now.pairs ≡ [] = c.requires.1.1.1 in
     let i = c.loop-part.invariant in
     let (bytes, cut, is) = c.in-Some.ensures in
-    let out = c.in_ok-outcome.ensures.ok bytes is in
-    (omega (arith, c.in-Err.ensures.height, i.low, out.0, c.outcome.ensures.height), (out.1.0, λ m r a.
-        let b = out.1.1 m r a in
-        (subst (λ ps. Agrees string_eq m ps) (sym fresh) tt, means_at_fault (At m) c.add.new.self (i.leaves m r b.0) cut b.1 c.in-Err.ensures.sum c.in-Err.ensures.height c.outcome.ensures.value c.outcome.ensures.height)))
+    let out = c.in_ok-outcome.ensures.ok bytes is in (
+      omega (arith, c.in-Err.ensures.height, i.low, out.0, c.outcome.ensures.height),
+      (
+        out.1.0,
+        λ m r a.
+            let b = out.1.1 m r a in
+            (subst (λ ps. Agrees string_eq m ps) (sym fresh) tt, means_at_fault (At m) c.add.new.self (i.leaves m r b.0) cut b.1 c.in-Err.ensures.sum c.in-Err.ensures.height c.outcome.ensures.value c.outcome.ensures.height),
+      ),
+    )
 
 pub run_script-returns-in-Err-clause-grows : goal.run_script-returns-in-Err-clause-grows
 run_script-returns-in-Err-clause-grows t c = grows_on _ _ _ c.loop-part.invariant.grows c.in_ok-outcome.ensures.grows

@@ -1,4 +1,4 @@
-use Rattle.std.proofs.Common.{rules, arith, sym, subst, string_bytes, ◌<◌}
+use Rattle.std.proofs.Common.{rules, arith, sym, subst, ◌<◌}
 use Rattle.comemo.proofs.Calls.{gave_by_hit, came_by_hit}
 use Rattle.scripts.specs.Meaning.{Means, Deep, no_room}
 use Rattle.scripts.proofs.Meanings.{deep_of_height}

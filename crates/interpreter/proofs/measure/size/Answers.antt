@@ -1,4 +1,4 @@
-use Rattle.std.proofs.Common.{rules, ◌≡◌, ◌∙◌, refl, sym, subst, length, string_bytes, [], ◌∷◌}
+use Rattle.std.proofs.Common.{rules, ◌≡◌, ◌∙◌, sym, subst, length, string_bytes}
 use Rattle.comemo.proofs.Calls.{gave_by_hit, came_by_hit, gave_by_run, came_by_run}
 use Rattle.interpreter.specs.Files.{text_of, answer_of}
 use Rattle.interpreter.specs.Size.{IsSize}

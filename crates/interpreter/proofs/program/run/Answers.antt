@@ -1,4 +1,3 @@
-use Rattle.std.proofs.Common.{rules}
 use Rattle.lines.proofs.Seen.{Ran_seen}
 use Rattle.interpreter.specs.Sessions.{texts_of, Prints, Refuses}
 use Rattle.interpreter.proofs.program.run.Goals as goal
