@@ -6,9 +6,9 @@ use Rattle.std.specs.Cmp.{IsEquivalence}
 use Rattle.std.specs.List.{filter}
 use Rattle.std.specs.Map.{lookup}
 use Rattle.std.specs.HashMap.Eq.{lookup_congr}
-use Rattle.comemo_base.specs.Sequence.{Sequence, HasDistinctCalls, was_seen, unseen}
-use Rattle.comemo.specs.Recording.{IsRecording, held, absorbed}
-use Rattle.comemo.proofs.Recordings.{held-push}
+use Rattle.comemo_base.specs.Sequence.{Sequence, HasDistinctCalls, was_seen, unseen, held, absorbed}
+use Rattle.comemo_base.proofs.Pairs.{held-push}
+use Rattle.comemo.specs.Recording.{IsRecording}
 
 or_none : (a : Bool) → (a || false) ≡ a
 or_none true = refl

@@ -4,18 +4,9 @@ use Rattle.std.proofs.lemmas.Bool.{cases_Bool}
 use Rattle.std.proofs.lemmas.List.Elements.{All-push}
 use Rattle.std.specs.Cmp.{IsEquivalence}
 use Rattle.std.specs.declared.alloc.AllocError.{AllocError}
-use Rattle.comemo_base.specs.Sequence.{Sequence, was_seen}
-use Rattle.comemo.specs.Recording.{IsRecording, held}
-
-or_turned : (a b : Bool) → (a || b) ≡ (b || a)
-or_turned true true = refl
-or_turned true false = refl
-or_turned false true = refl
-or_turned false false = refl
-
-pub held-push : {C R : Type 0} (eq : C → C → Bool) (ps : List (C × R)) (call : C) (answer : R) (other : C) → held eq (ps ++ (call, answer) ∷ []) other ≡ (held eq ps other || eq other call)
-held-push eq [] call answer other = elim (cases_Bool (eq other call)) [ inl a ↦ rw a refl | inr a ↦ rw a refl ]
-held-push eq (p ∷ ps) call answer other = elim (cases_Bool (eq other p.0)) [ inl a ↦ rw a refl | inr a ↦ rw a (held-push eq ps call answer other) ]
+use Rattle.comemo_base.specs.Sequence.{Sequence, was_seen, held}
+use Rattle.comemo_base.proofs.Pairs.{or_turned, held-push}
+use Rattle.comemo.specs.Recording.{IsRecording}
 
 module _ {C R : Type 0} {eq : C → C → Bool} (laws : IsEquivalence eq) (w : C → Bool) (s : Sequence C R) (is : IsRecording eq w s) where
   taken : (t : Sequence C R) (call : C) (answer : R) → w call ≡ false → t.pairs ≡ s.pairs ++ (call, answer) ∷ [] → ((other : C) → was_seen eq t other ≡ (eq call other || was_seen eq s other)) → IsRecording eq w t

@@ -3,8 +3,9 @@ use Rattle.std.proofs.Common.{◌≡◌, Bool, true, false, cond, List, [], ◌�
 use Rattle.std.proofs.lemmas.Bool.{cases_Bool}
 use Rattle.std.specs.Cmp.{IsEquivalence}
 use Rattle.comemo_base.specs.Answers.{Respects, Agrees}
+use Rattle.comemo_base.specs.Sequence.{held, absorbed}
 use Rattle.comemo_base.proofs.Paths.{turned, joined}
-use Rattle.comemo.specs.Recording.{Recording, held, absorbed, Took}
+use Rattle.comemo.specs.Recording.{Recording, Took}
 use Rattle.comemo.specs.Sending.{Asks}
 
 module _ {C R : Type 0} (same : R → R → Bool) (m : C → R) where

@@ -1,24 +1,14 @@
 -- What a recording holds, and how it takes more.
-use Rattle.std.specs.Prelude.{◌≡◌, Bool, false, cond, List, [], ◌∷◌, ◌++◌, is_some, refl}
+use Rattle.std.specs.Prelude.{◌≡◌, Bool, false, List, ◌++◌, refl}
 use Rattle.std.specs.List.{All}
-use Rattle.std.specs.Map.{lookup}
 use Rattle.std.specs.Coded.{Coded, code_by, coded×, coded_list, coded_bool}
-use Rattle.comemo_base.specs.Sequence.{Sequence, was_seen}
+use Rattle.comemo_base.specs.Sequence.{Sequence, was_seen, held, absorbed}
 
 -- reads with their answers, writes, and whether nothing was lost
 pub record Recording (C R : Type 0) : Type 0 where
   pub pairs : List (C × R)
   pub writes : List C
   pub whole : Bool
-
--- whether a call is among the pairs
-abbrev pub held : {C R : Type 0} → (C → C → Bool) → List (C × R) → C → Bool
-held eq ps call = is_some (lookup (eq call) ps)
-
--- the pairs, and then those of the second list whose calls are not held, in its order
-abbrev pub absorbed : {C R : Type 0} → (C → C → Bool) → List (C × R) → List (C × R) → List (C × R)
-absorbed eq ps [] = ps
-absorbed eq ps (q ∷ qs) = absorbed eq (cond (held eq ps q.0) ps (ps ++ q ∷ [])) qs
 
 -- t is s after it took these pairs and these writes
 pub record Took {C R : Type 0} (eq : C → C → Bool) (s : Recording C R) (P : List (C × R)) (W : List C) (t : Recording C R) : Type 0 where

@@ -1,10 +1,8 @@
 -- The laws of a recording as a sink, which the trait asks. They say nothing that a reader must believe.
-use Rattle.std.proofs.Common.{◌≡◌, Bool, cond, List, [], ◌∷◌, ◌++◌, refl, sym, ap, ◌∙◌, append_assoc, append-nil}
-use Rattle.comemo.specs.Recording.{Recording, held, absorbed, Took}
-
-pub absorbed-append : {C R : Type 0} (eq : C → C → Bool) (s P Q : List (C × R)) → absorbed eq (absorbed eq s P) Q ≡ absorbed eq s (P ++ Q)
-absorbed-append eq s [] Q = refl
-absorbed-append eq s (p ∷ P) Q = absorbed-append eq (cond (held eq s p.0) s (s ++ p ∷ [])) P Q
+use Rattle.std.proofs.Common.{◌≡◌, Bool, List, [], ◌++◌, refl, sym, ap, ◌∙◌, append_assoc, append-nil}
+use Rattle.comemo_base.specs.Sequence.{absorbed}
+use Rattle.comemo_base.proofs.Pairs.{absorbed-append}
+use Rattle.comemo.specs.Recording.{Recording, Took}
 
 pub took_nothing : {C R : Type 0} (eq : C → C → Bool) (s : Recording C R) → Took eq s [] [] s
 took_nothing eq s = record { pairs = refl; writes = sym (append-nil s.writes); whole = refl }

@@ -1,7 +1,8 @@
 //! Recordings: what a run asked, and what it did.
 ghost use Rattle.std.specs.Prelude.{◌≡◌, ◌&&◌, [], ◌∷◌, ◌++◌, Bool, true, false, IsTrue, IfOk, OnOk, OnErr, not, is_none};
 ghost use Rattle.std.specs.List.{All};
-ghost use Rattle.comemo.specs.Recording.{held, absorbed, Took};
+ghost use Rattle.comemo_base.specs.Sequence.{held, absorbed};
+ghost use Rattle.comemo.specs.Recording.{Took};
 ghost use Rattle.comemo.specs.Sending.{sent_pairs, sent_writes};
 
 use crate::track::{Call, Sink};

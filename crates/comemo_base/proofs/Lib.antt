@@ -5,4 +5,5 @@ pub mod Keeps
 pub mod Slots
 pub mod Absorbed
 pub mod Paths
+pub mod Pairs
 pub mod Steps

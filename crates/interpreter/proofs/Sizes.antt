@@ -3,7 +3,8 @@ use Rattle.std.proofs.Common.{rules, Bool, Result, Ok, Err, IfOk, ◌≡◌, [],
 use Rattle.std.specs.Global.{Global}
 use Rattle.comemo_base.specs.Answers.{Agrees}
 use Rattle.comemo.specs.Cache.{Stands}
-use Rattle.comemo.specs.Recording.{Recording, Took, absorbed}
+use Rattle.comemo_base.specs.Sequence.{absorbed}
+use Rattle.comemo.specs.Recording.{Recording, Took}
 use Rattle.comemo.specs.Sending.{Asks}
 use Rattle.interpreter.specs.Size.{IsSize}
 use Rattle.interpreter.specs.declared.files.FileCall.{FileCall}
