@@ -5,8 +5,15 @@ use Rattle.std.proofs.lemmas.List.Elements.{filter_map-append}
 use Rattle.comemo_base.specs.Sequence.{remaining}
 use Rattle.comemo_base.specs.Tree.{IsSamePath}
 
-slot_more : {P : Type 0} (slots : List (Option P)) (i : ℕ) (slot : Option P) → i < length slots → slot ≡ get_or slots i slot → remaining (take (i + 1) slots) ≡ remaining (take i slots) ++ remaining (slot ∷ [])
+pub slot_more : {P : Type 0} (slots : List (Option P)) (i : ℕ) (slot : Option P) → i < length slots → slot ≡ get_or slots i slot → remaining (take (i + 1) slots) ≡ remaining (take i slots) ++ remaining (slot ∷ [])
 slot_more slots i slot l e = ap remaining (take_more slots i slot l ∙ ap (λ x. take i slots ++ x ∷ []) (sym e)) ∙ filter_map-append (λ s. s) (take i slots) (slot ∷ [])
+
+pub slot_less : {P : Type 0} (slots : List (Option P)) (i : ℕ) (slot : Option P) → i < length slots → slot ≡ get_or slots i slot → ((p : P) → slot ≡ Some p → ⊥) → remaining (take (i + 1) slots) ≡ remaining (take i slots)
+slot_less {P} slots i slot l e none = slot_more slots i slot l e ∙ nothing slot none
+  where
+    nothing : (x : Option P) → ((p : P) → x ≡ Some p → ⊥) → remaining (take i slots) ++ remaining (x ∷ []) ≡ remaining (take i slots)
+    nothing None h = append-nil (remaining (take i slots))
+    nothing (Some p) h = absurd (h p refl)
 
 module _ {C R : Type 0} (eq : C → C → Bool) (same : R → R → Bool) where
   IsSamePath-push : (ps qs : List (C × R)) (p q : C × R) → IsSamePath eq same ps qs → IsTrue (eq p.0 q.0) → IsTrue (same p.1 q.1) → IsSamePath eq same (ps ++ p ∷ []) (qs ++ q ∷ [])
@@ -22,8 +29,4 @@ module _ {C R : Type 0} (eq : C → C → Bool) (same : R → R → Bool) where
 
     -- the slot is empty
     pub skipped : ((q : C × R) → slot ≡ Some q → ⊥) → IsSamePath eq same ps (remaining (take (i + 1) slots))
-    skipped none = subst (λ qs. IsSamePath eq same ps qs) (sym (slot_more slots i slot l e ∙ nothing slot none)) s
-      where
-        nothing : (x : Option (C × R)) → ((q : C × R) → x ≡ Some q → ⊥) → remaining (take i slots) ++ remaining (x ∷ []) ≡ remaining (take i slots)
-        nothing None h = append-nil (remaining (take i slots))
-        nothing (Some q) h = absurd (h q refl)
+    skipped none = subst (λ qs. IsSamePath eq same ps qs) (sym (slot_less slots i slot l e none)) s

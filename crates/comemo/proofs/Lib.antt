@@ -6,5 +6,6 @@ pub mod Sendings
 pub mod Copies
 pub mod Endings
 pub mod Told
+pub mod Validating
 pub mod Calls
 pub mod Growing

@@ -29,7 +29,7 @@ module _ {K C R O : Type 0} (eq : C → C → Bool) (same : R → R → Bool) (e
     pub none : enabled ≡ true → HasNone eq same eqk es key m
 
   -- a hit: an entry was kept that has the key and agrees with the answers; its path, and its writes in order, went to the
-  -- sink, the writes were done on the input, and the output is right wherever the path agrees
+  -- sink, the writes were done on the input, and the output is right wherever the path agrees, so also at the answers
   pub record IsHit {I S : Type 0} (def : K → (C → R) → O → List C → Type 0) (cloned : O → O → Type 0) (did : I → List C → I → Type 0) (took : S → List (C × R) → List C → S → Type 0) (i j : I) (s t : S) (output : O) : Type 0 where
     pub pairs : List (C × R)
     pub writes : List C
@@ -39,3 +39,4 @@ module _ {K C R O : Type 0} (eq : C → C → Bool) (same : R → R → Bool) (e
     pub stands : Stands eq same def key pairs output writes
     pub done : did i writes j
     pub sent : took s pairs writes t
+    pub right : def key m output writes

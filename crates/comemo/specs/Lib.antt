@@ -6,3 +6,4 @@ pub mod Begin
 pub mod Begun
 pub mod Finish
 pub mod Called
+pub mod Views

@@ -1,7 +1,8 @@
 -- What a recording holds, and how it takes more.
-use Rattle.std.specs.Prelude.{◌≡◌, Bool, false, List, ◌++◌, refl}
+use Rattle.std.specs.Prelude.{◌≡◌, Bool, false, List, ◌∷◌, ◌++◌, refl}
 use Rattle.std.specs.List.{All}
 use Rattle.std.specs.Coded.{Coded, code_by, coded×, coded_list, coded_bool}
+use Rattle.comemo_base.specs.Answers.{Agrees}
 use Rattle.comemo_base.specs.Sequence.{Sequence, was_seen, held, absorbed}
 
 -- reads with their answers, writes, and whether nothing was lost
@@ -15,6 +16,10 @@ pub record Took {C R : Type 0} (eq : C → C → Bool) (s : Recording C R) (P : 
   pub pairs : t.pairs ≡ absorbed eq s.pairs P
   pub writes : t.writes ≡ s.writes ++ W
   pub whole : t.whole ≡ s.whole
+
+-- the answers agree with a front of the pairs that isn't the whole
+abbrev pub AgreesBefore : {C R : Type 0} → (R → R → Bool) → (C → R) → List (C × R) → Type 0
+AgreesBefore {C} {R} same m pairs = (front : List (C × R)) × (next : C × R) × (rest : List (C × R)) × (pairs ≡ front ++ next ∷ rest) × Agrees same m front
 
 -- a recording is coded as the tuple of its fields, by which a proof tells two apart
 abbrev pub recording_code : {C R : Type 0} → Coded C → Coded R → Coded (Recording C R)

@@ -1,11 +1,12 @@
 //! Recordings: what a run asked, and what it did.
-ghost use Rattle.std.specs.Prelude.{◌≡◌, ◌&&◌, [], ◌∷◌, ◌++◌, Bool, true, false, IsTrue, IfOk, OnOk, OnErr, not, is_none};
+ghost use Rattle.std.specs.Prelude.{◌≡◌, ◌↔◌, ◌&&◌, [], ◌∷◌, ◌++◌, Bool, true, false, IsTrue, IfOk, OnOk, OnErr, not, is_none};
 ghost use Rattle.std.specs.List.{All};
 ghost use Rattle.comemo_base.specs.Sequence.{held, absorbed};
-ghost use Rattle.comemo.specs.Recording.{Took};
+ghost use Rattle.comemo_base.specs.Answers.{Agrees};
+ghost use Rattle.comemo.specs.Recording.{Took, AgreesBefore};
 ghost use Rattle.comemo.specs.Sending.{sent_pairs, sent_writes};
 
-use crate::track::{Call, Sink};
+use crate::track::{Call, Sink, Track};
 use comemo_base::CallSequence;
 use std::alloc::{AllocError, Global};
 use std::marker::Model;
@@ -86,6 +87,27 @@ impl<C: Call, R: Drop> Constraint<C, R> {
         let absorbed = self.reads.absorb(reads);
         self.whole = self.whole && whole && absorbed.is_ok();
         absorbed
+    }
+}
+
+impl<C: Call, R: Clone + Ord> Constraint<C, R> {
+    /// Whether a value gives each recorded answer again: it is asked the recorded reads in their order, up to the first
+    /// whose answer differs. A recording of no reads holds of every value, and writes say nothing.
+    ///
+    /// An error comes only where the value refused an answer, and the answers before it agreed. It takes the memory of the
+    /// answers. comemo's `Constraint::validate`, which can't be refused.
+    pub fn validate<T: Track<Call = C, Answer = R>>(&self, value: &T) -> Result<bool, AllocError>
+        ensures ok { IfOk result (λ valid. IsTrue valid ↔ Agrees R.eq (T.answers value.now) self.now.pairs) }
+        ensures err { OnErr result (AgreesBefore R.eq (T.answers value.now) self.now.pairs) }
+    {
+        for slot in self.reads.slots() {
+            if let Some((call, recorded)) = slot {
+                if value.ask(call)? != *recorded {
+                    return Ok(false);
+                }
+            }
+        }
+        Ok(true)
     }
 }
 

@@ -14,4 +14,4 @@ pub use constraint::Constraint;
 pub use finish::{How, Reply};
 pub use input::{Hashed, Input, Keyed};
 pub use memoize::{CacheData, Found, Memo};
-pub use track::{Call, Sink, Top, Track, Tracked};
+pub use track::{Call, Sink, Top, Track, Tracked, TrackedWith};

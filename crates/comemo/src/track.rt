@@ -1,10 +1,12 @@
 //! Tracked values, the calls that they answer, and what takes note of the calls.
-ghost use Rattle.std.specs.Prelude.{◌≡◌, [], ◌∷◌, ◌++◌, List, Bool, true, false, not, is_none, IsTrue, IfOk, OnOk, OnErr, ⊤, refl};
+ghost use Rattle.std.specs.Prelude.{◌≡◌, [], ◌∷◌, ◌++◌, List, Bool, true, false, not, Some, is_none, IsTrue, IfOk, OnOk, OnErr, ⊤, refl};
 ghost use Rattle.std.proofs.Common.{◌∙◌};
 ghost use Rattle.comemo_base.specs.Answers.{Respects};
 ghost use Rattle.comemo.specs.Sending.{sent_pairs, sent_writes, Asks};
 
 use std::alloc::AllocError;
+use std::fmt;
+use std::fmt::Debug;
 use std::hash::Hash;
 use std::marker::{Model, PhantomData};
 
@@ -193,6 +195,22 @@ pub trait Track {
         Tracked { value: self }
     }
 
+    /// A view of the value that sends its reads to a sink, which it holds as long as it lives. It takes no memory.
+    ///
+    /// comemo's `track_with`, whose result is a `Tracked` too.
+    final fn track_with<'a, S: Sink<Call = Self::Call, Answer = Self::Answer>>(
+        &'a self,
+        sink: &'a mut S,
+    ) -> TrackedWith<'a, Self, S>
+    where
+        Self: Sized,
+        ensures value { result.value.now ≡ self.now }
+        ensures sink { result.sink.now ≡ sink.old }
+        ensures same { result.sink.ghost_name ≡ sink.entry.ghost_name }
+    {
+        TrackedWith { value: self, sink }
+    }
+
     // equal calls have equal answers
     ghost alike: { (s : Self) → Respects Self.Call.eq Self.Answer.eq (answers s) };
 
@@ -253,5 +271,53 @@ impl<'a, T: Track> Tracked<'a, T> {
         ensures { result ≡ self.now }
     {
         Tracked { value: self.value }
+    }
+}
+
+/// It prints as `Tracked(..)`, whatever its value is.
+impl<'a, T> Debug for Tracked<'a, T> {
+    ghost use Rattle.comemo.specs.Views.{tracked_text};
+
+    ghost debug_output = { λ _. Some tracked_text };
+
+    fn fmt<W: fmt::Write>(&self, f: &mut fmt::Formatter<W>) -> fmt::Result {
+        f.pad("Tracked(..)")
+    }
+}
+
+/// A view of a tracked value with the sink that its reads are sent to.
+///
+/// It does not lend its value, nor its sink, which is its caller's again when the view is gone. It stands in the place of
+/// what comemo's `track_with` gives.
+#[derive(Drop)]
+pub struct TrackedWith<'a, T, S> {
+    value: &'a T,
+    sink: &'a mut S,
+}
+
+impl<'a, T: Track, S: Sink<Call = T::Call, Answer = T::Answer>> TrackedWith<'a, T, S> {
+    /// Asks the value a read, and sends the call with its answer to the view's sink.
+    ///
+    /// It clones the answer for the sink. An error says that there was no memory for the answer, its clone or the sink;
+    /// then the sink is as it was.
+    pub fn ask(&mut self, call: T::Call) -> Result<T::Answer, AllocError>
+        requires { T.Call.is_write call ≡ false }
+        ensures ok { IfOk result (λ answer. Asks T.Answer.eq S.took (T.answers self.old.value.now) self.old.sink.now call answer self.new.sink.now) }
+        ensures err { OnErr result (S.took self.old.sink.now [] [] self.new.sink.now) }
+        ensures value { self.new.value.now ≡ self.old.value.now }
+        ensures same { self.new.sink.ghost_name ≡ self.old.sink.ghost_name }
+    {
+        self.value.track().ask(call, self.sink)
+    }
+}
+
+/// It prints as the view without the sink does.
+impl<'a, T: Track, S> Debug for TrackedWith<'a, T, S> {
+    ghost use Rattle.comemo.specs.Views.{tracked_text};
+
+    ghost debug_output = { λ _. Some tracked_text };
+
+    fn fmt<W: fmt::Write>(&self, f: &mut fmt::Formatter<W>) -> fmt::Result {
+        Debug::fmt(&self.value.track(), f)
     }
 }

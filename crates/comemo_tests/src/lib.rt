@@ -16,3 +16,6 @@ pub mod rows;
 #[cfg(test)]
 mod runs;
 pub mod sinks;
+#[cfg(test)]
+mod view_tests;
+pub mod views;

@@ -10,15 +10,18 @@ returns-in-Some-clause-begun g c =
     let alike = turned g.met.M.Key.Eq.laws _ _ c.in-Ok.ensures in
     let found = rw c.in-Some.is at c.in-Ok-look.ensures.found in
     let stands = rw c.in-Some.is at c.in-Ok-look.ensures.stands in
+    let respects = g.met.In.Input.alike c.args.input.now in
+    let agrees = Agrees-found g.met.M.Call.Eq.laws g.met.M.Answer.Eq.laws g.M.Key.PartialEq.eq c.args.cache.now c.in-Ok.key g.M.Out.Clone.is_clone m c.in-Some.found.pairs.items c.in-Some.found.output [] respects found in
     record {
       pairs = c.in-Some.found.pairs.items;
       writes = [];
       is_enabled = c.if-enabled.true;
       kept = Has-alike g.M.Call.PartialEq.eq g.M.Answer.PartialEq.eq g.met.M.Key.Eq.laws c.args.cache.now c.in-Ok.key _ alike g.M.Out.Clone.is_clone m c.in-Some.found.pairs.items c.in-Some.found.output [] found;
-      agrees = Agrees-found g.met.M.Call.Eq.laws g.met.M.Answer.Eq.laws g.M.Key.PartialEq.eq c.args.cache.now c.in-Ok.key g.M.Out.Clone.is_clone m c.in-Some.found.pairs.items c.in-Some.found.output [] (g.met.In.Input.alike c.args.input.now) found;
+      agrees = agrees;
       stands = λ n r a. g.met.M.Memo.key_alike c.in-Ok.key _ n c.in-Some.found.output [] r alike (stands n r a);
       done = c.look.ensures.same;
       sent = c.in_ok-give_pairs.ensures.ok;
+      right = g.met.M.Memo.key_alike c.in-Ok.key _ m c.in-Some.found.output [] respects alike (stands m respects agrees);
     }
 
 pub returns-clause-begun : goal.returns-clause-begun
