@@ -54,13 +54,12 @@ fn a_recording_is_asked_to_its_last_pair(rt: HostRuntime) -> Result<(), Fail> {
         },
         true,
     )?;
-    for (location, styles, holds) in [
-        (3, 5, true),
-        (3, 6, false),
-        (4, 5, false),
-        (5, 3, false),
-    ] {
-        assert_eq!(rt; both.validate(&Context { location, styles })?, holds, "{location} {styles}");
+    for (location, styles, holds) in [(3, 5, true), (3, 6, false), (4, 5, false), (5, 3, false)] {
+        assert_eq!(rt;
+            both.validate(&Context { location, styles })?,
+            holds,
+            "{location} {styles}"
+        );
     }
     Ok(())
 }
@@ -122,8 +121,14 @@ fn a_view_with_a_sink_sends_what_it_asks(rt: HostRuntime) -> Result<(), Fail> {
         styles: 5,
     };
     let mut recording = Constraint::new(alloc);
-    assert_eq!(rt; ask_into(&context, ContextCall::Location, &mut recording)?, 3);
-    assert_eq!(rt; ask_into(&context, ContextCall::Location, &mut recording)?, 3);
+    assert_eq!(rt;
+        ask_into(&context, ContextCall::Location, &mut recording)?,
+        3
+    );
+    assert_eq!(rt;
+        ask_into(&context, ContextCall::Location, &mut recording)?,
+        3
+    );
     assert!(rt; !recording.emit(ContextCall::Location, Some(4))?);
     assert!(rt; recording.emit(ContextCall::Styles, Some(5))?);
     assert!(rt; recording.validate(&context)?);
@@ -141,10 +146,19 @@ fn views_print_no_value(rt: HostRuntime) -> Result<(), Fail> {
     let mut recording: Constraint<ContextCall, u64> = Constraint::new(alloc);
     let view = context.track();
     assert_eq!(rt; format!(in alloc; "{view:?}")?.as_str(), "Tracked(..)");
-    assert_eq!(rt; format!(in alloc; "{view:14?}|")?.as_str(), "Tracked(..)   |");
-    assert_eq!(rt; format!(in alloc; "{view:>14?}|")?.as_str(), "   Tracked(..)|");
+    assert_eq!(rt;
+        format!(in alloc; "{view:14?}|")?.as_str(),
+        "Tracked(..)   |"
+    );
+    assert_eq!(rt;
+        format!(in alloc; "{view:>14?}|")?.as_str(),
+        "   Tracked(..)|"
+    );
     let view = context.track_with(&mut recording);
     assert_eq!(rt; format!(in alloc; "{view:?}")?.as_str(), "Tracked(..)");
-    assert_eq!(rt; format!(in alloc; "{view:14?}|")?.as_str(), "Tracked(..)   |");
+    assert_eq!(rt;
+        format!(in alloc; "{view:14?}|")?.as_str(),
+        "Tracked(..)   |"
+    );
     Ok(())
 }
