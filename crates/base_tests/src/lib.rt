@@ -6,9 +6,12 @@ pub mod callers;
 pub mod laws;
 #[cfg(test)]
 mod pieces;
+pub mod prehashed;
 pub mod refusals;
 #[cfg(test)]
 mod rows;
+#[cfg(test)]
+mod tagged;
 #[cfg(test)]
 mod texts;
 #[cfg(test)]

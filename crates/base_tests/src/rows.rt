@@ -208,3 +208,41 @@ fn entries_and_remaining_pairs_are_counted(rt: HostRuntime) -> Result<(), Fail> 
     );
     Ok(())
 }
+
+#[test]
+fn the_first_pair_of_a_call_is_taken(rt: HostRuntime) -> Result<(), Fail> {
+    let given = [(b'a', 1), (b'b', 2), (b'a', 9)];
+    let mut sequence: CallSequence<u8, u128> = CallSequence::from_pairs(rt.alloc(), given)?;
+    assert_eq!(rt; sequence.next(), Some((b'a', 1)));
+    assert_eq!(rt; sequence.next(), Some((b'b', 2)));
+    assert_eq!(rt; sequence.next(), None);
+    assert!(rt; !sequence.insert(b'a', 5)?);
+    assert_eq!(rt; sequence.next(), None);
+    Ok(())
+}
+
+#[test]
+fn no_pairs_make_an_empty_sequence(rt: HostRuntime) -> Result<(), Fail> {
+    let alloc = rt.alloc();
+    let none: Vec<(u8, u128)> = Vec::new(alloc);
+    let mut sequence = CallSequence::from_pairs(alloc, none)?;
+    assert_eq!(rt; sequence.next(), None);
+    assert!(rt; sequence.insert(b'a', 5)?);
+    assert_eq!(rt; sequence.next(), Some((b'a', 5)));
+    Ok(())
+}
+
+#[test]
+fn a_sequence_is_made_of_what_an_iterator_gives(rt: HostRuntime) -> Result<(), Fail> {
+    let calls = [b'a', b'b', b'c', b'b'];
+    let pairs = calls
+        .iter()
+        .filter(|call| **call != b'a')
+        .map(|call| (*call, u128::from(*call)));
+    let mut sequence = CallSequence::from_pairs(rt.alloc(), pairs)?;
+    assert_eq!(rt; sequence.next(), Some((98, 98)));
+    assert_eq!(rt; sequence.next(), Some((99, 99)));
+    assert_eq!(rt; sequence.next(), None);
+    assert!(rt; sequence.insert(b'a', 1)?);
+    Ok(())
+}
