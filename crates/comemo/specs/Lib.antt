@@ -7,3 +7,7 @@ pub mod Begun
 pub mod Finish
 pub mod Called
 pub mod Views
+pub mod Multi
+pub mod Mapped
+pub mod MultiLaws
+pub mod MappedLaws

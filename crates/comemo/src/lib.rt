@@ -6,12 +6,16 @@ pub mod begin;
 pub mod constraint;
 pub mod finish;
 pub mod input;
+pub mod mapped;
 pub mod memoize;
+pub mod multi;
 pub mod track;
 
 pub use begin::{Begun, Fault, Pending};
 pub use constraint::Constraint;
 pub use finish::{How, Reply};
 pub use input::{Hashed, Input, Keyed};
+pub use mapped::{CallMap, MappedSink};
 pub use memoize::{CacheData, Found, Memo};
+pub use multi::{First, Multi, MultiAnswer, MultiCall, Second};
 pub use track::{Call, Sink, Top, Track, Tracked, TrackedWith};

@@ -1,0 +1,43 @@
+-- Calls and answers of two joined inputs.
+use Rattle.std.specs.Prelude.{List, [], ◌∷◌}
+use Rattle.comemo.specs.declared.multi.MultiCall.{MultiCall}
+use Rattle.comemo.specs.declared.multi.MultiCall.TheVariants as call
+use Rattle.comemo.specs.declared.multi.MultiAnswer.{MultiAnswer}
+use Rattle.comemo.specs.declared.multi.MultiAnswer.TheVariants as answer
+
+module _ {X Y : Type 0} where
+  -- a call of the first part, and one of the second
+  abbrev pub first_call : X → MultiCall X Y
+  first_call c = call.A c
+
+  abbrev pub second_call : Y → MultiCall X Y
+  second_call c = call.B c
+
+  -- an answer of the first part, and one of the second
+  abbrev pub first_answer : X → MultiAnswer X Y
+  first_answer a = answer.A a
+
+  abbrev pub second_answer : Y → MultiAnswer X Y
+  second_answer a = answer.B a
+
+  -- what holds of the part's call
+  abbrev pub by_part : {Z : Type 0} → (X → Z) → (Y → Z) → MultiCall X Y → Z
+  by_part f g (call.A c) = f c
+  by_part f g (call.B c) = g c
+
+  -- each call has the answer that its part gives
+  abbrev pub part_answers : {P Q : Type 0} → (X → P) → (Y → Q) → MultiCall X Y → MultiAnswer P Q
+  part_answers m n (call.A c) = answer.A (m c)
+  part_answers m n (call.B c) = answer.B (n c)
+
+  -- the calls of the first part, in order
+  abbrev pub firsts : List (MultiCall X Y) → List X
+  firsts [] = []
+  firsts (call.A c ∷ cs) = c ∷ firsts cs
+  firsts (call.B c ∷ cs) = firsts cs
+
+  -- the calls of the second part, in order
+  abbrev pub seconds : List (MultiCall X Y) → List Y
+  seconds [] = []
+  seconds (call.A c ∷ cs) = seconds cs
+  seconds (call.B c ∷ cs) = c ∷ seconds cs

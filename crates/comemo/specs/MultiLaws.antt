@@ -1,0 +1,39 @@
+-- The laws of joined inputs, which the traits ask. They say nothing that a reader must believe.
+use Rattle.std.proofs.Common.{◌≡◌, Bool, true, false, List, [], ◌∷◌, ◌++◌, IsTrue, refl, sym, ap, subst, ◌∙◌}
+use Rattle.comemo_base.specs.Answers.{Respects}
+use Rattle.comemo.specs.Multi.{by_part, part_answers, firsts, seconds}
+use Rattle.comemo.specs.declared.multi.MultiCall.{MultiCall}
+use Rattle.comemo.specs.declared.multi.MultiCall.TheVariants as call
+use Rattle.comemo.specs.declared.multi.MultiAnswer.{MultiAnswer}
+use Rattle.comemo.specs.declared.multi.MultiAnswer.TheVariants as answer
+
+module _ {X Y : Type 0} where
+  -- what holds of two calls of either part, and of calls of different parts
+  pub by_parts : (T : MultiCall X Y → MultiCall X Y → Type 0) → ((c d : X) → T (call.A c) (call.A d)) → ((c d : Y) → T (call.B c) (call.B d)) → ((c : X) (d : Y) → T (call.A c) (call.B d)) → ((c : Y) (d : X) → T (call.B c) (call.A d)) → (x y : MultiCall X Y) → T x y
+  by_parts T p q r s (call.A c) (call.A d) = p c d
+  by_parts T p q r s (call.B c) (call.B d) = q c d
+  by_parts T p q r s (call.A c) (call.B d) = r c d
+  by_parts T p q r s (call.B c) (call.A d) = s c d
+
+  pub firsts-append : (V W : List (MultiCall X Y)) → firsts (V ++ W) ≡ firsts V ++ firsts W
+  firsts-append [] W = refl
+  firsts-append (call.A c ∷ V) W = ap (λ x. c ∷ x) (firsts-append V W)
+  firsts-append (call.B c ∷ V) W = firsts-append V W
+
+  pub seconds-append : (V W : List (MultiCall X Y)) → seconds (V ++ W) ≡ seconds V ++ seconds W
+  seconds-append [] W = refl
+  seconds-append (call.A c ∷ V) W = seconds-append V W
+  seconds-append (call.B c ∷ V) W = ap (λ x. c ∷ x) (seconds-append V W)
+
+  pub part_answers_alike : {P Q : Type 0} (m m' : X → P) (n n' : Y → Q) → ((c : X) → m' c ≡ m c) → ((c : Y) → n' c ≡ n c) → (c : MultiCall X Y) → part_answers m' n' c ≡ part_answers m n c
+  part_answers_alike m m' n n' p q (call.A c) = ap (λ a. answer.A a) (p c)
+  part_answers_alike m m' n n' p q (call.B c) = ap (λ a. answer.B a) (q c)
+
+  module _ {S T : Type 0} {did : S → List X → S → Type 0} {does : T → List Y → T → Type 0}
+      (joins : (s t u : S) (V W : List X) → did s V t → did t W u → did s (V ++ W) u)
+      (joined : (s t u : T) (V W : List Y) → does s V t → does t W u → does s (V ++ W) u) where
+    pub both_did : (s t u : S × T) (V W : List (MultiCall X Y)) → did s.0 (firsts V) t.0 × does s.1 (seconds V) t.1 → did t.0 (firsts W) u.0 × does t.1 (seconds W) u.1 → did s.0 (firsts (V ++ W)) u.0 × does s.1 (seconds (V ++ W)) u.1
+    both_did s t u V W a b = (
+      subst (λ x. did s.0 x u.0) (sym (firsts-append V W)) (joins s.0 t.0 u.0 (firsts V) (firsts W) a.0 b.0),
+      subst (λ x. does s.1 x u.1) (sym (seconds-append V W)) (joined s.1 t.1 u.1 (seconds V) (seconds W) a.1 b.1),
+    )

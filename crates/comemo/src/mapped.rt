@@ -1,0 +1,106 @@
+//! Sinks that send each call on under another name.
+ghost use Rattle.std.specs.Prelude.{◌≡◌, [], List, false, not, is_none, IfOk, OnOk, OnErr, map, refl};
+ghost use Rattle.std.proofs.Common.{◌∙◌};
+ghost use Rattle.comemo.specs.Sending.{sent_pairs, sent_writes};
+
+use crate::track::{Call, Sink};
+use std::alloc::AllocError;
+
+/// Sends calls to calls and answers to answers.
+///
+/// Different calls go to different calls, reads to reads and writes to writes, and different answers to different
+/// answers. This project's own; comemo takes a closure for it.
+pub trait CallMap {
+    type From: Call;
+
+    type To: Call;
+
+    type FromAnswer: Clone + Ord;
+
+    type ToAnswer: Clone + Ord;
+
+    // where a call goes
+    ghost maps: { Self → Self.From → Self.To };
+
+    // where an answer goes
+    ghost maps_answer: { Self → Self.FromAnswer → Self.ToAnswer };
+
+    /// Where a call goes.
+    fn map(&self, call: Self::From) -> Self::To
+        ensures { result ≡ maps self.now call };
+
+    /// Where an answer goes.
+    fn map_answer(&self, answer: Self::FromAnswer) -> Self::ToAnswer
+        ensures { result ≡ maps_answer self.now answer };
+
+    // reads go to reads and writes to writes
+    ghost same_kind: { (s : Self) (call : Self.From) → Self.To.is_write (maps s call) ≡ Self.From.is_write call };
+
+    // calls are equal exactly where their images are
+    ghost apart: { (s : Self) (x y : Self.From) → Self.To.eq (maps s x) (maps s y) ≡ Self.From.eq x y };
+
+    // answers are equal exactly where their images are
+    ghost answers_apart: { (s : Self) (x y : Self.FromAnswer) → Self.ToAnswer.eq (maps_answer s x) (maps_answer s y) ≡ Self.FromAnswer.eq x y };
+}
+
+/// A sink that sends each call and its answer on to another sink, through a map. It takes no memory of its own.
+///
+/// It refuses what the sink behind it refuses. comemo's `MappedSink`.
+#[derive(Drop)]
+pub struct MappedSink<'a, S, M> {
+    sink: &'a mut S,
+    map: M,
+}
+
+impl<'a, S, M> MappedSink<'a, S, M> {
+    /// Such a sink before `sink`, by `map`.
+    ///
+    /// comemo's `MappedSink::new`.
+    pub fn new(sink: &'a mut S, map: M) -> Self
+        ensures same_reference { result.sink.ghost_name ≡ sink.entry.ghost_name }
+        ensures value { result.sink.now ≡ sink.old }
+        ensures map { result.map ≡ map }
+    {
+        MappedSink { sink, map }
+    }
+}
+
+impl<'a, S: Sink<Call = M::To, Answer = M::ToAnswer>, M: CallMap> Sink for MappedSink<'a, S, M> {
+    type Call = M::From;
+
+    type Answer = M::FromAnswer;
+
+    ghost use Rattle.comemo.specs.Mapped.{MapsTook};
+    ghost use Rattle.comemo.specs.MappedLaws.{maps_nothing, maps_both};
+
+    ghost took = { λ s P W t. MapsTook S.took M.maps M.maps_answer s.sink s.map P W t.sink t.map };
+
+    ghost spoils = { λ s t. S.spoils s.sink.now t.sink.now × (t.sink.ghost_name ≡ s.sink.ghost_name) × (t.map ≡ s.map) };
+
+    ghost holds = { λ s call. S.holds s.sink.now (M.maps s.map call) };
+
+    ghost starts = { λ s. maps_nothing S.starts s.sink s.map };
+
+    ghost joins = { λ s t u P Q V W a b. maps_both S.joins s.sink t.sink u.sink s.map t.map u.map P Q V W a b };
+
+    ghost ends = { λ s t u P V a b. (S.ends s.sink.now t.sink.now u.sink.now _ _ a.sent b.0, b.1 ∙ a.loan, b.2 ∙ a.same_map) };
+
+    fn emit(&mut self, call: M::From, answer: Option<M::FromAnswer>) -> Result<bool, AllocError>
+        requires answered { is_none answer ≡ M.From.is_write call }
+        requires reads { M.From.is_write call ≡ false }
+        ensures ok { OnOk result (MapsTook S.took M.maps M.maps_answer self.old.sink self.old.map (sent_pairs call answer) (sent_writes call answer) self.new.sink self.new.map) }
+        ensures new { IfOk result (λ new. new ≡ not (S.holds self.old.sink.now (M.maps self.old.map call))) }
+        ensures err { OnErr result (MapsTook S.took M.maps M.maps_answer self.old.sink self.old.map [] [] self.new.sink self.new.map) }
+    {
+        let call = self.map.map(call);
+        let answer = match answer {
+            Some(answer) => Some(self.map.map_answer(answer)),
+            None => None,
+        };
+        self.sink.emit(call, answer)
+    }
+
+    fn spoil(&mut self) {
+        self.sink.spoil();
+    }
+}

@@ -1,0 +1,231 @@
+//! Inputs joined: several arguments of a memoized function as one input.
+ghost use Rattle.std.specs.Prelude.{◌≡◌, refl};
+ghost use Rattle.std.proofs.Common.{ap, ◌∙◌, rules};
+
+use crate::input::Input;
+use crate::mapped::CallMap;
+use crate::track::Call;
+use std::alloc::AllocError;
+use std::marker::PhantomData;
+
+/// A call of one of two joined inputs.
+///
+/// It takes what the part's call takes. comemo's `MultiCall`, of two parts.
+#[derive(Clone, Drop, Debug, PartialEq, Eq, Hash)]
+pub enum MultiCall<A, B> {
+    /// A call of the first part.
+    A(A),
+    /// A call of the second part.
+    B(B),
+}
+
+impl<A: Call, B: Call> Call for MultiCall<A, B> {
+    ghost use Rattle.comemo.specs.Multi.{by_part};
+    ghost use Rattle.comemo.specs.MultiLaws.{by_parts};
+
+    ghost is_write = { by_part A.is_write B.is_write };
+
+    ghost same_kind = { by_parts _ A.same_kind B.same_kind (λ c d h. Prim.search rules) (λ c d h. Prim.search rules) };
+
+    ghost clones = { by_parts _ A.clones B.clones (λ c d h. Prim.search rules) (λ c d h. Prim.search rules) };
+
+    fn is_mutable(&self) -> bool {
+        match self {
+            MultiCall::A(call) => call.is_mutable(),
+            MultiCall::B(call) => call.is_mutable(),
+        }
+    }
+}
+
+/// An answer of one of two joined inputs.
+///
+/// comemo has none, since it keeps the hashes of answers.
+#[derive(Clone, Drop, Debug, PartialEq, Eq, PartialOrd, Ord)]
+pub enum MultiAnswer<A, B> {
+    /// An answer of the first part.
+    A(A),
+    /// An answer of the second part.
+    B(B),
+}
+
+/// Inputs joined: a pair, whose parts may be pairs themselves, or nothing at all.
+///
+/// The key of a pair is the pair of its parts' keys, and each call and its answer are a part's. comemo's `Multi`, which
+/// takes up to twelve parts side by side; here three are `Multi((first, Multi((second, third))))`.
+#[derive(Drop)]
+pub struct Multi<T>(pub T);
+
+/// No arguments: an input whose one call is `()`. It takes no memory and refuses nothing.
+impl Input for Multi<()> {
+    type Call = ();
+
+    type Key = ();
+
+    type Answer = ();
+
+    ghost key_of = { λ _. tt };
+
+    ghost answers = { λ _ _. tt };
+
+    ghost did = { λ s _ t. t ≡ s };
+
+    ghost alike = { λ _ _ _ _. refl };
+
+    ghost starts = { λ _. refl };
+
+    ghost joins = { λ s t u V W a b. b ∙ a };
+
+    ghost keeps = { λ _ _ _ _ _. refl };
+
+    ghost keeps_key = { λ _ _ _ _. refl };
+
+    fn key(&self) -> Result<(), AllocError> {
+        Ok(())
+    }
+
+    fn call(&mut self, _call: &()) -> Result<(), AllocError> {
+        Ok(())
+    }
+}
+
+/// Two inputs as one. It takes what its parts take: a key is refused where a part's is, an answer where its part's is.
+impl<A: Input, B: Input> Input for Multi<(A, B)> {
+    type Call = MultiCall<A::Call, B::Call>;
+
+    type Key = (A::Key, B::Key);
+
+    type Answer = MultiAnswer<A::Answer, B::Answer>;
+
+    ghost use Rattle.comemo.specs.Multi.{part_answers, firsts, seconds};
+    ghost use Rattle.comemo.specs.MultiLaws.{by_parts, part_answers_alike, both_did};
+
+    ghost key_of = { λ s. (A.key_of s.0.0, B.key_of s.0.1) };
+
+    ghost answers = { λ s. part_answers (A.answers s.0.0) (B.answers s.0.1) };
+
+    ghost did = { λ s W t. A.did s.0.0 (firsts W) t.0.0 × B.did s.0.1 (seconds W) t.0.1 };
+
+    ghost alike = { λ s. by_parts _ (A.alike s.0.0) (B.alike s.0.1) (λ c d h. Prim.search rules) (λ c d h. Prim.search rules) };
+
+    ghost starts = { λ s. (A.starts s.0.0, B.starts s.0.1) };
+
+    ghost joins = { λ s t u. both_did A.joins B.joins s.0 t.0 u.0 };
+
+    ghost keeps = { λ s t W a. part_answers_alike (A.answers s.0.0) (A.answers t.0.0) (B.answers s.0.1) (B.answers t.0.1) (A.keeps s.0.0 t.0.0 (firsts W) a.0) (B.keeps s.0.1 t.0.1 (seconds W) a.1) };
+
+    ghost keeps_key = { λ s t W a. ap (λ x. (x, B.key_of t.0.1)) (A.keeps_key s.0.0 t.0.0 (firsts W) a.0) ∙ ap (λ x. (A.key_of s.0.0, x)) (B.keeps_key s.0.1 t.0.1 (seconds W) a.1) };
+
+    fn key(&self) -> Result<(A::Key, B::Key), AllocError> {
+        let first = self.0.0.key()?;
+        let second = self.0.1.key()?;
+        Ok((first, second))
+    }
+
+    fn call(
+        &mut self,
+        call: &MultiCall<A::Call, B::Call>,
+    ) -> Result<MultiAnswer<A::Answer, B::Answer>, AllocError> {
+        match call {
+            MultiCall::A(call) => Ok(MultiAnswer::A(self.0.0.call(call)?)),
+            MultiCall::B(call) => Ok(MultiAnswer::B(self.0.1.call(call)?)),
+        }
+    }
+}
+
+/// Sends the calls and answers of a first part to those of the pair. It takes no memory.
+///
+/// This project's own.
+#[derive(Drop)]
+pub struct First<A, B, RA, RB> {
+    calls: PhantomData<(A, B)>,
+    answers: PhantomData<(RA, RB)>,
+}
+
+impl<A, B, RA, RB> First<A, B, RA, RB> {
+    /// Such a map.
+    pub fn new() -> Self {
+        First {
+            calls: PhantomData,
+            answers: PhantomData,
+        }
+    }
+}
+
+impl<A: Call, B: Call, RA: Clone + Ord, RB: Clone + Ord> CallMap for First<A, B, RA, RB> {
+    type From = A;
+
+    type To = MultiCall<A, B>;
+
+    type FromAnswer = RA;
+
+    type ToAnswer = MultiAnswer<RA, RB>;
+
+    ghost use Rattle.comemo.specs.Multi.{first_call, first_answer};
+
+    ghost maps = { λ _. first_call };
+
+    ghost maps_answer = { λ _. first_answer };
+
+    ghost same_kind = { λ _ _. refl };
+
+    ghost apart = { λ _ _ _. refl };
+
+    ghost answers_apart = { λ _ _ _. refl };
+
+    fn map(&self, call: A) -> MultiCall<A, B> {
+        MultiCall::A(call)
+    }
+
+    fn map_answer(&self, answer: RA) -> MultiAnswer<RA, RB> {
+        MultiAnswer::A(answer)
+    }
+}
+
+/// Sends the calls and answers of a second part to those of the pair. It takes no memory.
+///
+/// This project's own.
+#[derive(Drop)]
+pub struct Second<A, B, RA, RB> {
+    calls: PhantomData<(A, B)>,
+    answers: PhantomData<(RA, RB)>,
+}
+
+impl<A, B, RA, RB> Second<A, B, RA, RB> {
+    /// Such a map.
+    pub fn new() -> Self {
+        Second {
+            calls: PhantomData,
+            answers: PhantomData,
+        }
+    }
+}
+
+impl<A: Call, B: Call, RA: Clone + Ord, RB: Clone + Ord> CallMap for Second<A, B, RA, RB> {
+    type From = B;
+
+    type To = MultiCall<A, B>;
+
+    type FromAnswer = RB;
+
+    type ToAnswer = MultiAnswer<RA, RB>;
+
+    ghost use Rattle.comemo.specs.Multi.{second_call, second_answer};
+
+    ghost maps = { λ _. second_call };
+
+    ghost maps_answer = { λ _. second_answer };
+
+    ghost same_kind = { λ _ _. refl };
+
+    ghost apart = { λ _ _ _. refl };
+
+    ghost answers_apart = { λ _ _ _. refl };
+
+    fn map(&self, call: B) -> MultiCall<A, B> {
+        MultiCall::B(call)
+    }
+
+    fn map_answer(&self, answer: RB) -> MultiAnswer<RA, RB> {
+        MultiAnswer::B(answer)
+    }
+}
