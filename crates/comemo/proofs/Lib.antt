@@ -9,3 +9,5 @@ pub mod Told
 pub mod Validating
 pub mod Calls
 pub mod Growing
+pub mod Through
+pub mod Joined

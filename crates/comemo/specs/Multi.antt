@@ -1,5 +1,5 @@
 -- Calls and answers of two joined inputs.
-use Rattle.std.specs.Prelude.{List, [], ◌∷◌}
+use Rattle.std.specs.Prelude.{◌≡◌, List, [], ◌∷◌}
 use Rattle.comemo.specs.declared.multi.MultiCall.{MultiCall}
 use Rattle.comemo.specs.declared.multi.MultiCall.TheVariants as call
 use Rattle.comemo.specs.declared.multi.MultiAnswer.{MultiAnswer}
@@ -41,3 +41,8 @@ module _ {X Y : Type 0} where
   seconds [] = []
   seconds (call.A c ∷ cs) = seconds cs
   seconds (call.B c ∷ cs) = c ∷ seconds cs
+
+  -- for the definition of a function of two arguments: what holds of the answers of each part, where each call is answered by
+  -- its part
+  abbrev pub OnParts : {P Q : Type 0} → (MultiCall X Y → MultiAnswer P Q) → ((X → P) → (Y → Q) → Type 0) → Type 0
+  OnParts {P} {Q} answers holds = (m : X → P) (n : Y → Q) → ((c : X) → answers (call.A c) ≡ answer.A (m c)) → ((c : Y) → answers (call.B c) ≡ answer.B (n c)) → holds m n

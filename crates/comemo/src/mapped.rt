@@ -1,9 +1,10 @@
 //! Sinks that send each call on under another name.
 ghost use Rattle.std.specs.Prelude.{◌≡◌, [], List, false, not, is_none, IfOk, OnOk, OnErr, map, refl};
 ghost use Rattle.std.proofs.Common.{◌∙◌};
-ghost use Rattle.comemo.specs.Sending.{sent_pairs, sent_writes};
+ghost use Rattle.comemo.specs.Mapped.{Through};
+ghost use Rattle.comemo.specs.Sending.{Asks, sent_pairs, sent_writes};
 
-use crate::track::{Call, Sink};
+use crate::track::{Call, Sink, Track, Tracked};
 use std::alloc::AllocError;
 
 /// Sends calls to calls and answers to answers.
@@ -45,8 +46,8 @@ pub trait CallMap {
 
 /// A sink that sends each call and its answer on to another sink, through a map. It takes no memory of its own.
 ///
-/// It refuses what the sink behind it refuses. comemo's `MappedSink`.
-#[derive(Drop)]
+/// It refuses what the sink behind it refuses. Once it is dropped, the sink behind it is known to hold what was sent.
+/// comemo's `MappedSink`.
 pub struct MappedSink<'a, S, M> {
     sink: &'a mut S,
     map: M,
@@ -62,6 +63,15 @@ impl<'a, S, M> MappedSink<'a, S, M> {
         ensures map { result.map ≡ map }
     {
         MappedSink { sink, map }
+    }
+}
+
+impl<'a, S, M: Drop> Drop for MappedSink<'a, S, M> {
+    fn drop(self)
+        ensures { self.exit.0.now ≡ self.entry.sink.now }
+    {
+        let MappedSink { sink: _, map } = self;
+        drop(map);
     }
 }
 
@@ -102,5 +112,24 @@ impl<'a, S: Sink<Call = M::To, Answer = M::ToAnswer>, M: CallMap> Sink for Mappe
 
     fn spoil(&mut self) {
         self.sink.spoil();
+    }
+}
+
+impl<'a, T: Track> Tracked<'a, T> {
+    /// Asks the value a read, and sends the call with its answer to a sink through a map.
+    ///
+    /// It does what `ask` does with a `MappedSink`. It clones the answer for the sink. An error says that there was no
+    /// memory for the answer, its clone or the sink; then the sink is as it was. This project's own.
+    pub fn ask_through<
+        M: CallMap<From = T::Call, FromAnswer = T::Answer> + Drop,
+        S: Sink<Call = M::To, Answer = M::ToAnswer>,
+    >(&mut self, call: T::Call, map: M, sink: &mut S) -> Result<T::Answer, AllocError>
+        requires { T.Call.is_write call ≡ false }
+        ensures ok { IfOk result (λ answer. Asks T.Answer.eq (Through S.took (M.maps map) (M.maps_answer map)) (T.answers self.old) sink.old call answer sink.new) }
+        ensures err { OnErr result (S.took sink.old [] [] sink.new) }
+        ensures same { self.new ≡ self.old }
+    {
+        let mut mapped = MappedSink::new(sink, map);
+        self.ask(call, &mut mapped)
     }
 }
