@@ -1,3 +1,4 @@
 pub mod Places
 pub mod Contexts
 pub mod Before
+pub mod Contains

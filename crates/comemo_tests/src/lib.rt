@@ -7,6 +7,9 @@ pub mod cells;
 pub mod fibonacci;
 pub mod functions;
 pub mod inputs;
+pub mod joined;
+#[cfg(test)]
+mod joined_runs;
 pub mod nested;
 #[cfg(test)]
 mod recordings;

@@ -1,0 +1,18 @@
+use Rattle.std.proofs.Common.{rules, refl}
+use Rattle.comemo.proofs.Joined.{joined_hit}
+use Rattle.comemo_tests.proofs.Contains.{is_sum}
+use Rattle.comemo_tests.proofs.joined.locations.Goals as goal
+
+pub finish-requires : goal.finish-requires
+finish-requires g c =
+    let run = rw c.in-Run.is at c.in_ok-output.ensures.begun in
+    let asks = rw c.recording.ensures.value at c.in-Ok.ensures.ok in
+    let pairs = rw run.0.pairs at asks.sent.pairs in
+    let asks2 = rw c.recording-in-Run.ensures.value at c.in-Ok-ask_through.ensures.ok in
+    let pairs2 = rw pairs at asks2.sent.pairs in
+    λ w m r a x y p q. let told = rw (pairs2, p _, q _) at a in is_sum _ _ _ _ _ _ _ _ told.0 asks.alike asks.gives told.1.0 asks2.alike asks2.gives
+
+pub returns-in-Hit-clause-output : goal.returns-in-Hit-clause-output
+returns-in-Hit-clause-output g c =
+    let hit = rw c.in-Hit.is at c.in_ok-output.ensures.begun in
+    rw (← c.fork.ensures, ← c.fork-2.ensures) (joined_hit hit (record { left = λ c d. refl; right = λ c d. refl }) (λ x y h. search rules) (λ x y h. search rules) _ _ (λ c. refl) (λ c. refl))
