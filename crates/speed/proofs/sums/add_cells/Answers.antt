@@ -1,0 +1,17 @@
+use Rattle.std.proofs.Common.{rules, arith}
+use Rattle.comemo.proofs.Told.{told_answer}
+use Rattle.speed.specs.Sums.{numbers, by_call}
+use Rattle.speed.proofs.Gets.{same_gets, same_numbers, respects_gets, same_number, sum_more}
+use Rattle.speed.proofs.sums.add_cells.Goals as goal
+
+pub loop-place-preserved : goal.loop-place-preserved
+loop-place-preserved c =
+    let i = c.loop-place.invariant in
+    let row = numbers c.args.cells.now.numbers.items in
+    let t = told_answer same_gets same_numbers row (respects_gets row) _ _ _ _ i.agrees (rw i.same at c.in_ok-sum.ensures.ok) in
+    record {
+      within = omega arith;
+      same = search rules;
+      agrees = t.agrees;
+      told = λ m r a. sum_more _ _ _ _ (by_call m) (i.told m r (t.before m r a)) (same_number _ _ (t.told m r a));
+    }

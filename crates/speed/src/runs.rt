@@ -1,0 +1,230 @@
+//! How the workloads are done. Each makes what it works on, then reads the clock, does its operations, and reads it again.
+
+use crate::cells::Cells;
+use crate::hashing::{bytes, fold_numbers, text};
+use crate::lengths::{length_by_kept_number, length_by_number, length_of};
+use crate::stopwatch::Stopwatch;
+use crate::sums::{SumKey, SumMemo, sum};
+use crate::workload::Workload;
+use comemo::{CacheData, Fault, Hashed, Track};
+use comemo_base::Prehashed;
+use std::alloc::{AllocError, Global};
+use std::rt::Clock;
+
+/// What was seen of some operations.
+#[derive(Clone, Copy, Debug, PartialEq, Eq)]
+pub struct Seen {
+    /// The nanoseconds that all took, where the clock could be read.
+    pub nanoseconds: Option<u64>,
+    /// What the operations gave, in one number.
+    pub sum: u64,
+}
+
+/// The text workloads' key has a mebibyte.
+const TEXT_BYTES: usize = 1_048_576;
+
+/// How many cells there are.
+const CELLS: u32 = 128;
+
+/// Does so many operations of a workload.
+pub fn run<R: Clock>(
+    rt: &R,
+    alloc: Global,
+    workload: Workload,
+    operations: u64,
+) -> Result<Seen, Fault> {
+    match workload {
+        Workload::Sip { bytes } => hash_bytes(rt, alloc, bytes, operations),
+        Workload::HitSameView { calls } => hit_same_view(rt, alloc, calls, operations),
+        Workload::HitNewView { calls } => hit_new_view(rt, alloc, calls, operations),
+        Workload::MissNewKeys { calls } => miss_new_keys(rt, alloc, calls, operations),
+        Workload::MissLastDiffers => miss_last_differs(rt, alloc, operations),
+        Workload::HitAmong { entries } => hit_among(rt, alloc, entries, operations),
+        Workload::TextItself => text_itself(rt, alloc, operations),
+        Workload::TextByNumber => text_by_number(rt, alloc, operations),
+        Workload::TextByKeptNumber => text_by_kept_number(rt, alloc, operations),
+    }
+}
+
+/// What was made, or the fault that there was no memory for it.
+fn made<T>(outcome: Result<T, AllocError>) -> Result<T, Fault> {
+    outcome.map_err(|_| Fault::Memory)
+}
+
+/// Hashes so many bytes.
+fn hash_bytes<R: Clock>(
+    rt: &R,
+    alloc: Global,
+    count: usize,
+    operations: u64,
+) -> Result<Seen, Fault> {
+    let hashed = made(bytes(alloc, count))?;
+    let watch = Stopwatch::start(rt);
+    let sum = fold_numbers(hashed.as_slice(), operations);
+    Ok(Seen {
+        nanoseconds: watch.nanoseconds(rt),
+        sum,
+    })
+}
+
+/// Hits one kept sum, by one view.
+fn hit_same_view<R: Clock>(
+    rt: &R,
+    alloc: Global,
+    count: u32,
+    operations: u64,
+) -> Result<Seen, Fault> {
+    let cells = made(Cells::new(alloc, CELLS))?;
+    let mut cache: CacheData<SumMemo> = CacheData::new(alloc);
+    let key = SumKey { start: 1, count };
+    let view = cells.track();
+    sum(alloc, &mut cache, key, &view)?;
+    let watch = Stopwatch::start(rt);
+    let mut all: u64 = 0;
+    for _ in 0..operations {
+        all = all.wrapping_add(sum(alloc, &mut cache, key, &view)?.output);
+    }
+    Ok(Seen {
+        nanoseconds: watch.nanoseconds(rt),
+        sum: all,
+    })
+}
+
+/// Hits one kept sum, by a view of its own each time.
+fn hit_new_view<R: Clock>(
+    rt: &R,
+    alloc: Global,
+    count: u32,
+    operations: u64,
+) -> Result<Seen, Fault> {
+    let cells = made(Cells::new(alloc, CELLS))?;
+    let mut cache: CacheData<SumMemo> = CacheData::new(alloc);
+    let key = SumKey { start: 1, count };
+    sum(alloc, &mut cache, key, &cells.track())?;
+    let watch = Stopwatch::start(rt);
+    let mut all: u64 = 0;
+    for _ in 0..operations {
+        all = all.wrapping_add(sum(alloc, &mut cache, key, &cells.track())?.output);
+    }
+    Ok(Seen {
+        nanoseconds: watch.nanoseconds(rt),
+        sum: all,
+    })
+}
+
+/// Adds the first cells to 0, 1, 2 and so on, beginning with an empty cache.
+fn miss_new_keys<R: Clock>(
+    rt: &R,
+    alloc: Global,
+    count: u32,
+    operations: u64,
+) -> Result<Seen, Fault> {
+    let cells = made(Cells::new(alloc, CELLS))?;
+    let mut cache: CacheData<SumMemo> = CacheData::new(alloc);
+    let view = cells.track();
+    let watch = Stopwatch::start(rt);
+    let mut all: u64 = 0;
+    for start in 0..operations {
+        let key = SumKey { start, count };
+        all = all.wrapping_add(sum(alloc, &mut cache, key, &view)?.output);
+    }
+    Ok(Seen {
+        nanoseconds: watch.nanoseconds(rt),
+        sum: all,
+    })
+}
+
+/// Adds ten cells to 1, where the last of them holds 0, 1, 2 and so on, beginning with an empty cache.
+fn miss_last_differs<R: Clock>(rt: &R, alloc: Global, operations: u64) -> Result<Seen, Fault> {
+    let mut cells = made(Cells::new(alloc, CELLS))?;
+    let mut cache: CacheData<SumMemo> = CacheData::new(alloc);
+    let key = SumKey {
+        start: 1,
+        count: 10,
+    };
+    let watch = Stopwatch::start(rt);
+    let mut all: u64 = 0;
+    for number in 0..operations {
+        cells.set(9, number);
+        all = all.wrapping_add(sum(alloc, &mut cache, key, &cells.track())?.output);
+    }
+    Ok(Seen {
+        nanoseconds: watch.nanoseconds(rt),
+        sum: all,
+    })
+}
+
+/// Keeps sums of one cell, which holds 0, 1, 2 and so on, and hits them.
+fn hit_among<R: Clock>(
+    rt: &R,
+    alloc: Global,
+    entries: u64,
+    operations: u64,
+) -> Result<Seen, Fault> {
+    let mut cells = made(Cells::new(alloc, CELLS))?;
+    let mut cache: CacheData<SumMemo> = CacheData::new(alloc);
+    let key = SumKey { start: 1, count: 1 };
+    for number in 0..entries {
+        cells.set(0, number);
+        sum(alloc, &mut cache, key, &cells.track())?;
+    }
+    let watch = Stopwatch::start(rt);
+    let mut all: u64 = 0;
+    for hit in 0..operations {
+        // The kept numbers in a scattered order.
+        cells.set(0, hit.wrapping_mul(7919).wrapping_add(13) % entries.max(1));
+        all = all.wrapping_add(sum(alloc, &mut cache, key, &cells.track())?.output);
+    }
+    Ok(Seen {
+        nanoseconds: watch.nanoseconds(rt),
+        sum: all,
+    })
+}
+
+/// Hits the length of a text by the text, which is lent each time.
+fn text_itself<R: Clock>(rt: &R, alloc: Global, operations: u64) -> Result<Seen, Fault> {
+    let mut key = Hashed(made(text(alloc, TEXT_BYTES))?);
+    let mut cache = CacheData::new(alloc);
+    length_of(alloc, &mut cache, &mut key)?;
+    let watch = Stopwatch::start(rt);
+    let mut all: u64 = 0;
+    for _ in 0..operations {
+        all = all.wrapping_add(length_of(alloc, &mut cache, &mut key)?.output);
+    }
+    Ok(Seen {
+        nanoseconds: watch.nanoseconds(rt),
+        sum: all,
+    })
+}
+
+/// Hits the length of a text by its number.
+fn text_by_number<R: Clock>(rt: &R, alloc: Global, operations: u64) -> Result<Seen, Fault> {
+    let key = made(text(alloc, TEXT_BYTES))?;
+    let mut cache = CacheData::new(alloc);
+    length_by_number(alloc, &mut cache, &key)?;
+    let watch = Stopwatch::start(rt);
+    let mut all: u64 = 0;
+    for _ in 0..operations {
+        all = all.wrapping_add(length_by_number(alloc, &mut cache, &key)?.output);
+    }
+    Ok(Seen {
+        nanoseconds: watch.nanoseconds(rt),
+        sum: all,
+    })
+}
+
+/// Hits the length of a text by the number that it keeps.
+fn text_by_kept_number<R: Clock>(rt: &R, alloc: Global, operations: u64) -> Result<Seen, Fault> {
+    let key = Prehashed::new(made(text(alloc, TEXT_BYTES))?);
+    let mut cache = CacheData::new(alloc);
+    length_by_kept_number(alloc, &mut cache, &key)?;
+    let watch = Stopwatch::start(rt);
+    let mut all: u64 = 0;
+    for _ in 0..operations {
+        all = all.wrapping_add(length_by_kept_number(alloc, &mut cache, &key)?.output);
+    }
+    Ok(Seen {
+        nanoseconds: watch.nanoseconds(rt),
+        sum: all,
+    })
+}

@@ -1,0 +1,26 @@
+//! The time of a stretch of work.
+
+use std::rt::Clock;
+use std::time::Instant;
+
+/// A clock that was read as the work began, where it could be read.
+#[derive(Clone, Copy)]
+pub struct Stopwatch {
+    start: Option<Instant>,
+}
+
+impl Stopwatch {
+    /// Reads the clock.
+    pub fn start<R: Clock>(rt: &R) -> Stopwatch {
+        Stopwatch {
+            start: Instant::now(rt).ok(),
+        }
+    }
+
+    /// The nanoseconds since then, or `None` where the clock could not be read.
+    pub fn nanoseconds<R: Clock>(self, rt: &R) -> Option<u64> {
+        let end = Instant::now(rt).ok()?;
+        let elapsed = end.duration_since(self.start?);
+        u64::try_from(elapsed.as_nanos()).ok()
+    }
+}

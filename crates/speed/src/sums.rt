@@ -1,0 +1,93 @@
+//! The memoized sum: a number and the first few cells.
+ghost use Rattle.std.specs.Prelude.{IfOk, OnErr, ◌≡◌, ℕ, nat_eq, slice_index};
+ghost use Rattle.std.proofs.Common.{rules};
+ghost use Rattle.comemo_base.specs.Answers.{Respects, Agrees};
+ghost use Rattle.speed.specs.Sums.{sum_of, by_call, same_get, numbers};
+
+use crate::cells::{Cells, Get};
+use comemo::begin::begin;
+use comemo::{Begun, CacheData, Constraint, Fault, How, Keyed, Memo, Reply, Top, Tracked};
+use std::alloc::{AllocError, Global};
+use std::hash::Hash;
+
+/// What a sum begins with, and how many cells it adds.
+#[derive(Clone, Copy, Drop, Debug, PartialEq, Eq, Hash)]
+pub struct SumKey {
+    pub start: u64,
+    pub count: u32,
+}
+
+/// The sum of a number and the first cells, which wraps.
+pub struct SumMemo;
+
+impl Memo for SumMemo {
+    type Call = Get;
+
+    type Key = SumKey;
+
+    type Answer = u64;
+
+    type Out = u64;
+
+    ghost def = { λ key m out _. out ≡ sum_of key.start key.count (by_call m) };
+
+    ghost output_clones = { Prim.search rules };
+
+    ghost key_alike = { Prim.search rules };
+
+    ghost key_clones = { Prim.search rules };
+
+    ghost answer_clones = { Prim.search rules };
+}
+
+/// Adds the first cells to a number, each asked by a call.
+///
+/// What is recorded tells the sum: whichever answers agree with it have that sum.
+fn add_cells(
+    key: SumKey,
+    cells: &mut Tracked<'_, Cells>,
+    recording: &mut Constraint<Get, u64>,
+) -> Result<u64, AllocError>
+    requires { Agrees nat_eq (numbers cells.old.numbers.items) recording.old.pairs }
+    ensures agrees { IfOk result (λ _. Agrees nat_eq (numbers cells.old.numbers.items) recording.new.pairs) }
+    ensures told { IfOk result (λ sum. (m : Get → ℕ) → Respects same_get nat_eq m → Agrees nat_eq m recording.new.pairs → sum ≡ sum_of key.start key.count (by_call m)) }
+{
+    let mut sum = key.start;
+    let mut place = 0;
+    while place < key.count {
+        sum = sum.wrapping_add(cells.ask(Get { place }, recording)?);
+        place += 1;
+    }
+    Ok(sum)
+}
+
+/// The sum of a number and the first cells, which wraps, kept under the number and the count.
+pub fn sum(
+    alloc: Global,
+    cache: &mut CacheData<SumMemo>,
+    key: SumKey,
+    cells: &Tracked<'_, Cells>,
+) -> Result<Reply<u64>, Fault>
+    ensures output { IfOk result (λ reply. reply.output ≡ sum_of key.start key.count (λ at. slice_index cells.now.numbers.items at)) }
+    ensures err { OnErr result (cache.new ≡ cache.old) }
+{
+    let mut sink = Top::new();
+    let mut input = Keyed {
+        key,
+        view: cells.fork(),
+    };
+    match begin(alloc, cache, &mut input, &mut sink, true)? {
+        Begun::Hit(output) => Ok(Reply {
+            output,
+            how: How::Hit,
+        }),
+        Begun::Run(mut pending) => {
+            let mut view = cells.fork();
+            let Ok(output) = add_cells(key, &mut view, pending.recording()) else {
+                pending.give_up(&mut sink);
+                return Err(Fault::Memory);
+            };
+            pending.finish(cache, &mut sink, output)
+        }
+    }
+}

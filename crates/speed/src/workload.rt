@@ -1,0 +1,119 @@
+//! The workloads: what each is called, and how often it is done.
+
+use std::alloc::{AllocError, Global};
+
+/// A kind of work, whose operations are timed.
+#[derive(Clone, Copy, Drop, Debug, PartialEq, Eq)]
+pub enum Workload {
+    /// SipHash over so many bytes.
+    Sip { bytes: usize },
+    /// A kept sum of so many cells, by one view for all.
+    HitSameView { calls: u32 },
+    /// A kept sum of so many cells, by a view of its own each.
+    HitNewView { calls: u32 },
+    /// Sums of so many cells, each under a key of its own, into a cache that is empty at first.
+    MissNewKeys { calls: u32 },
+    /// Sums of ten cells under one key, of which the last cell differs each time.
+    MissLastDiffers,
+    /// Kept sums of one cell, among so many under one key.
+    HitAmong { entries: u64 },
+    /// The kept length of a text, under the text.
+    TextItself,
+    /// The kept length of a text, under its number, which is computed each time.
+    TextByNumber,
+    /// The kept length of a text, under the number that it keeps.
+    TextByKeptNumber,
+}
+
+/// All workloads, in the order in which they are done.
+pub const WORKLOADS: [Workload; 22] = [
+    Workload::Sip { bytes: 16 },
+    Workload::Sip { bytes: 64 },
+    Workload::Sip { bytes: 1024 },
+    Workload::Sip { bytes: 1_048_576 },
+    Workload::HitSameView { calls: 0 },
+    Workload::HitNewView { calls: 0 },
+    Workload::HitSameView { calls: 1 },
+    Workload::HitNewView { calls: 1 },
+    Workload::HitSameView { calls: 10 },
+    Workload::HitNewView { calls: 10 },
+    Workload::HitSameView { calls: 100 },
+    Workload::HitNewView { calls: 100 },
+    Workload::MissNewKeys { calls: 0 },
+    Workload::MissNewKeys { calls: 1 },
+    Workload::MissNewKeys { calls: 10 },
+    Workload::MissNewKeys { calls: 100 },
+    Workload::MissLastDiffers,
+    Workload::HitAmong { entries: 1 },
+    Workload::HitAmong { entries: 1000 },
+    Workload::TextItself,
+    Workload::TextByNumber,
+    Workload::TextByKeptNumber,
+];
+
+// How many misses are timed. For now a cache is a plain list, so a miss takes time in proportion to what is kept, and all
+// misses together in proportion to the square.
+const MISSES: u64 = 1_000;
+
+// How many hits among many entries are timed; each goes over the list, as a miss does.
+const HITS_AMONG_MANY: u64 = 20_000;
+
+impl Workload {
+    /// What it is called.
+    pub fn name(self, alloc: Global) -> Result<String, AllocError> {
+        match self {
+            Workload::Sip { bytes } => sip_name(alloc, bytes),
+            Workload::HitSameView { calls } => format!(in alloc; "hit {calls} calls, same view"),
+            Workload::HitNewView { calls } => format!(in alloc; "hit {calls} calls, new view each"),
+            Workload::MissNewKeys { calls } => format!(in alloc; "miss {calls} calls, new keys"),
+            Workload::MissLastDiffers => String::from_str(alloc, "miss 10 calls, last differs"),
+            Workload::HitAmong { entries } => {
+                format!(in alloc; "hit among {entries} under one key")
+            }
+            Workload::TextItself => String::from_str(alloc, "text 1 MiB as a key, kept itself"),
+            Workload::TextByNumber => String::from_str(alloc, "text 1 MiB by its number"),
+            Workload::TextByKeptNumber => String::from_str(alloc, "text 1 MiB by a number kept"),
+        }
+    }
+
+    /// How many operations a timed repetition does.
+    pub fn operations(self) -> u64 {
+        match self {
+            Workload::Sip { bytes: 0..=16 } => 2_000_000,
+            Workload::Sip { bytes: 17..=64 } => 1_000_000,
+            Workload::Sip { bytes: 65..=1024 } => 100_000,
+            Workload::Sip { .. } => 50,
+            Workload::HitSameView { calls } | Workload::HitNewView { calls } => match calls {
+                0 => 600_000,
+                1 => 500_000,
+                2..=10 => 150_000,
+                _ => 20_000,
+            },
+            Workload::MissNewKeys { .. } | Workload::MissLastDiffers => MISSES,
+            Workload::HitAmong { entries: 0..=1 } => 400_000,
+            Workload::HitAmong { .. } => HITS_AMONG_MANY,
+            Workload::TextItself | Workload::TextByNumber => 20,
+            Workload::TextByKeptNumber => 500_000,
+        }
+    }
+
+    /// How many operations are done where the sum alone is wanted.
+    pub fn few(self) -> u64 {
+        match self {
+            Workload::Sip { bytes: 0..=64 } => 100,
+            Workload::Sip { bytes: 65..=1024 } => 10,
+            Workload::Sip { .. } | Workload::TextItself | Workload::TextByNumber => 2,
+            _ => 10,
+        }
+    }
+}
+
+/// What hashing so many bytes is called.
+fn sip_name(alloc: Global, bytes: usize) -> Result<String, AllocError> {
+    let kibibytes = bytes / 1024;
+    match kibibytes {
+        0 => format!(in alloc; "sip {bytes} B"),
+        1..=1023 => format!(in alloc; "sip {kibibytes} KiB"),
+        _ => format!(in alloc; "sip {} MiB", kibibytes / 1024),
+    }
+}
