@@ -1,9 +1,9 @@
 -- For the authors of memoized functions: what `begin` and `finish` say makes what a caller wants to know.
-use Rattle.std.proofs.Common.{◌≡◌, ◌↔◌, Bool, false, List, Result, Ok, Err, IfOk, OnOk, refl, sym, subst}
+use Rattle.std.proofs.Common.{◌≡◌, ◌↔◌, Bool, false, List, Result, Ok, Err, IfOk, sym, subst}
 use Rattle.comemo_base.specs.Answers.{Respects, Agrees}
 use Rattle.comemo_base.specs.Tree.{Stored}
 use Rattle.comemo.specs.Begin.{PendingRun, IsHit, IsRun}
-use Rattle.comemo.specs.Cache.{Output, Stands}
+use Rattle.comemo.specs.Cache.{Output}
 use Rattle.comemo.specs.Called.{Gave, Came}
 use Rattle.comemo.specs.Finish.{Ends}
 use Rattle.comemo.specs.declared.finish.How.{How}

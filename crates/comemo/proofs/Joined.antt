@@ -1,5 +1,5 @@
 -- For the authors of functions of two arguments: calls and answers of joined inputs are told apart by their parts.
-use Rattle.std.proofs.Common.{◌≡◌, Bool, true, false, List, refl, sym, ◌∙◌}
+use Rattle.std.proofs.Common.{◌≡◌, Bool, true, false, List, sym, ◌∙◌}
 use Rattle.std.specs.Cmp.{IsEquivalence}
 use Rattle.comemo_base.specs.Answers.{Respects}
 use Rattle.comemo_base.specs.Tree.{Stored}

@@ -6,8 +6,10 @@ pub mod Sendings
 pub mod Copies
 pub mod Endings
 pub mod Told
+pub mod Recorders
 pub mod Validating
 pub mod Calls
+pub mod Closures
 pub mod Growing
 pub mod Through
 pub mod Joined

@@ -1,5 +1,5 @@
 -- What is asked through a map.
-use Rattle.std.proofs.Common.{◌≡◌, Bool, List, IsTrue, ◌∙◌}
+use Rattle.std.proofs.Common.{◌≡◌, Bool, List, ◌∙◌}
 use Rattle.comemo.specs.Mapped.{Through}
 use Rattle.comemo.specs.Sending.{Asks}
 

@@ -6,6 +6,9 @@ pub mod Begin
 pub mod Begun
 pub mod Finish
 pub mod Called
+pub mod Closure
+pub mod Function
+pub mod FunctionLaws
 pub mod Views
 pub mod Multi
 pub mod Mapped

@@ -1,6 +1,6 @@
 -- The laws of a sink that sends each call on through a map, which the trait asks. They say nothing that a reader must
 -- believe.
-use Rattle.std.proofs.Common.{◌≡◌, List, [], ◌++◌, map, refl, sym, subst, ◌∙◌}
+use Rattle.std.proofs.Common.{List, [], ◌++◌, map, refl, sym, subst, ◌∙◌}
 use Rattle.std.proofs.lemmas.List.{map-append}
 use Rattle.std.specs.Borrow.{MutBor}
 use Rattle.comemo.specs.Mapped.{mapped_pairs, MapsTook}

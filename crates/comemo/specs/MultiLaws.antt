@@ -1,10 +1,8 @@
 -- The laws of joined inputs, which the traits ask. They say nothing that a reader must believe.
-use Rattle.std.proofs.Common.{◌≡◌, Bool, true, false, List, [], ◌∷◌, ◌++◌, IsTrue, refl, sym, ap, subst, ◌∙◌}
-use Rattle.comemo_base.specs.Answers.{Respects}
-use Rattle.comemo.specs.Multi.{by_part, part_answers, firsts, seconds}
+use Rattle.std.proofs.Common.{◌≡◌, List, [], ◌∷◌, ◌++◌, refl, sym, ap, subst}
+use Rattle.comemo.specs.Multi.{part_answers, firsts, seconds}
 use Rattle.comemo.specs.declared.multi.MultiCall.{MultiCall}
 use Rattle.comemo.specs.declared.multi.MultiCall.TheVariants as call
-use Rattle.comemo.specs.declared.multi.MultiAnswer.{MultiAnswer}
 use Rattle.comemo.specs.declared.multi.MultiAnswer.TheVariants as answer
 
 module _ {X Y : Type 0} where

@@ -1,5 +1,5 @@
 -- The laws of a recording as a sink, which the trait asks. They say nothing that a reader must believe.
-use Rattle.std.proofs.Common.{◌≡◌, Bool, List, [], ◌++◌, refl, sym, ap, ◌∙◌, append_assoc, append-nil}
+use Rattle.std.proofs.Common.{Bool, List, [], ◌++◌, refl, sym, ap, ◌∙◌, append_assoc, append-nil}
 use Rattle.comemo_base.specs.Sequence.{absorbed}
 use Rattle.comemo_base.proofs.Pairs.{absorbed-append}
 use Rattle.comemo.specs.Recording.{Recording, Took}

@@ -22,6 +22,18 @@ pub enum Fault {
     Incomplete,
 }
 
+/// So that `?` hands on a refused request of a run.
+impl From<AllocError> for Fault {
+    ghost use Rattle.std.specs.Prelude.{◌≡◌};
+    ghost use Rattle.comemo.specs.declared.begin.Fault.TheVariants.{Memory};
+
+    ghost from_gives = { λ _ fault. fault ≡ Memory };
+
+    fn from(_error: AllocError) -> Fault {
+        Fault::Memory
+    }
+}
+
 /// A run of a memoized function that began. It is to be finished or given up, and can't be dropped.
 ///
 /// It holds no part of the cache. This project's own: comemo's `memoize` takes the run as a closure.

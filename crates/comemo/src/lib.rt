@@ -3,8 +3,10 @@
 #![tactic(auto)]
 
 pub mod begin;
+pub mod closure;
 pub mod constraint;
 pub mod finish;
+pub mod function;
 pub mod input;
 pub mod mapped;
 pub mod memoize;
@@ -12,8 +14,10 @@ pub mod multi;
 pub mod track;
 
 pub use begin::{Begun, Fault, Pending};
+pub use closure::Record;
 pub use constraint::Constraint;
 pub use finish::{How, Reply};
+pub use function::{Function, MemoOf, Recorder};
 pub use input::{Hashed, Input, Keyed};
 pub use mapped::{CallMap, MappedSink};
 pub use memoize::{CacheData, Found, Memo};

@@ -218,6 +218,27 @@ pub trait Track {
     ghost clones: { (x y : Self.Answer) → Self.Answer.is_clone x y → IsTrue (Self.Answer.eq x y) };
 }
 
+/// Nothing: what is tracked of a function that asks nothing. It takes no memory and refuses nothing.
+///
+/// This project's own.
+impl Track for () {
+    type Call = ();
+
+    type Answer = ();
+
+    ghost use Rattle.std.proofs.Common.{rules};
+
+    ghost answers = { λ _ _. tt };
+
+    ghost alike = { λ _ _ _ _. refl };
+
+    ghost clones = { λ x y h. Prim.search rules };
+
+    fn ask(&self, _call: &()) -> Result<(), AllocError> {
+        Ok(())
+    }
+}
+
 /// A view of a tracked value, which reads. Contracts see it as the value.
 ///
 /// comemo's `Tracked`. It does not lend its value.

@@ -1,4 +1,4 @@
-use Rattle.std.proofs.Common.{rules, ◌≡◌, ◌∙◌, ◌+◌, ◌++◌, ◌∷◌, [], true, false, not, IsTrue, refl, sym, ap, subst, List, arith, take, drop}
+use Rattle.std.proofs.Common.{rules, ◌≡◌, ◌∙◌, ◌+◌, ◌++◌, ◌∷◌, [], true, false, not, refl, sym, ap, subst, arith, take, drop}
 use Rattle.std.proofs.lemmas.List.{take_all}
 use Rattle.comemo_base.specs.Answers.{Agrees}
 use Rattle.comemo_base.specs.Sequence.{remaining}

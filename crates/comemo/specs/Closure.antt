@@ -1,0 +1,52 @@
+-- A call of a memoized function whose run is a closure.
+use Rattle.std.specs.Prelude.{◌≡◌, ◌↔◌, ◌⊎◌, Bool, true, false, List, [], IsTrue, Result, Ok, Err}
+use Rattle.std.specs.Borrow.{MutBor}
+use Rattle.comemo_base.specs.Answers.{Respects, Agrees}
+use Rattle.comemo_base.specs.Tree.{Stored}
+use Rattle.comemo.specs.Recording.{Recording}
+use Rattle.comemo.specs.Cache.{Output, HasNone}
+use Rattle.comemo.specs.Called.{Gave}
+use Rattle.comemo.specs.Finish.{Ends, Gives}
+use Rattle.comemo.specs.declared.begin.Fault.{Fault}
+use Rattle.comemo.specs.declared.begin.Fault.TheVariants as fault
+use Rattle.comemo.specs.declared.finish.How.{How}
+use Rattle.comemo.specs.declared.finish.How.TheVariants as how
+
+module _ {K C R O : Type 0} (eq : C → C → Bool) (same : R → R → Bool) (eqk : K → K → Bool) (es : List (Stored K C R (Output O C))) (key : K) (m : C → R) (enabled : Bool) where
+  module _ {I P : Type 0} (did : I → List C → I → Type 0) (recorded : P → Recording C R) where
+    -- what a run is handed, where no kept entry has the key and agrees: the input, unchanged, and an empty recording that is whole
+    pub record Starts (input : I) (i : MutBor I) (p : MutBor P) : Type 0 where
+      pub none : enabled ≡ true → HasNone eq same eqk es key m
+      pub unchanged : did input [] i.now
+      pub pairs : (recorded p.now).pairs ≡ []
+      pub writes : (recorded p.now).writes ≡ []
+      pub whole : (recorded p.now).whole ≡ true
+
+    module _ (post : MutBor I → MutBor P → Result O Fault → MutBor I → MutBor P → Type 0) (input : I) where
+      -- the closure ran, gave this, and left this recording
+      pub record Ran (r : Result O Fault) (t : Recording C R) : Type 0 where
+        pub i : MutBor I
+        pub p : MutBor P
+        pub starts : Starts input i p
+        pub j : MutBor I
+        pub q : MutBor P
+        pub gave : post i p r j q
+        pub left : recorded q.now ≡ t
+
+      -- the closure ran and gave the output; its recording, which is whole, went to the sink, and became of the entries what the
+      -- reply says
+      pub record Ended {S : Type 0} (cloned : O → O → Type 0) (def : K → (C → R) → O → List C → Type 0) (took : S → List (C × R) → List C → S → Type 0) (s : S) (output : O) (reply : How) (es' : List (Stored K C R (Output O C))) (t : S) : Type 0 where
+        pub recording : Recording C R
+        pub ran : Ran (Ok output) recording
+        pub whole : recording.whole ≡ true
+        pub own : K
+        pub has_key : IsTrue (eqk key own)
+        pub ends : Ends eq same eqk cloned es own recording.pairs output reply es'
+        pub disabled : (reply ≡ how.Disabled) ↔ (enabled ≡ false)
+        pub gives : Gives eq same took s recording.pairs recording.writes t
+        pub gave : (n : C → R) → Respects eq same n → Agrees same n recording.pairs → Gave eq same def took key n s output t
+
+      -- why the call failed: for want of memory, or the run's recording is spoiled, or the closure gave that fault
+      abbrev pub IsFault : Fault → Type 0
+      IsFault f =
+          (f ≡ fault.Memory) ⊎ ((f ≡ fault.Incomplete) × (output : O) × (t : Recording C R) × Ran (Ok output) t × (t.whole ≡ false)) ⊎ ((t : Recording C R) × Ran (Err f) t)

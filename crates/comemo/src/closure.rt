@@ -1,0 +1,102 @@
+//! A call of a memoized function whose run is a closure.
+ghost use Rattle.std.specs.Prelude.{◌≡◌, [], true, IfOk, IfErr, OnErr, Ok};
+ghost use Rattle.std.specs.Borrow.{MutBor};
+ghost use Rattle.comemo.specs.Begin.{IsHit};
+ghost use Rattle.comemo.specs.Recording.{Recording};
+ghost use Rattle.comemo.specs.Cache.{Stands};
+ghost use Rattle.comemo.specs.Closure.{Starts, Ran, Ended, IsFault};
+
+use crate::begin::{Begun, Fault, begin};
+use crate::constraint::Constraint;
+use crate::finish::{How, Reply};
+use crate::input::Input;
+use crate::memoize::{CacheData, Memo};
+use crate::track::{Call, Sink};
+use std::alloc::Global;
+
+/// The recording that a closure is handed. `Constraint` is one, and there is no other.
+///
+/// It stands where the closure's type can't name `Constraint` in a bound. This project's own.
+pub trait Record {
+    type Call: Call;
+
+    type Answer: Clone + Ord;
+
+    // what it holds
+    ghost recorded: { Self → Recording Self.Call Self.Answer };
+
+    /// A recording of nothing, which is whole. It takes no memory.
+    fn empty(alloc: Global) -> Self
+        ensures pairs { (recorded result).pairs ≡ [] }
+        ensures writes { (recorded result).writes ≡ [] }
+        ensures whole { (recorded result).whole ≡ true };
+
+    /// The recording itself.
+    fn into_constraint(self) -> Constraint<Self::Call, Self::Answer>
+        ensures { result ≡ recorded self };
+}
+
+impl<C: Call, R: Clone + Ord> Record for Constraint<C, R> {
+    type Call = C;
+
+    type Answer = R;
+
+    ghost recorded = { λ s. s };
+
+    fn empty(alloc: Global) -> Self {
+        Constraint::new(alloc)
+    }
+
+    fn into_constraint(self) -> Constraint<C, R> {
+        self
+    }
+}
+
+/// Calls a memoized function whose run is a closure: gives the output of an entry that agrees, or does the run and keeps
+/// what it gave.
+///
+/// The closure gets the input and the recording that what it asks has to go to. It is called only where no entry agrees,
+/// and its output has to be right for all answers that agree with what it recorded. A fault of the closure is answered, and
+/// nothing is stored then. With `enabled` false there is no look-up, and nothing is stored. What it costs is what `begin`,
+/// the closure and `finish` cost. Every fault leaves the cache as it was and spoils the sink. A function that calls itself
+/// takes `begin` and `finish` in its place. comemo's `memoize`.
+pub fn memoize<
+    M: Memo,
+    In: Input<Call = M::Call, Key = M::Key, Answer = M::Answer> + Drop,
+    S: Sink<Call = M::Call, Answer = M::Answer>,
+    P: Record<Call = M::Call, Answer = M::Answer>,
+    F: FnOnce(&mut In, &mut P) -> Result<M::Out, Fault>,
+>(
+    alloc: Global,
+    cache: &mut CacheData<M>,
+    mut input: In,
+    sink: &mut S,
+    enabled: bool,
+    run: F,
+) -> Result<Reply<M::Out>, Fault>
+    requires callable { (i : MutBor In) (p : MutBor P) → Starts M.Call.eq M.Answer.eq M.Key.eq cache.now (In.key_of input) (In.answers input) enabled In.did P.recorded input i p → F.pre run i p }
+    requires right { (output : M.Out) (t : Recording M.Call M.Answer) → Ran M.Call.eq M.Answer.eq M.Key.eq cache.now (In.key_of input) (In.answers input) enabled In.did P.recorded (F.post run) input (Ok output) t → t.whole ≡ true → Stands M.Call.eq M.Answer.eq M.def (In.key_of input) t.pairs output t.writes }
+    ensures hit { IfOk result (λ reply. reply.how ≡ How.Hit → ((j : In) × IsHit M.Call.eq M.Answer.eq M.Key.eq cache.old (In.key_of input) (In.answers input) enabled M.def M.Out.is_clone In.did S.took input j sink.old sink.new reply.output) × (cache.new ≡ cache.old)) }
+    ensures run { IfOk result (λ reply. (reply.how ≡ How.Hit → ⊥) → Ended M.Call.eq M.Answer.eq M.Key.eq cache.old (In.key_of input) (In.answers input) enabled In.did P.recorded (F.post run) input M.Out.is_clone M.def S.took sink.old reply.output reply.how cache.new sink.new) }
+    ensures fault { IfErr result (λ fault. IsFault M.Call.eq M.Answer.eq M.Key.eq cache.old (In.key_of input) (In.answers input) enabled In.did P.recorded (F.post run) input fault) }
+    ensures err { OnErr result ((cache.new ≡ cache.old) × S.spoils sink.old sink.new) }
+{
+    match begin(alloc, cache, &mut input, sink, enabled)? {
+        Begun::Hit(output) => Ok(Reply {
+            output,
+            how: How::Hit,
+        }),
+        Begun::Run(mut pending) => {
+            let mut recording = P::empty(alloc);
+            let ran = run(&mut input, &mut recording);
+            pending.recording = recording.into_constraint();
+            match ran {
+                Ok(output) => pending.finish(cache, sink, output),
+                Err(fault) => {
+                    pending.give_up(sink);
+                    Err(fault)
+                }
+            }
+        }
+    }
+}

@@ -1,0 +1,193 @@
+//! The library's front door: a memoized function of a key and a tracked value, as one trait and one call.
+ghost use Rattle.std.specs.Prelude.{◌≡◌, [], true, false, IsTrue, IfOk, OnOk, OnErr};
+ghost use Rattle.comemo_base.specs.Answers.{Agrees};
+ghost use Rattle.comemo.specs.Called.{Gave, Came};
+ghost use Rattle.comemo.specs.Function.{Fits, Laws};
+ghost use Rattle.comemo.specs.FunctionLaws.{agrees_if_prop};
+
+use crate::begin::{Begun, Fault, begin};
+use crate::constraint::Constraint;
+use crate::finish::{How, Reply};
+use crate::input::Keyed;
+use crate::memoize::{CacheData, Memo};
+use crate::track::{Call, Sink, Track, Tracked};
+use std::alloc::Global;
+use std::hash::Hash;
+use std::marker::PhantomData;
+
+/// A memoized function of a key and a tracked value.
+///
+/// Several arguments that aren't tracked are one key, as a tuple. An implementation says by `means` what the function is,
+/// and how it is done by `run`; the laws are found by the checker where keys and outputs are plain values. This project's
+/// own: what comemo's `#[memoize]` makes of a function.
+pub trait Function {
+    type Key: Clone + Eq + Hash;
+
+    type Of: Track;
+
+    type Out: Clone;
+
+    /// What a run takes beside its arguments: the caches of the functions that it calls, or `()`.
+    type Needs;
+
+    // at this key and these answers, this output is right
+    ghost means: { Self.Key → (Self.Of.Call → Self.Of.Answer) → Self.Out → Type 0 };
+
+    /// Does the function: asks the value through the recorder, which keeps what it was told.
+    ///
+    /// The output has to be right for all answers that agree with what was recorded.
+    fn run(
+        key: &Self::Key,
+        of: &mut Recorder<'_, Self::Of>,
+        needs: &mut Self::Needs,
+    ) -> Result<Self::Out, Fault>
+        ensures same { of.new.view ≡ of.old.view }
+        ensures right { IfOk result (λ output. (m : Self.Of.Call → Self.Of.Answer) → Fits Self.Of.Call.eq Self.Of.Answer.eq of.new.recording m → means key.now m output) };
+
+    // clones of keys are equal, and the meaning tells apart neither equal keys nor an output from its clone
+    ghost laws: { Laws Self.Of.Call.eq Self.Of.Answer.eq Self.Key.eq Self.Key.is_clone Self.Out.is_clone means };
+}
+
+/// A view of a tracked value that records what it is asked. A run is handed one.
+///
+/// This project's own.
+#[derive(Drop)]
+pub struct Recorder<'a, T: Track> {
+    alloc: Global,
+    view: Tracked<'a, T>,
+    recording: Constraint<T::Call, T::Answer>,
+    // while nothing is lost, the value's answers agree with what is recorded
+    ghost agrees: { recording.whole ≡ true → Agrees T.Answer.eq (T.answers view) recording.pairs } by { agrees_if_prop T.Answer.eq (T.answers view) recording.whole recording.pairs },
+}
+
+impl<'a, T: Track> Recorder<'a, T> {
+    /// A recorder of nothing.
+    fn new(alloc: Global, view: Tracked<'a, T>) -> Self
+        ensures view { result.view ≡ view.entry }
+        ensures pairs { result.recording.pairs ≡ [] }
+        ensures writes { result.recording.writes ≡ [] }
+        ensures whole { result.recording.whole ≡ true }
+    {
+        Recorder {
+            alloc,
+            view,
+            recording: Constraint::new(alloc),
+        }
+    }
+
+    /// Asks the value a read, and records the call with its answer.
+    ///
+    /// It clones the answer for the recording. `Memory` says that there was none for the answer, its clone or the recording,
+    /// which is as it was then.
+    pub fn ask(&mut self, call: T::Call) -> Result<T::Answer, Fault>
+        requires { T.Call.is_write call ≡ false }
+        ensures same { self.new.view ≡ self.old.view }
+        ensures before { OnOk result ((m : T.Call → T.Answer) → Fits T.Call.eq T.Answer.eq self.new.recording m → Fits T.Call.eq T.Answer.eq self.old.recording m) }
+        ensures told { IfOk result (λ answer. (m : T.Call → T.Answer) → Fits T.Call.eq T.Answer.eq self.new.recording m → IsTrue (T.Answer.eq (m call) answer)) }
+    {
+        Ok(self.view.ask(call, &mut self.recording)?)
+    }
+
+    /// Calls another memoized function of the same value, and records what it asked.
+    pub fn call<G: Function<Of = T>>(
+        &mut self,
+        cache: &mut CacheData<MemoOf<G>>,
+        needs: &mut G::Needs,
+        key: G::Key,
+    ) -> Result<G::Out, Fault>
+        ensures same { self.new.view ≡ self.old.view }
+        ensures before { OnOk result ((m : T.Call → T.Answer) → Fits T.Call.eq T.Answer.eq self.new.recording m → Fits T.Call.eq T.Answer.eq self.old.recording m) }
+        ensures told { IfOk result (λ output. (m : T.Call → T.Answer) → Fits T.Call.eq T.Answer.eq self.new.recording m → G.means key m output) }
+    {
+        let reply = memoized(
+            self.alloc,
+            cache,
+            needs,
+            key,
+            &self.view,
+            &mut self.recording,
+            true,
+        )?;
+        Ok(reply.output)
+    }
+}
+
+/// What a cache takes a function for: `CacheData<MemoOf<F>>` is the cache of `F`.
+///
+/// This project's own.
+pub struct MemoOf<F> {
+    function: PhantomData<F>,
+}
+
+impl<F: Function> Memo for MemoOf<F> {
+    type Call = <F::Of as Track>::Call;
+
+    type Key = F::Key;
+
+    type Answer = <F::Of as Track>::Answer;
+
+    type Out = F::Out;
+
+    ghost def = { λ key m output _. F.means key m output };
+
+    ghost output_clones = { λ key m a b _. F.laws.outputs key m a b };
+
+    ghost key_alike = { λ j k m output _. F.laws.keys j k m output };
+
+    ghost key_clones = { F.laws.clones };
+
+    ghost answer_clones = { F.Of.clones };
+}
+
+/// Calls a memoized function: gives the output that its cache keeps where an entry agrees, or runs it and keeps what it
+/// gave.
+///
+/// The sink takes what was asked: the recording of the run around the call, or `Top` where there is none. With `enabled`
+/// false there is no look-up, and nothing is kept. A fault leaves the cache as it was and spoils the sink; what the run did
+/// to its needs stays. A hit costs what `begin` costs. This project's own: a call of a function under comemo's
+/// `#[memoize]`.
+pub fn memoized<
+    F: Function,
+    S: Sink<Call = <F::Of as Track>::Call, Answer = <F::Of as Track>::Answer>,
+>(
+    alloc: Global,
+    cache: &mut CacheData<MemoOf<F>>,
+    needs: &mut F::Needs,
+    key: F::Key,
+    of: &Tracked<'_, F::Of>,
+    sink: &mut S,
+    enabled: bool,
+) -> Result<Reply<F::Out>, Fault>
+    ensures right { IfOk result (λ reply. F.means key (F.Of.answers of.now) reply.output) }
+    ensures gave { IfOk result (λ reply. Gave F.Of.Call.eq F.Of.Answer.eq (λ k m output _. F.means k m output) S.took key (F.Of.answers of.now) sink.old reply.output sink.new) }
+    ensures came { IfOk result (λ reply. Came F.Of.Call.eq F.Of.Answer.eq F.Key.eq F.Out.is_clone key (F.Of.answers of.now) enabled reply.output cache.old cache.old reply.how cache.new) }
+    ensures err { OnErr result ((cache.new ≡ cache.old) × S.spoils sink.old sink.new) }
+{
+    let mut input = Keyed {
+        key,
+        view: of.fork(),
+    };
+    match begin(alloc, cache, &mut input, sink, enabled)? {
+        Begun::Hit(output) => Ok(Reply {
+            output,
+            how: How::Hit,
+        }),
+        Begun::Run(mut pending) => {
+            let mut recorder = Recorder::new(alloc, of.fork());
+            let ran = F::run(&input.key, &mut recorder, needs);
+            let Recorder {
+                alloc: _,
+                view: _,
+                recording,
+            } = recorder;
+            pending.recording = recording;
+            match ran {
+                Ok(output) => pending.finish(cache, sink, output),
+                Err(fault) => {
+                    pending.give_up(sink);
+                    Err(fault)
+                }
+            }
+        }
+    }
+}
