@@ -84,11 +84,15 @@ impl<'a, T: Track> Recorder<'a, T> {
         ensures same { self.new.view ≡ self.old.view }
         ensures before { OnOk result ((m : T.Call → T.Answer) → Fits T.Call.eq T.Answer.eq self.new.recording m → Fits T.Call.eq T.Answer.eq self.old.recording m) }
         ensures told { IfOk result (λ answer. (m : T.Call → T.Answer) → Fits T.Call.eq T.Answer.eq self.new.recording m → IsTrue (T.Answer.eq (m call) answer)) }
+        ensures whole { self.new.recording.whole ≡ self.old.recording.whole }
+        ensures err { OnErr result (self.new.recording.pairs ≡ self.old.recording.pairs) }
     {
         Ok(self.view.ask(call, &mut self.recording)?)
     }
 
     /// Calls another memoized function of the same value, and records what it asked.
+    ///
+    /// A fault leaves the other's cache as it was, and the recording is spoiled: the run that is recorded can't be finished.
     pub fn call<G: Function<Of = T>>(
         &mut self,
         cache: &mut CacheData<MemoOf<G>>,
@@ -98,6 +102,9 @@ impl<'a, T: Track> Recorder<'a, T> {
         ensures same { self.new.view ≡ self.old.view }
         ensures before { OnOk result ((m : T.Call → T.Answer) → Fits T.Call.eq T.Answer.eq self.new.recording m → Fits T.Call.eq T.Answer.eq self.old.recording m) }
         ensures told { IfOk result (λ output. (m : T.Call → T.Answer) → Fits T.Call.eq T.Answer.eq self.new.recording m → G.means key m output) }
+        ensures whole { OnOk result (self.new.recording.whole ≡ self.old.recording.whole) }
+        ensures came { IfOk result (λ output. (how : How) × Came T.Call.eq T.Answer.eq G.Key.eq G.Out.is_clone key (T.answers self.old.view) true output cache.old cache.old how cache.new) }
+        ensures err { OnErr result ((cache.new ≡ cache.old) × (self.new.recording.whole ≡ false)) }
     {
         let reply = memoized(
             self.alloc,

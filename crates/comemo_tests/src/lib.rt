@@ -4,6 +4,7 @@
 
 pub mod absorbing;
 pub mod cells;
+pub mod closures;
 pub mod fibonacci;
 pub mod functions;
 pub mod inputs;

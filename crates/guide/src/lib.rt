@@ -1,0 +1,11 @@
+//! Four memoized functions as a user of the library writes them, from the simplest to one that calls others.
+#![tactic(auto)]
+
+pub mod contains;
+pub mod double;
+pub mod place;
+pub mod report;
+pub mod town;
+
+#[cfg(test)]
+mod tests;
