@@ -10,8 +10,11 @@ pub struct Passes;
 
 impl Function for Passes {
     type Key = u64;
+
     type Of = Town;
+
     type Out = bool;
+
     type Needs = ();
 
     ghost use Rattle.guide.specs.declared.town.TownCall.TheVariants.{People, Degrees};

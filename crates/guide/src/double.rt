@@ -9,8 +9,11 @@ pub struct Double;
 
 impl Function for Double {
     type Key = u32;
+
     type Of = ();
+
     type Out = u32;
+
     type Needs = ();
 
     ghost means = { λ n _ out. out ≡ (n + n) % 2 ^ 32 };

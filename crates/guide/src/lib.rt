@@ -5,7 +5,6 @@ pub mod contains;
 pub mod double;
 pub mod place;
 pub mod report;
-pub mod town;
-
 #[cfg(test)]
 mod tests;
+pub mod town;

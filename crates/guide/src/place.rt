@@ -10,8 +10,11 @@ pub struct Warmth;
 
 impl Function for Warmth {
     type Key = ();
+
     type Of = Town;
+
     type Out = u64;
+
     type Needs = ();
 
     ghost use Rattle.guide.specs.declared.town.TownCall.TheVariants.{Degrees};

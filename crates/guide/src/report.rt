@@ -12,8 +12,11 @@ pub struct Report;
 
 impl Function for Report {
     type Key = (u64, u64);
+
     type Of = Town;
+
     type Out = u64;
+
     type Needs = (CacheData<MemoOf<Passes>>, CacheData<MemoOf<Warmth>>);
 
     ghost use Rattle.guide.specs.declared.town.TownCall.TheVariants.{People, Degrees};

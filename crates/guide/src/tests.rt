@@ -18,13 +18,37 @@ fn a_number_is_doubled_once(rt: HostRuntime) -> Result<(), Fail> {
     let alloc = rt.alloc();
     let mut cache: CacheData<MemoOf<Double>> = CacheData::new(alloc);
     let nothing = ();
-    let first = memoized(alloc, &mut cache, &mut (), 2, &nothing.track(), &mut Top::new(), true)?;
+    let first = memoized(
+        alloc,
+        &mut cache,
+        &mut (),
+        2,
+        &nothing.track(),
+        &mut Top::new(),
+        true,
+    )?;
     assert_eq!(rt; first.output, 4);
     assert_eq!(rt; first.how, How::Stored);
-    let other = memoized(alloc, &mut cache, &mut (), 4, &nothing.track(), &mut Top::new(), true)?;
+    let other = memoized(
+        alloc,
+        &mut cache,
+        &mut (),
+        4,
+        &nothing.track(),
+        &mut Top::new(),
+        true,
+    )?;
     assert_eq!(rt; other.output, 8);
     assert_eq!(rt; other.how, How::Stored);
-    let again = memoized(alloc, &mut cache, &mut (), 2, &nothing.track(), &mut Top::new(), true)?;
+    let again = memoized(
+        alloc,
+        &mut cache,
+        &mut (),
+        2,
+        &nothing.track(),
+        &mut Top::new(),
+        true,
+    )?;
     assert_eq!(rt; again.output, 4);
     assert_eq!(rt; again.how, How::Hit);
     Ok(())
@@ -35,15 +59,39 @@ fn only_what_was_asked_counts(rt: HostRuntime) -> Result<(), Fail> {
     let alloc = rt.alloc();
     let mut cache: CacheData<MemoOf<Warmth>> = CacheData::new(alloc);
     let small = town(900, 21);
-    let first = memoized(alloc, &mut cache, &mut (), (), &small.track(), &mut Top::new(), true)?;
+    let first = memoized(
+        alloc,
+        &mut cache,
+        &mut (),
+        (),
+        &small.track(),
+        &mut Top::new(),
+        true,
+    )?;
     assert_eq!(rt; first.output, 21);
     assert_eq!(rt; first.how, How::Stored);
     let grown = town(7000, 21);
-    let second = memoized(alloc, &mut cache, &mut (), (), &grown.track(), &mut Top::new(), true)?;
+    let second = memoized(
+        alloc,
+        &mut cache,
+        &mut (),
+        (),
+        &grown.track(),
+        &mut Top::new(),
+        true,
+    )?;
     assert_eq!(rt; second.output, 21);
     assert_eq!(rt; second.how, How::Hit);
     let colder = town(7000, 4);
-    let third = memoized(alloc, &mut cache, &mut (), (), &colder.track(), &mut Top::new(), true)?;
+    let third = memoized(
+        alloc,
+        &mut cache,
+        &mut (),
+        (),
+        &colder.track(),
+        &mut Top::new(),
+        true,
+    )?;
     assert_eq!(rt; third.output, 4);
     assert_eq!(rt; third.how, How::Stored);
     Ok(())
@@ -54,15 +102,39 @@ fn a_question_that_was_not_asked_may_change(rt: HostRuntime) -> Result<(), Fail>
     let alloc = rt.alloc();
     let mut cache: CacheData<MemoOf<Passes>> = CacheData::new(alloc);
     let warm = town(900, 21);
-    let first = memoized(alloc, &mut cache, &mut (), 500, &warm.track(), &mut Top::new(), true)?;
+    let first = memoized(
+        alloc,
+        &mut cache,
+        &mut (),
+        500,
+        &warm.track(),
+        &mut Top::new(),
+        true,
+    )?;
     assert_eq!(rt; first.output, true);
     assert_eq!(rt; first.how, How::Stored);
     let cold = town(900, 4);
-    let second = memoized(alloc, &mut cache, &mut (), 500, &cold.track(), &mut Top::new(), true)?;
+    let second = memoized(
+        alloc,
+        &mut cache,
+        &mut (),
+        500,
+        &cold.track(),
+        &mut Top::new(),
+        true,
+    )?;
     assert_eq!(rt; second.output, true);
     assert_eq!(rt; second.how, How::Hit);
     let small = town(90, 4);
-    let third = memoized(alloc, &mut cache, &mut (), 500, &small.track(), &mut Top::new(), true)?;
+    let third = memoized(
+        alloc,
+        &mut cache,
+        &mut (),
+        500,
+        &small.track(),
+        &mut Top::new(),
+        true,
+    )?;
     assert_eq!(rt; third.output, false);
     assert_eq!(rt; third.how, How::Stored);
     Ok(())
@@ -74,20 +146,52 @@ fn what_a_called_function_asked_counts_for_its_caller(rt: HostRuntime) -> Result
     let mut cache: CacheData<MemoOf<Report>> = CacheData::new(alloc);
     let mut caches = (CacheData::new(alloc), CacheData::new(alloc));
     let warm = town(900, 21);
-    let first = memoized(alloc, &mut cache, &mut caches, (500, 7), &warm.track(), &mut Top::new(), true)?;
+    let first = memoized(
+        alloc,
+        &mut cache,
+        &mut caches,
+        (500, 7),
+        &warm.track(),
+        &mut Top::new(),
+        true,
+    )?;
     assert_eq!(rt; first.output, 21);
     assert_eq!(rt; first.how, How::Stored);
-    let again = memoized(alloc, &mut cache, &mut caches, (500, 7), &warm.track(), &mut Top::new(), true)?;
+    let again = memoized(
+        alloc,
+        &mut cache,
+        &mut caches,
+        (500, 7),
+        &warm.track(),
+        &mut Top::new(),
+        true,
+    )?;
     assert_eq!(rt; again.output, 21);
     assert_eq!(rt; again.how, How::Hit);
     let cold = town(900, 4);
-    let third = memoized(alloc, &mut cache, &mut caches, (500, 7), &cold.track(), &mut Top::new(), true)?;
+    let third = memoized(
+        alloc,
+        &mut cache,
+        &mut caches,
+        (500, 7),
+        &cold.track(),
+        &mut Top::new(),
+        true,
+    )?;
     assert_eq!(rt; third.output, 4);
     assert_eq!(rt; third.how, How::Stored);
     assert_eq!(rt; caches.0.len(), 1);
     assert_eq!(rt; caches.1.len(), 2);
     let small = town(90, 4);
-    let fourth = memoized(alloc, &mut cache, &mut caches, (500, 7), &small.track(), &mut Top::new(), true)?;
+    let fourth = memoized(
+        alloc,
+        &mut cache,
+        &mut caches,
+        (500, 7),
+        &small.track(),
+        &mut Top::new(),
+        true,
+    )?;
     assert_eq!(rt; fourth.output, 7);
     assert_eq!(rt; fourth.how, How::Stored);
     Ok(())
@@ -99,7 +203,15 @@ fn a_call_that_is_not_enabled_runs_and_keeps_nothing(rt: HostRuntime) -> Result<
     let mut cache: CacheData<MemoOf<Warmth>> = CacheData::new(alloc);
     let warm = town(900, 21);
     for _ in 0..2 {
-        let reply = memoized(alloc, &mut cache, &mut (), (), &warm.track(), &mut Top::new(), false)?;
+        let reply = memoized(
+            alloc,
+            &mut cache,
+            &mut (),
+            (),
+            &warm.track(),
+            &mut Top::new(),
+            false,
+        )?;
         assert_eq!(rt; reply.output, 21);
         assert_eq!(rt; reply.how, How::Disabled);
     }

@@ -35,6 +35,7 @@ pub struct Town {
 
 impl Track for Town {
     type Call = TownCall;
+
     type Answer = u64;
 
     ghost use Rattle.guide.specs.Towns.{asked};
