@@ -3,8 +3,10 @@
 
 pub mod contains;
 pub mod double;
+pub mod numbers;
 pub mod place;
 pub mod report;
 #[cfg(test)]
 mod tests;
+pub mod texts;
 pub mod town;

@@ -2,8 +2,10 @@
 
 use crate::contains::Passes;
 use crate::double::Double;
+use crate::numbers::{DoubleFlat, Flat, Identity, Sum};
 use crate::place::Warmth;
 use crate::report::Report;
+use crate::texts::Same;
 use crate::town::Town;
 use comemo::function::memoized;
 use comemo::{CacheData, How, MemoOf, Top, Track};
@@ -216,5 +218,135 @@ fn a_call_that_is_not_enabled_runs_and_keeps_nothing(rt: HostRuntime) -> Result<
         assert_eq!(rt; reply.how, How::Disabled);
     }
     assert_eq!(rt; cache.len(), 0);
+    Ok(())
+}
+
+#[test]
+fn only_large_numbers_are_kept(rt: HostRuntime) -> Result<(), Fail> {
+    let alloc = rt.alloc();
+    let mut cache: CacheData<MemoOf<Identity>> = CacheData::new(alloc);
+    let nothing = ().track();
+    let asked = [
+        (0, How::Disabled),
+        (0, How::Disabled),
+        (2000, How::Stored),
+        (2000, How::Hit),
+    ];
+    for (n, how) in asked {
+        let reply = memoized(
+            alloc,
+            &mut cache,
+            &mut (),
+            n,
+            &nothing,
+            &mut Top::new(),
+            n >= 1000,
+        )?;
+        assert_eq!(rt; reply.output, n);
+        assert_eq!(rt; reply.how, how);
+    }
+    Ok(())
+}
+
+#[test]
+fn the_order_of_two_numbers_counts(rt: HostRuntime) -> Result<(), Fail> {
+    let alloc = rt.alloc();
+    let mut cache: CacheData<MemoOf<Sum>> = CacheData::new(alloc);
+    let nothing = ().track();
+    let asked = [
+        ((2, 4), 6, How::Stored),
+        ((2, 3), 5, How::Stored),
+        ((2, 3), 5, How::Hit),
+        ((4, 2), 6, How::Stored),
+    ];
+    for (key, sum, how) in asked {
+        let reply = memoized(
+            alloc,
+            &mut cache,
+            &mut (),
+            key,
+            &nothing,
+            &mut Top::new(),
+            true,
+        )?;
+        assert_eq!(rt; reply.output, sum);
+        assert_eq!(rt; reply.how, how);
+    }
+    Ok(())
+}
+
+#[test]
+fn keys_of_one_hash_are_told_apart(rt: HostRuntime) -> Result<(), Fail> {
+    let alloc = rt.alloc();
+    let mut cache: CacheData<MemoOf<DoubleFlat>> = CacheData::new(alloc);
+    let nothing = ().track();
+    for (n, how) in [(2, How::Stored), (3, How::Stored), (2, How::Hit)] {
+        let reply = memoized(
+            alloc,
+            &mut cache,
+            &mut (),
+            Flat(n),
+            &nothing,
+            &mut Top::new(),
+            true,
+        )?;
+        assert_eq!(rt; reply.output, 2 * n);
+        assert_eq!(rt; reply.how, how);
+    }
+    Ok(())
+}
+
+#[test]
+fn each_function_has_a_cache_of_its_own(rt: HostRuntime) -> Result<(), Fail> {
+    let alloc = rt.alloc();
+    let mut taken: CacheData<MemoOf<Same>> = CacheData::new(alloc);
+    let mut copied: CacheData<MemoOf<Same>> = CacheData::new(alloc);
+    let nothing = ().track();
+    let hello = String::from_str(alloc, "Hello")?;
+    let first = memoized(
+        alloc,
+        &mut taken,
+        &mut (),
+        hello.clone()?,
+        &nothing,
+        &mut Top::new(),
+        true,
+    )?;
+    assert_eq!(rt; first.output.as_str(), "Hello");
+    assert_eq!(rt; first.how, How::Stored);
+    let second = memoized(
+        alloc,
+        &mut copied,
+        &mut (),
+        hello.clone()?,
+        &nothing,
+        &mut Top::new(),
+        true,
+    )?;
+    assert_eq!(rt; second.output.as_str(), "Hello");
+    assert_eq!(rt; second.how, How::Stored);
+    let world = String::from_str(alloc, "World")?;
+    let third = memoized(
+        alloc,
+        &mut taken,
+        &mut (),
+        world,
+        &nothing,
+        &mut Top::new(),
+        true,
+    )?;
+    assert_eq!(rt; third.output.as_str(), "World");
+    assert_eq!(rt; third.how, How::Stored);
+    let fourth = memoized(
+        alloc,
+        &mut taken,
+        &mut (),
+        hello,
+        &nothing,
+        &mut Top::new(),
+        true,
+    )?;
+    assert_eq!(rt; fourth.output.as_str(), "Hello");
+    assert_eq!(rt; fourth.how, How::Hit);
     Ok(())
 }

@@ -1,0 +1,81 @@
+//! Functions of numbers, which ask nothing: of one, of two, and of one that is equal by its number and hashed as nothing.
+ghost use Rattle.std.specs.Prelude.{◌≡◌, ◌+◌, ◌%◌, ◌^◌, [], refl};
+ghost use Rattle.std.proofs.Common.{rules};
+
+use comemo::{Fault, Function, Recorder};
+use std::hash::{Hash, Hasher};
+
+/// The number itself.
+pub struct Identity;
+
+impl Function for Identity {
+    type Key = u64;
+
+    type Of = ();
+
+    type Out = u64;
+
+    type Needs = ();
+
+    ghost means = { λ n _ out. out ≡ n };
+
+    ghost laws = { Prim.search rules };
+
+    fn run(n: &u64, _of: &mut Recorder<'_, ()>, _needs: &mut ()) -> Result<u64, Fault> {
+        Ok(*n)
+    }
+}
+
+/// The sum of two numbers, which wraps.
+pub struct Sum;
+
+impl Function for Sum {
+    type Key = (u32, u32);
+
+    type Of = ();
+
+    type Out = u32;
+
+    type Needs = ();
+
+    ghost means = { λ key _ out. out ≡ (key.0 + key.1) % 2 ^ 32 };
+
+    ghost laws = { Prim.search rules };
+
+    fn run(key: &(u32, u32), _of: &mut Recorder<'_, ()>, _needs: &mut ()) -> Result<u32, Fault> {
+        Ok(key.0.wrapping_add(key.1))
+    }
+}
+
+/// A number that is equal by its number, and feeds nothing to a hasher: all such numbers have one hash.
+#[derive(Clone, Copy, Drop, Debug, PartialEq, Eq)]
+pub struct Flat(pub u32);
+
+impl Hash for Flat {
+    ghost hash_input = { λ _. [] };
+
+    ghost respects_eq = { λ x y h. refl };
+
+    fn hash<H: Hasher>(&self, _state: &mut H) {}
+}
+
+/// Twice such a number, which wraps.
+pub struct DoubleFlat;
+
+impl Function for DoubleFlat {
+    type Key = Flat;
+
+    type Of = ();
+
+    type Out = u32;
+
+    type Needs = ();
+
+    ghost means = { λ n _ out. out ≡ (n.0 + n.0) % 2 ^ 32 };
+
+    ghost laws = { Prim.search rules };
+
+    fn run(n: &Flat, _of: &mut Recorder<'_, ()>, _needs: &mut ()) -> Result<u32, Fault> {
+        Ok(n.0.wrapping_add(n.0))
+    }
+}

@@ -1,0 +1,23 @@
+//! Functions of texts.
+ghost use Rattle.std.specs.Prelude.{◌≡◌, string_bytes};
+ghost use Rattle.std.proofs.Common.{rules};
+
+use comemo::{Fault, Function, Recorder};
+
+/// A text itself, kept under it.
+pub struct Same;
+
+impl Function for Same {
+    type Key = String;
+    type Of = ();
+    type Out = String;
+    type Needs = ();
+
+    ghost means = { λ text _ out. string_bytes out ≡ string_bytes text };
+
+    ghost laws = { Prim.search rules };
+
+    fn run(text: &String, _of: &mut Recorder<'_, ()>, _needs: &mut ()) -> Result<String, Fault> {
+        Ok(text.clone()?)
+    }
+}
