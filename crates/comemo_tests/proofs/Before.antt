@@ -1,5 +1,5 @@
 -- The numbers of Fibonacci, each from the two before it.
-use Rattle.std.proofs.Common.{◌≡◌, ◌≤◌, ◌+◌, ◌-◌, ℕ, zero, suc, arith, refl, sym, ap, ◌∙◌}
+use Rattle.std.proofs.Common.{◌≡◌, ◌≤◌, ◌+◌, ◌-◌, ℕ, zero, suc, arith, sym, ap, ◌∙◌}
 use Rattle.comemo_tests.specs.Fibonacci.{fib}
 
 pub fib_from_before : (n : ℕ) → 2 ≤ n → fib n ≡ fib (n - 2) + fib (n - 1)

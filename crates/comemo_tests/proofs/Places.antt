@@ -1,5 +1,5 @@
 -- Places and numbers are told apart by what they are.
-use Rattle.std.proofs.Common.{◌≡◌, ◌≢◌, ℕ, nat_eq, rules, IsTrue, Result, Ok, Err, IfOk, sym, subst}
+use Rattle.std.proofs.Common.{◌≡◌, ◌≢◌, ℕ, nat_eq, rules, IsTrue, subst}
 use Rattle.std.specs.Cmp.{IsEquivalence}
 use Rattle.comemo_base.specs.Answers.{Respects}
 use Rattle.comemo_tests.specs.declared.cells.Place.{Place}

@@ -75,6 +75,8 @@ pub fn closed_square<S: Sink<Call = (), Answer = ()>>(
         Hashed(number),
         sink,
         enabled,
-        |input: &mut Hashed<u64>, _recording: &mut Constraint<(), ()>| Ok(input.0.wrapping_mul(input.0)),
+        |input: &mut Hashed<u64>, _recording: &mut Constraint<(), ()>| Ok(
+            input.0.wrapping_mul(input.0),
+        ),
     )
 }

@@ -9,8 +9,11 @@ pub struct Same;
 
 impl Function for Same {
     type Key = String;
+
     type Of = ();
+
     type Out = String;
+
     type Needs = ();
 
     ghost means = { λ text _ out. string_bytes out ≡ string_bytes text };

@@ -1,5 +1,4 @@
-use Rattle.std.proofs.Common.{rules, arith, refl, sym, ap, ◌∙◌, ◌+◌, ◌%◌, ◌^◌}
-use Rattle.comemo_tests.specs.Fibonacci.{fib}
+use Rattle.std.proofs.Common.{arith, refl}
 use Rattle.comemo_tests.proofs.Before.{fib_from_before}
 use Rattle.comemo_tests.proofs.fibonacci.+counting.Goals as goal
 

@@ -2,7 +2,7 @@ use Rattle.std.proofs.Common.{rules}
 use Rattle.comemo.proofs.Told.{told_answer}
 use Rattle.comemo.proofs.Calls.{gave_by_run}
 use Rattle.comemo_tests.proofs.Contexts.{same_calls}
-use Rattle.comemo_tests.proofs.Places.{same_numbers, same_number}
+use Rattle.comemo_tests.proofs.Places.{same_numbers}
 use Rattle.comemo_tests.proofs.functions.location.Goals as goal
 
 pub returns-in-Hit-clause-output : goal.returns-in-Hit-clause-output
