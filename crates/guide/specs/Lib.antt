@@ -1,1 +1,2 @@
 pub mod Towns
+pub mod Greetings

@@ -3,7 +3,9 @@
 
 pub mod contains;
 pub mod double;
+pub mod greetings;
 pub mod numbers;
+pub mod orders;
 pub mod place;
 pub mod report;
 #[cfg(test)]

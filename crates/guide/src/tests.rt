@@ -2,13 +2,16 @@
 
 use crate::contains::Passes;
 use crate::double::Double;
+use crate::greetings::{Greeting, SaysHello, World};
 use crate::numbers::{DoubleFlat, Flat, Identity, Sum};
+use crate::orders::{Both, Either, Turn};
 use crate::place::Warmth;
 use crate::report::Report;
 use crate::texts::Same;
 use crate::town::Town;
 use comemo::function::memoized;
-use comemo::{CacheData, How, MemoOf, Top, Track};
+use comemo::{CacheData, Fault, How, MemoOf, Reply, Top, Track};
+use std::alloc::Global;
 use std::test::Fail;
 
 fn town(people: u64, degrees: u64) -> Town {
@@ -348,5 +351,121 @@ fn each_function_has_a_cache_of_its_own(rt: HostRuntime) -> Result<(), Fail> {
     )?;
     assert_eq!(rt; fourth.output.as_str(), "Hello");
     assert_eq!(rt; fourth.how, How::Hit);
+    Ok(())
+}
+
+fn either(
+    alloc: Global,
+    cache: &mut CacheData<MemoOf<Either>>,
+    mut turn: Turn,
+    town: &Town,
+) -> Result<Reply<u64>, Fault> {
+    memoized(
+        alloc,
+        cache,
+        &mut turn,
+        (),
+        &town.track(),
+        &mut Top::new(),
+        true,
+    )
+}
+
+fn both(
+    alloc: Global,
+    cache: &mut CacheData<MemoOf<Both>>,
+    mut turn: Turn,
+    town: &Town,
+) -> Result<Reply<(u64, u64)>, Fault> {
+    memoized(
+        alloc,
+        cache,
+        &mut turn,
+        (),
+        &town.track(),
+        &mut Top::new(),
+        true,
+    )
+}
+
+#[test]
+fn a_run_that_lacks_a_stored_question_is_not_kept(rt: HostRuntime) -> Result<(), Fail> {
+    let alloc = rt.alloc();
+    let mut cache = CacheData::new(alloc);
+    let first = either(alloc, &mut cache, Turn::People, &town(0, 7))?;
+    assert_eq!(rt; first.output, 0);
+    assert_eq!(rt; first.how, How::Stored);
+    let second = either(alloc, &mut cache, Turn::Degrees, &town(1, 7))?;
+    assert_eq!(rt; second.output, 7);
+    assert_eq!(rt; second.how, How::MissingCall);
+    assert_eq!(rt; cache.len(), 1);
+    Ok(())
+}
+
+#[test]
+fn the_order_of_questions_may_change(rt: HostRuntime) -> Result<(), Fail> {
+    let alloc = rt.alloc();
+    let mut cache = CacheData::new(alloc);
+    let first = both(alloc, &mut cache, Turn::People, &town(0, 7))?;
+    assert_eq!(rt; first.output, (0, 7));
+    assert_eq!(rt; first.how, How::Stored);
+    let second = both(alloc, &mut cache, Turn::Degrees, &town(0, 7))?;
+    assert_eq!(rt; second.output, (0, 7));
+    assert_eq!(rt; second.how, How::Hit);
+    let third = both(alloc, &mut cache, Turn::Degrees, &town(1, 7))?;
+    assert_eq!(rt; third.output, (1, 7));
+    assert_eq!(rt; third.how, How::Stored);
+    let fourth = both(alloc, &mut cache, Turn::Degrees, &town(1, 7))?;
+    assert_eq!(rt; fourth.output, (1, 7));
+    assert_eq!(rt; fourth.how, How::Hit);
+    Ok(())
+}
+
+#[test]
+fn the_world_is_big_once(rt: HostRuntime) -> Result<(), Fail> {
+    let mut alloc = rt.alloc();
+    let mut cache: CacheData<MemoOf<World>> = CacheData::new(alloc);
+    for how in [How::Stored, How::Hit, How::Hit] {
+        let reply = memoized(
+            rt.alloc(),
+            &mut cache,
+            &mut alloc,
+            (),
+            &().track(),
+            &mut Top::new(),
+            true,
+        )?;
+        assert_eq!(rt; reply.output.as_str(), "The world is big");
+        assert_eq!(rt; reply.how, how);
+    }
+    Ok(())
+}
+
+#[test]
+fn a_text_is_asked_whether_it_is_hello(rt: HostRuntime) -> Result<(), Fail> {
+    let alloc = rt.alloc();
+    let mut cache: CacheData<MemoOf<SaysHello>> = CacheData::new(alloc);
+    let asked = [
+        ("hey", false, How::Stored),
+        ("hey", false, How::Hit),
+        ("hello", true, How::Stored),
+        ("hello", true, How::Hit),
+    ];
+    for (text, is, how) in asked {
+        let greeting = Greeting {
+            text: String::from_str(alloc, text)?,
+        };
+        let reply = memoized(
+            alloc,
+            &mut cache,
+            &mut (),
+            (),
+            &greeting.track(),
+            &mut Top::new(),
+            true,
+        )?;
+        assert_eq!(rt; reply.output, is);
+        assert_eq!(rt; reply.how, how);
+    }
     Ok(())
 }

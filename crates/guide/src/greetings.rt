@@ -1,0 +1,73 @@
+//! A text that is lent and asked, and a text that is always the same.
+ghost use Rattle.std.specs.Prelude.{◌≡◌, codes, string_bytes};
+ghost use Rattle.std.proofs.Common.{rules};
+
+use comemo::{Fault, Function, Recorder, Track};
+use std::alloc::{AllocError, Global};
+
+/// What the world is.
+pub struct World;
+
+impl Function for World {
+    type Key = ();
+
+    type Of = ();
+
+    type Out = String;
+
+    type Needs = Global;
+
+    ghost means = { λ _ _ out. string_bytes out ≡ codes "The world is big" };
+
+    ghost laws = { Prim.search rules };
+
+    fn run(_key: &(), _of: &mut Recorder<'_, ()>, alloc: &mut Global) -> Result<String, Fault> {
+        Ok(String::from_str(*alloc, "The world is big")?)
+    }
+}
+
+/// A text that is tracked. Its one question is whether it is `hello`.
+#[derive(Drop)]
+pub struct Greeting {
+    pub text: String,
+}
+
+impl Track for Greeting {
+    type Call = ();
+
+    type Answer = bool;
+
+    ghost use Rattle.guide.specs.Greetings.{is_hello};
+
+    ghost answers = { λ s _. is_hello (string_bytes s.text) };
+
+    ghost alike = { λ s x y h. Prim.search rules };
+
+    ghost clones = { λ x y h. Prim.search rules };
+
+    fn ask(&self, _call: &()) -> Result<bool, AllocError> {
+        Ok(self.text.as_str() == "hello")
+    }
+}
+
+/// Whether a text is `hello`.
+pub struct SaysHello;
+
+impl Function for SaysHello {
+    type Key = ();
+
+    type Of = Greeting;
+
+    type Out = bool;
+
+    type Needs = ();
+
+    ghost means = { λ _ m out. out ≡ m tt };
+
+    ghost laws = { Prim.search rules };
+
+    fn run(_key: &(), text: &mut Recorder<'_, Greeting>, _needs: &mut ()) -> Result<bool, Fault> {
+        let is = text.ask(())?;
+        Ok(is)
+    }
+}

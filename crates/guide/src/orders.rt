@@ -1,0 +1,73 @@
+//! Functions that do not always ask the same: which question they ask, or which one first, is no argument of theirs.
+ghost use Rattle.std.specs.Prelude.{◌≡◌, ⊤};
+ghost use Rattle.std.proofs.Common.{rules};
+
+use crate::town::{Town, TownCall};
+use comemo::{Fault, Function, Recorder};
+
+/// Which question is asked, or asked first.
+#[derive(Clone, Copy, Drop, Debug, PartialEq, Eq)]
+pub enum Turn {
+    /// How many people there are.
+    People,
+    /// How warm it is.
+    Degrees,
+}
+
+/// What a town answers to one of its questions. Any output is right.
+pub struct Either;
+
+impl Function for Either {
+    type Key = ();
+
+    type Of = Town;
+
+    type Out = u64;
+
+    type Needs = Turn;
+
+    ghost means = { λ _ _ _. ⊤ };
+
+    ghost laws = { Prim.search rules };
+
+    fn run(_key: &(), town: &mut Recorder<'_, Town>, turn: &mut Turn) -> Result<u64, Fault> {
+        match turn {
+            Turn::People => town.ask(TownCall::People),
+            Turn::Degrees => town.ask(TownCall::Degrees),
+        }
+    }
+}
+
+/// What a town answers to both of its questions.
+pub struct Both;
+
+impl Function for Both {
+    type Key = ();
+
+    type Of = Town;
+
+    type Out = (u64, u64);
+
+    type Needs = Turn;
+
+    ghost use Rattle.guide.specs.declared.town.TownCall.TheVariants.{People, Degrees};
+
+    ghost means = { λ _ m out. out ≡ (m People, m Degrees) };
+
+    ghost laws = { Prim.search rules };
+
+    fn run(_key: &(), town: &mut Recorder<'_, Town>, turn: &mut Turn) -> Result<(u64, u64), Fault> {
+        match turn {
+            Turn::People => {
+                let people = town.ask(TownCall::People)?;
+                let degrees = town.ask(TownCall::Degrees)?;
+                Ok((people, degrees))
+            }
+            Turn::Degrees => {
+                let degrees = town.ask(TownCall::Degrees)?;
+                let people = town.ask(TownCall::People)?;
+                Ok((people, degrees))
+            }
+        }
+    }
+}
