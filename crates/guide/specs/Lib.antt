@@ -1,2 +1,4 @@
 pub mod Towns
 pub mod Greetings
+pub mod Kinds
+pub mod KindLaws

@@ -4,6 +4,7 @@
 pub mod contains;
 pub mod double;
 pub mod greetings;
+pub mod kinds;
 pub mod numbers;
 pub mod orders;
 pub mod place;

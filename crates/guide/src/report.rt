@@ -7,6 +7,9 @@ use crate::place::Warmth;
 use crate::town::Town;
 use comemo::{CacheData, Fault, Function, MemoOf, Recorder};
 
+/// The caches of the two functions that a report calls.
+pub type Kept = (CacheData<MemoOf<Passes>>, CacheData<MemoOf<Warmth>>);
+
 /// How warm a town is if it passes the first number, and else the second number.
 pub struct Report;
 
@@ -17,7 +20,7 @@ impl Function for Report {
 
     type Out = u64;
 
-    type Needs = (CacheData<MemoOf<Passes>>, CacheData<MemoOf<Warmth>>);
+    type Needs = Kept;
 
     ghost use Rattle.guide.specs.declared.town.TownCall.TheVariants.{People, Degrees};
 
@@ -25,17 +28,11 @@ impl Function for Report {
 
     ghost laws = { Prim.search rules };
 
-    fn run(
-        key: &(u64, u64),
-        town: &mut Recorder<'_, Town>,
-        caches: &mut (CacheData<MemoOf<Passes>>, CacheData<MemoOf<Warmth>>),
-    ) -> Result<u64, Fault> {
-        let passes = town.call(&mut caches.0, &mut (), key.0)?;
-        let shown = if passes {
-            town.call(&mut caches.1, &mut (), ())?
-        } else {
-            key.1
-        };
-        Ok(shown)
+    fn run(key: &(u64, u64), town: &mut Recorder<'_, Town>, kept: &mut Kept) -> Result<u64, Fault> {
+        if town.call(&mut kept.0, &mut (), key.0)? {
+            let warmth = town.call(&mut kept.1, &mut (), ())?;
+            return Ok(warmth);
+        }
+        Ok(key.1)
     }
 }

@@ -3,6 +3,7 @@
 use crate::contains::Passes;
 use crate::double::Double;
 use crate::greetings::{Greeting, SaysHello, World};
+use crate::kinds::{IsLong, Selfie, Text};
 use crate::numbers::{DoubleFlat, Flat, Identity, Sum};
 use crate::orders::{Both, Either, Turn};
 use crate::place::Warmth;
@@ -467,5 +468,79 @@ fn a_text_is_asked_whether_it_is_hello(rt: HostRuntime) -> Result<(), Fail> {
         assert_eq!(rt; reply.output, is);
         assert_eq!(rt; reply.how, how);
     }
+    Ok(())
+}
+
+#[test]
+fn a_text_answers_two_kinds_of_questions(rt: HostRuntime) -> Result<(), Fail> {
+    let alloc = rt.alloc();
+    let mut selfies: CacheData<MemoOf<Selfie>> = CacheData::new(alloc);
+    let mut lengths: CacheData<MemoOf<IsLong>> = CacheData::new(alloc);
+    let hi = Text {
+        text: String::from_str(alloc, "Hi")?,
+    };
+    for how in [How::Stored, How::Hit] {
+        let selfie = memoized(
+            alloc,
+            &mut selfies,
+            &mut (),
+            (),
+            &hi.track(),
+            &mut Top::new(),
+            true,
+        )?;
+        assert_eq!(rt; selfie.output.as_str(), "Hi");
+        assert_eq!(rt; selfie.how, how);
+        let long = memoized(
+            alloc,
+            &mut lengths,
+            &mut (),
+            (),
+            &hi.track(),
+            &mut Top::new(),
+            true,
+        )?;
+        assert_eq!(rt; long.output, false);
+        assert_eq!(rt; long.how, how);
+    }
+    let loud = Text {
+        text: String::from_str(alloc, "Hi!")?,
+    };
+    let selfie = memoized(
+        alloc,
+        &mut selfies,
+        &mut (),
+        (),
+        &loud.track(),
+        &mut Top::new(),
+        true,
+    )?;
+    assert_eq!(rt; selfie.output.as_str(), "Hi!");
+    assert_eq!(rt; selfie.how, How::Stored);
+    let still = memoized(
+        alloc,
+        &mut lengths,
+        &mut (),
+        (),
+        &loud.track(),
+        &mut Top::new(),
+        true,
+    )?;
+    assert_eq!(rt; still.output, false);
+    assert_eq!(rt; still.how, How::Stored);
+    let longer = Text {
+        text: String::from_str(alloc, "Hi! Let's go.")?,
+    };
+    let long = memoized(
+        alloc,
+        &mut lengths,
+        &mut (),
+        (),
+        &longer.track(),
+        &mut Top::new(),
+        true,
+    )?;
+    assert_eq!(rt; long.output, true);
+    assert_eq!(rt; long.how, How::Stored);
     Ok(())
 }

@@ -1,0 +1,20 @@
+-- That equal questions to a text have equal answers, and that a clone of an answer is equal.
+use Rattle.std.proofs.Common.{IsTrue, rules}
+use Rattle.std.specs.Prelude.{String}
+use Rattle.std.specs.Global.{Global}
+use Rattle.comemo_base.specs.Answers.{Respects}
+use Rattle.guide.specs.Kinds.{text_answer}
+use Rattle.guide.specs.declared.kinds.TextCall.TheVariants.{Itself, LengthPlus}
+use Rattle.guide.specs.declared.kinds.TextAnswer.{TextAnswer}
+use Rattle.guide.specs.contracts.kinds.TextCallPartialEq.TheImpl as call
+use Rattle.guide.specs.contracts.kinds.TextAnswerPartialEq.TheImpl as answer
+use Rattle.guide.specs.contracts.kinds.TextAnswerClone.TheImpl as clone
+
+pub answers_alike : (text : String Global) → Respects call.ghosts.eq answer.ghosts.eq (text_answer text)
+answers_alike text Itself Itself h = search rules
+answers_alike text Itself (LengthPlus n) h = search rules
+answers_alike text (LengthPlus n) Itself h = search rules
+answers_alike text (LengthPlus n) (LengthPlus k) h = search rules
+
+pub answer_clones : (x y : TextAnswer) → clone.ghosts.is_clone x y → IsTrue (answer.ghosts.eq x y)
+answer_clones x y h = search rules
