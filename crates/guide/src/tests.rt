@@ -7,11 +7,11 @@ use crate::kinds::{IsLong, Selfie, Text};
 use crate::numbers::{DoubleFlat, Flat, Identity, Sum};
 use crate::orders::{Both, Either, Turn};
 use crate::place::Warmth;
-use crate::report::Report;
+use crate::report::{Kept, Report};
 use crate::texts::Same;
 use crate::town::Town;
 use comemo::function::memoized;
-use comemo::{CacheData, Fault, How, MemoOf, Reply, Top, Track};
+use comemo::{CacheData, Fault, Function, How, MemoOf, Reply, Top, Track};
 use std::alloc::Global;
 use std::test::Fail;
 
@@ -19,42 +19,53 @@ fn town(people: u64, degrees: u64) -> Town {
     Town { people, degrees }
 }
 
+/// Calls a function that needs nothing, with no run around it.
+fn call<F: Function<Needs = ()>>(
+    alloc: Global,
+    cache: &mut CacheData<MemoOf<F>>,
+    key: F::Key,
+    of: &F::Of,
+) -> Result<Reply<F::Out>, Fault> {
+    memoized(
+        alloc,
+        cache,
+        &mut (),
+        key,
+        &of.track(),
+        &mut Top::new(),
+        true,
+    )
+}
+
+/// Reports on a town, by the limit 500 and the number 7.
+fn report(
+    alloc: Global,
+    cache: &mut CacheData<MemoOf<Report>>,
+    kept: &mut Kept,
+    town: &Town,
+) -> Result<Reply<u64>, Fault> {
+    memoized(
+        alloc,
+        cache,
+        kept,
+        (500, 7),
+        &town.track(),
+        &mut Top::new(),
+        true,
+    )
+}
+
 #[test]
 fn a_number_is_doubled_once(rt: HostRuntime) -> Result<(), Fail> {
     let alloc = rt.alloc();
     let mut cache: CacheData<MemoOf<Double>> = CacheData::new(alloc);
-    let nothing = ();
-    let first = memoized(
-        alloc,
-        &mut cache,
-        &mut (),
-        2,
-        &nothing.track(),
-        &mut Top::new(),
-        true,
-    )?;
+    let first = call(alloc, &mut cache, 2, &())?;
     assert_eq!(rt; first.output, 4);
     assert_eq!(rt; first.how, How::Stored);
-    let other = memoized(
-        alloc,
-        &mut cache,
-        &mut (),
-        4,
-        &nothing.track(),
-        &mut Top::new(),
-        true,
-    )?;
+    let other = call(alloc, &mut cache, 4, &())?;
     assert_eq!(rt; other.output, 8);
     assert_eq!(rt; other.how, How::Stored);
-    let again = memoized(
-        alloc,
-        &mut cache,
-        &mut (),
-        2,
-        &nothing.track(),
-        &mut Top::new(),
-        true,
-    )?;
+    let again = call(alloc, &mut cache, 2, &())?;
     assert_eq!(rt; again.output, 4);
     assert_eq!(rt; again.how, How::Hit);
     Ok(())
@@ -65,39 +76,15 @@ fn only_what_was_asked_counts(rt: HostRuntime) -> Result<(), Fail> {
     let alloc = rt.alloc();
     let mut cache: CacheData<MemoOf<Warmth>> = CacheData::new(alloc);
     let small = town(900, 21);
-    let first = memoized(
-        alloc,
-        &mut cache,
-        &mut (),
-        (),
-        &small.track(),
-        &mut Top::new(),
-        true,
-    )?;
+    let first = call(alloc, &mut cache, (), &small)?;
     assert_eq!(rt; first.output, 21);
     assert_eq!(rt; first.how, How::Stored);
     let grown = town(7000, 21);
-    let second = memoized(
-        alloc,
-        &mut cache,
-        &mut (),
-        (),
-        &grown.track(),
-        &mut Top::new(),
-        true,
-    )?;
+    let second = call(alloc, &mut cache, (), &grown)?;
     assert_eq!(rt; second.output, 21);
     assert_eq!(rt; second.how, How::Hit);
     let colder = town(7000, 4);
-    let third = memoized(
-        alloc,
-        &mut cache,
-        &mut (),
-        (),
-        &colder.track(),
-        &mut Top::new(),
-        true,
-    )?;
+    let third = call(alloc, &mut cache, (), &colder)?;
     assert_eq!(rt; third.output, 4);
     assert_eq!(rt; third.how, How::Stored);
     Ok(())
@@ -108,39 +95,15 @@ fn a_question_that_was_not_asked_may_change(rt: HostRuntime) -> Result<(), Fail>
     let alloc = rt.alloc();
     let mut cache: CacheData<MemoOf<Passes>> = CacheData::new(alloc);
     let warm = town(900, 21);
-    let first = memoized(
-        alloc,
-        &mut cache,
-        &mut (),
-        500,
-        &warm.track(),
-        &mut Top::new(),
-        true,
-    )?;
+    let first = call(alloc, &mut cache, 500, &warm)?;
     assert_eq!(rt; first.output, true);
     assert_eq!(rt; first.how, How::Stored);
     let cold = town(900, 4);
-    let second = memoized(
-        alloc,
-        &mut cache,
-        &mut (),
-        500,
-        &cold.track(),
-        &mut Top::new(),
-        true,
-    )?;
+    let second = call(alloc, &mut cache, 500, &cold)?;
     assert_eq!(rt; second.output, true);
     assert_eq!(rt; second.how, How::Hit);
     let small = town(90, 4);
-    let third = memoized(
-        alloc,
-        &mut cache,
-        &mut (),
-        500,
-        &small.track(),
-        &mut Top::new(),
-        true,
-    )?;
+    let third = call(alloc, &mut cache, 500, &small)?;
     assert_eq!(rt; third.output, false);
     assert_eq!(rt; third.how, How::Stored);
     Ok(())
@@ -150,54 +113,22 @@ fn a_question_that_was_not_asked_may_change(rt: HostRuntime) -> Result<(), Fail>
 fn what_a_called_function_asked_counts_for_its_caller(rt: HostRuntime) -> Result<(), Fail> {
     let alloc = rt.alloc();
     let mut cache: CacheData<MemoOf<Report>> = CacheData::new(alloc);
-    let mut caches = (CacheData::new(alloc), CacheData::new(alloc));
+    let mut kept = (CacheData::new(alloc), CacheData::new(alloc));
     let warm = town(900, 21);
-    let first = memoized(
-        alloc,
-        &mut cache,
-        &mut caches,
-        (500, 7),
-        &warm.track(),
-        &mut Top::new(),
-        true,
-    )?;
+    let first = report(alloc, &mut cache, &mut kept, &warm)?;
     assert_eq!(rt; first.output, 21);
     assert_eq!(rt; first.how, How::Stored);
-    let again = memoized(
-        alloc,
-        &mut cache,
-        &mut caches,
-        (500, 7),
-        &warm.track(),
-        &mut Top::new(),
-        true,
-    )?;
+    let again = report(alloc, &mut cache, &mut kept, &warm)?;
     assert_eq!(rt; again.output, 21);
     assert_eq!(rt; again.how, How::Hit);
     let cold = town(900, 4);
-    let third = memoized(
-        alloc,
-        &mut cache,
-        &mut caches,
-        (500, 7),
-        &cold.track(),
-        &mut Top::new(),
-        true,
-    )?;
+    let third = report(alloc, &mut cache, &mut kept, &cold)?;
     assert_eq!(rt; third.output, 4);
     assert_eq!(rt; third.how, How::Stored);
-    assert_eq!(rt; caches.0.len(), 1);
-    assert_eq!(rt; caches.1.len(), 2);
+    assert_eq!(rt; kept.0.len(), 1);
+    assert_eq!(rt; kept.1.len(), 2);
     let small = town(90, 4);
-    let fourth = memoized(
-        alloc,
-        &mut cache,
-        &mut caches,
-        (500, 7),
-        &small.track(),
-        &mut Top::new(),
-        true,
-    )?;
+    let fourth = report(alloc, &mut cache, &mut kept, &small)?;
     assert_eq!(rt; fourth.output, 7);
     assert_eq!(rt; fourth.how, How::Stored);
     Ok(())
@@ -256,7 +187,6 @@ fn only_large_numbers_are_kept(rt: HostRuntime) -> Result<(), Fail> {
 fn the_order_of_two_numbers_counts(rt: HostRuntime) -> Result<(), Fail> {
     let alloc = rt.alloc();
     let mut cache: CacheData<MemoOf<Sum>> = CacheData::new(alloc);
-    let nothing = ().track();
     let asked = [
         ((2, 4), 6, How::Stored),
         ((2, 3), 5, How::Stored),
@@ -264,15 +194,7 @@ fn the_order_of_two_numbers_counts(rt: HostRuntime) -> Result<(), Fail> {
         ((4, 2), 6, How::Stored),
     ];
     for (key, sum, how) in asked {
-        let reply = memoized(
-            alloc,
-            &mut cache,
-            &mut (),
-            key,
-            &nothing,
-            &mut Top::new(),
-            true,
-        )?;
+        let reply = call(alloc, &mut cache, key, &())?;
         assert_eq!(rt; reply.output, sum);
         assert_eq!(rt; reply.how, how);
     }
@@ -283,17 +205,8 @@ fn the_order_of_two_numbers_counts(rt: HostRuntime) -> Result<(), Fail> {
 fn keys_of_one_hash_are_told_apart(rt: HostRuntime) -> Result<(), Fail> {
     let alloc = rt.alloc();
     let mut cache: CacheData<MemoOf<DoubleFlat>> = CacheData::new(alloc);
-    let nothing = ().track();
     for (n, how) in [(2, How::Stored), (3, How::Stored), (2, How::Hit)] {
-        let reply = memoized(
-            alloc,
-            &mut cache,
-            &mut (),
-            Flat(n),
-            &nothing,
-            &mut Top::new(),
-            true,
-        )?;
+        let reply = call(alloc, &mut cache, Flat(n), &())?;
         assert_eq!(rt; reply.output, 2 * n);
         assert_eq!(rt; reply.how, how);
     }
@@ -305,51 +218,18 @@ fn each_function_has_a_cache_of_its_own(rt: HostRuntime) -> Result<(), Fail> {
     let alloc = rt.alloc();
     let mut taken: CacheData<MemoOf<Same>> = CacheData::new(alloc);
     let mut copied: CacheData<MemoOf<Same>> = CacheData::new(alloc);
-    let nothing = ().track();
     let hello = String::from_str(alloc, "Hello")?;
-    let first = memoized(
-        alloc,
-        &mut taken,
-        &mut (),
-        hello.clone()?,
-        &nothing,
-        &mut Top::new(),
-        true,
-    )?;
+    let first = call(alloc, &mut taken, hello.clone()?, &())?;
     assert_eq!(rt; first.output.as_str(), "Hello");
     assert_eq!(rt; first.how, How::Stored);
-    let second = memoized(
-        alloc,
-        &mut copied,
-        &mut (),
-        hello.clone()?,
-        &nothing,
-        &mut Top::new(),
-        true,
-    )?;
+    let second = call(alloc, &mut copied, hello.clone()?, &())?;
     assert_eq!(rt; second.output.as_str(), "Hello");
     assert_eq!(rt; second.how, How::Stored);
     let world = String::from_str(alloc, "World")?;
-    let third = memoized(
-        alloc,
-        &mut taken,
-        &mut (),
-        world,
-        &nothing,
-        &mut Top::new(),
-        true,
-    )?;
+    let third = call(alloc, &mut taken, world, &())?;
     assert_eq!(rt; third.output.as_str(), "World");
     assert_eq!(rt; third.how, How::Stored);
-    let fourth = memoized(
-        alloc,
-        &mut taken,
-        &mut (),
-        hello,
-        &nothing,
-        &mut Top::new(),
-        true,
-    )?;
+    let fourth = call(alloc, &mut taken, hello, &())?;
     assert_eq!(rt; fourth.output.as_str(), "Hello");
     assert_eq!(rt; fourth.how, How::Hit);
     Ok(())
@@ -456,15 +336,7 @@ fn a_text_is_asked_whether_it_is_hello(rt: HostRuntime) -> Result<(), Fail> {
         let greeting = Greeting {
             text: String::from_str(alloc, text)?,
         };
-        let reply = memoized(
-            alloc,
-            &mut cache,
-            &mut (),
-            (),
-            &greeting.track(),
-            &mut Top::new(),
-            true,
-        )?;
+        let reply = call(alloc, &mut cache, (), &greeting)?;
         assert_eq!(rt; reply.output, is);
         assert_eq!(rt; reply.how, how);
     }
@@ -480,66 +352,26 @@ fn a_text_answers_two_kinds_of_questions(rt: HostRuntime) -> Result<(), Fail> {
         text: String::from_str(alloc, "Hi")?,
     };
     for how in [How::Stored, How::Hit] {
-        let selfie = memoized(
-            alloc,
-            &mut selfies,
-            &mut (),
-            (),
-            &hi.track(),
-            &mut Top::new(),
-            true,
-        )?;
+        let selfie = call(alloc, &mut selfies, (), &hi)?;
         assert_eq!(rt; selfie.output.as_str(), "Hi");
         assert_eq!(rt; selfie.how, how);
-        let long = memoized(
-            alloc,
-            &mut lengths,
-            &mut (),
-            (),
-            &hi.track(),
-            &mut Top::new(),
-            true,
-        )?;
+        let long = call(alloc, &mut lengths, (), &hi)?;
         assert_eq!(rt; long.output, false);
         assert_eq!(rt; long.how, how);
     }
     let loud = Text {
         text: String::from_str(alloc, "Hi!")?,
     };
-    let selfie = memoized(
-        alloc,
-        &mut selfies,
-        &mut (),
-        (),
-        &loud.track(),
-        &mut Top::new(),
-        true,
-    )?;
+    let selfie = call(alloc, &mut selfies, (), &loud)?;
     assert_eq!(rt; selfie.output.as_str(), "Hi!");
     assert_eq!(rt; selfie.how, How::Stored);
-    let still = memoized(
-        alloc,
-        &mut lengths,
-        &mut (),
-        (),
-        &loud.track(),
-        &mut Top::new(),
-        true,
-    )?;
+    let still = call(alloc, &mut lengths, (), &loud)?;
     assert_eq!(rt; still.output, false);
     assert_eq!(rt; still.how, How::Stored);
     let longer = Text {
         text: String::from_str(alloc, "Hi! Let's go.")?,
     };
-    let long = memoized(
-        alloc,
-        &mut lengths,
-        &mut (),
-        (),
-        &longer.track(),
-        &mut Top::new(),
-        true,
-    )?;
+    let long = call(alloc, &mut lengths, (), &longer)?;
     assert_eq!(rt; long.output, true);
     assert_eq!(rt; long.how, How::Stored);
     Ok(())
