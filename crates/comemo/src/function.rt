@@ -1,5 +1,5 @@
 //! The library's front door: a memoized function of a key and a tracked value, as one trait and one call.
-ghost use Rattle.std.specs.Prelude.{◌≡◌, [], true, false, IsTrue, IfOk, OnOk, OnErr};
+ghost use Rattle.std.specs.Prelude.{◌≡◌, [], true, false, IsTrue, IfOk, IfErr, OnOk, OnErr};
 ghost use Rattle.comemo_base.specs.Answers.{Agrees};
 ghost use Rattle.comemo.specs.Called.{Gave, Came};
 ghost use Rattle.comemo.specs.Function.{Fits, Laws};
@@ -85,7 +85,7 @@ impl<'a, T: Track> Recorder<'a, T> {
         ensures before { OnOk result ((m : T.Call → T.Answer) → Fits T.Call.eq T.Answer.eq self.new.recording m → Fits T.Call.eq T.Answer.eq self.old.recording m) }
         ensures told { IfOk result (λ answer. (m : T.Call → T.Answer) → Fits T.Call.eq T.Answer.eq self.new.recording m → IsTrue (T.Answer.eq (m call) answer)) }
         ensures whole { self.new.recording.whole ≡ self.old.recording.whole }
-        ensures err { OnErr result (self.new.recording.pairs ≡ self.old.recording.pairs) }
+        ensures err { IfErr result (λ fault. (fault ≡ Fault.Memory) × (self.new.recording.pairs ≡ self.old.recording.pairs)) }
     {
         Ok(self.view.ask(call, &mut self.recording)?)
     }
