@@ -4,6 +4,8 @@
 
 pub mod absorbing;
 pub mod cells;
+#[cfg(test)]
+mod closed_runs;
 pub mod closures;
 pub mod fibonacci;
 pub mod functions;

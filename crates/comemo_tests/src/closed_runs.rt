@@ -1,0 +1,66 @@
+//! Runs of functions that are closures: the closure is called where no entry agrees, or none is looked for.
+
+use crate::cells::Context;
+use crate::closures::{closed_square, closed_sum};
+use crate::functions::SumMemo;
+use crate::inputs::SquareMemo;
+use comemo::{CacheData, Fault, How, Reply, Top, Track};
+use std::alloc::Global;
+use std::test::Fail;
+
+fn sum_of(
+    alloc: Global,
+    cache: &mut CacheData<SumMemo>,
+    styles: u64,
+    enabled: bool,
+) -> Result<Reply<u64>, Fault> {
+    let context = Context {
+        location: 3,
+        styles,
+    };
+    closed_sum(alloc, cache, &context.track(), &mut Top::new(), enabled)
+}
+
+#[test]
+fn a_closure_runs_where_no_entry_agrees(rt: HostRuntime) -> Result<(), Fail> {
+    let alloc = rt.alloc();
+    let mut cache = CacheData::new(alloc);
+    let first = sum_of(alloc, &mut cache, 4, true)?;
+    assert_eq!(rt; first.output, 7);
+    assert_eq!(rt; first.how, How::Stored);
+    let again = sum_of(alloc, &mut cache, 4, true)?;
+    assert_eq!(rt; again.output, 7);
+    assert_eq!(rt; again.how, How::Hit);
+    let other = sum_of(alloc, &mut cache, 5, true)?;
+    assert_eq!(rt; other.output, 8);
+    assert_eq!(rt; other.how, How::Stored);
+    assert_eq!(rt; cache.len(), 2);
+    Ok(())
+}
+
+#[test]
+fn a_closure_that_is_not_enabled_runs_each_time(rt: HostRuntime) -> Result<(), Fail> {
+    let alloc = rt.alloc();
+    let mut cache = CacheData::new(alloc);
+    let first = sum_of(alloc, &mut cache, 4, false)?;
+    assert_eq!(rt; first.output, 7);
+    assert_eq!(rt; first.how, How::Disabled);
+    let again = sum_of(alloc, &mut cache, 4, false)?;
+    assert_eq!(rt; again.output, 7);
+    assert_eq!(rt; again.how, How::Disabled);
+    assert_eq!(rt; cache.len(), 0);
+    Ok(())
+}
+
+#[test]
+fn a_closure_that_asks_nothing_is_kept_under_its_key(rt: HostRuntime) -> Result<(), Fail> {
+    let alloc = rt.alloc();
+    let mut cache: CacheData<SquareMemo> = CacheData::new(alloc);
+    let first = closed_square(alloc, &mut cache, 12, &mut Top::new(), true)?;
+    assert_eq!(rt; first.output, 144);
+    assert_eq!(rt; first.how, How::Stored);
+    let again = closed_square(alloc, &mut cache, 12, &mut Top::new(), true)?;
+    assert_eq!(rt; again.output, 144);
+    assert_eq!(rt; again.how, How::Hit);
+    Ok(())
+}
