@@ -7,6 +7,9 @@ pub mod cells;
 #[cfg(test)]
 mod closed_runs;
 pub mod closures;
+#[cfg(test)]
+mod fault_tests;
+pub mod faults;
 pub mod fibonacci;
 pub mod functions;
 pub mod inputs;
