@@ -1,5 +1,5 @@
 -- The calls of files are told apart by their paths, and texts by their bytes.
-use Rattle.std.proofs.Common.{String, string_eq, rules}
+use Rattle.std.proofs.Common.{◌≡◌, ◌&&◌, true, IsTrue, String, string_bytes, string_eq, rules}
 use Rattle.std.specs.Cmp.{IsEquivalence}
 use Rattle.std.specs.Global.{Global}
 use Rattle.std.specs.HashMap.{HashMap}
@@ -7,6 +7,16 @@ use Rattle.comemo_base.specs.Answers.{Respects}
 use Rattle.interpreter.specs.Files.{answer_of}
 use Rattle.interpreter.specs.declared.files.FileCall.TheVariants.{Read}
 use Rattle.interpreter.specs.contracts.files.FileCallPartialEq.TheImpl.{ghosts}
+
+pub same_bytes : (a b : String Global) → IsTrue (string_eq a b) → string_bytes a ≡ string_bytes b
+same_bytes a b h = search rules
+
+pub same_text : (a b : String Global) → string_bytes a ≡ string_bytes b → IsTrue (string_eq a b)
+same_text a b h = search rules
+
+-- the same of two keys, each a text and nothing more
+pub same_key : (a b : String Global) → IsTrue (string_eq a b && true) → string_bytes a ≡ string_bytes b
+same_key a b h = search rules
 
 pub same_texts : IsEquivalence (string_eq {Z = Global})
 same_texts = search rules

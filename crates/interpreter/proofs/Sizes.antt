@@ -1,35 +1,31 @@
 -- The size that a run finds stands for all answers that agree with its recording.
-use Rattle.std.proofs.Common.{rules, Bool, Result, Ok, Err, IfOk, ◌≡◌, [], ◌∷◌, String, string_bytes, string_eq, IsTrue, length, ◌∙◌, sym, ap, subst}
+use Rattle.std.proofs.Common.{Result, Ok, Err, IfOk, ◌≡◌, [], String, string_bytes, string_eq, length, ◌∙◌, sym, ap, subst}
+use Rattle.std.specs.Bool.{⊤}
 use Rattle.std.specs.Global.{Global}
-use Rattle.comemo_base.specs.Answers.{Agrees}
+use Rattle.comemo_base.specs.Answers.{Respects, Agrees}
 use Rattle.comemo.specs.Cache.{Stands}
-use Rattle.comemo_base.specs.Sequence.{absorbed}
+use Rattle.comemo.specs.Mapped.{Through}
+use Rattle.comemo.specs.Multi.{OnParts, second_call, second_answer}
 use Rattle.comemo.specs.Recording.{Recording, Took}
 use Rattle.comemo.specs.Sending.{Asks}
+use Rattle.interpreter.specs.Files.{JoinedCall, JoinedAnswer, with_key}
 use Rattle.interpreter.specs.Size.{IsSize}
 use Rattle.interpreter.specs.declared.files.FileCall.{FileCall}
 use Rattle.interpreter.specs.declared.files.FileCall.TheVariants.{Read}
+use Rattle.interpreter.specs.contracts.files.FileCallPartialEq.TheImpl.{ghosts}
+use Rattle.interpreter.proofs.FileCalls.{same_bytes, same_text}
+use Rattle.interpreter.proofs.JoinedCalls.{same_call, same_answer, on_parts, ToldText, told_text}
 
-pub same_bytes : (a b : String Global) → IsTrue (string_eq a b) → string_bytes a ≡ string_bytes b
-same_bytes a b h = search rules
+module _ (m : FileCall → String Global) (respects : Respects ghosts.eq string_eq m) (own text : String Global) (s t : Recording JoinedCall JoinedAnswer) (empty : s.pairs ≡ []) (asked : Asks string_eq (Through (Took same_call) second_call second_answer) m s (Read own) text t) where
+  read : ToldText m s.pairs own text t.pairs
+  read = told_text m respects s t own text (subst (λ ps. Agrees same_answer (with_key m) ps) (sym empty) tt) asked
 
-pub same_text : (a b : String Global) → string_bytes a ≡ string_bytes b → IsTrue (string_eq a b)
-same_text a b h = search rules
-
-module _ (eq : FileCall → FileCall → Bool) (reads : (a b : String Global) → IsTrue (string_eq a b) → IsTrue (eq (Read a) (Read b))) (m : FileCall → String Global) (own key text : String Global) where
-  pub run_stands : (s t : Recording FileCall (String Global)) → s.pairs ≡ [] → string_bytes own ≡ string_bytes key → Asks string_eq (Took eq) m s (Read own) text t → Stands eq string_eq (λ path n out _. IsSize path n out) key t.pairs (length (string_bytes text)) t.writes
-  run_stands s t empty same asked n respects agrees =
-      let pairs : t.pairs ≡ (Read own, asked.noted) ∷ [] = asked.sent.pairs ∙ ap (λ ps. absorbed eq ps ((Read own, asked.noted) ∷ [])) empty in
-      let agreed : Agrees string_eq n ((Read own, asked.noted) ∷ []) = subst (λ ps. Agrees string_eq n ps) pairs agrees in
-      let here = same_bytes (n (Read own)) asked.noted agreed.0 in
-      let noted = same_bytes (m (Read own)) asked.noted asked.alike in
-      let given = same_bytes (m (Read own)) text asked.gives in
-      let there = same_bytes (n (Read own)) (n (Read key)) (respects (Read own) (Read key) (reads own key (same_text own key same))) in
-      ap length (sym given ∙ noted ∙ sym here ∙ there)
+  pub run_stands : (key : String Global × ⊤) → string_bytes own ≡ string_bytes key.0 → Stands same_call same_answer (λ key answers out _. OnParts answers (λ _ n. IsSize key.0 n out)) key t.pairs (length (string_bytes text)) t.writes
+  run_stands key named = on_parts t.pairs (λ n. IsSize key.0 n (length (string_bytes text))) (λ n r a. ap length (sym (read.told n r a) ∙ same_bytes (n (Read own)) (n (Read key.0)) (r (Read own) (Read key.0) (same_text own key.0 named))))
 
   -- what is recorded agrees with the answers of which the text came
-  pub run_agrees : (s t : Recording FileCall (String Global)) → s.pairs ≡ [] → Asks string_eq (Took eq) m s (Read own) text t → Agrees string_eq m t.pairs
-  run_agrees s t empty asked = subst (λ ps. Agrees string_eq m ps) (sym (asked.sent.pairs ∙ ap (λ ps. absorbed eq ps ((Read own, asked.noted) ∷ [])) empty)) (asked.alike, tt)
+  pub run_agrees : Agrees same_answer (with_key m) t.pairs
+  run_agrees = read.agrees
 
 pub mapped : {A E : Type 0} {P Q : A → Type 0} → ((a : A) → P a → Q a) → (r : Result A E) → IfOk r P → IfOk r Q
 mapped f (Ok a) p = f a p

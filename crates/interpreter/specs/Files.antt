@@ -1,7 +1,10 @@
 -- Files in memory, and what they answer.
-use Rattle.std.specs.Prelude.{ℕ, List, String, string_bytes, unwrap_or}
+use Rattle.std.specs.Prelude.{⊤, ℕ, List, String, string_bytes, unwrap_or}
 use Rattle.std.specs.Global.{Global}
 use Rattle.std.specs.HashMap.{HashMap, get_by_text}
+use Rattle.comemo.specs.Multi.{part_answers}
+use Rattle.comemo.specs.declared.multi.MultiCall.{MultiCall}
+use Rattle.comemo.specs.declared.multi.MultiAnswer.{MultiAnswer}
 use Rattle.interpreter.specs.declared.files.FileCall.{FileCall}
 use Rattle.interpreter.specs.declared.files.FileCall.TheVariants.{Read}
 
@@ -12,3 +15,14 @@ text_of texts missing path = unwrap_or (get_by_text texts path) missing
 -- what files answer to a call
 abbrev pub answer_of : {H : Type 0} → HashMap (String Global) (String Global) H → String Global → FileCall → String Global
 answer_of texts missing (Read path) = text_of texts missing (string_bytes path)
+
+-- the calls of a key joined with files, and their answers
+abbrev pub JoinedCall : Type 0
+JoinedCall = MultiCall ⊤ FileCall
+
+abbrev pub JoinedAnswer : Type 0
+JoinedAnswer = MultiAnswer ⊤ (String Global)
+
+-- what a key joined with files answers, where the files answer m: the key's own call is answered by nothing
+abbrev pub with_key : (FileCall → String Global) → JoinedCall → JoinedAnswer
+with_key m = part_answers (λ _. tt) m

@@ -8,13 +8,16 @@ ghost use Rattle.comemo.specs.Begun.{OnBegun};
 ghost use Rattle.comemo.specs.Called.{Gave, Came, Grows};
 ghost use Rattle.scripts.specs.Kinds.{IsPart};
 ghost use Rattle.scripts.specs.Meaning.{Deep};
-ghost use Rattle.interpreter.specs.Files.{answer_of};
+ghost use Rattle.interpreter.specs.Files.{answer_of, with_key};
 ghost use Rattle.interpreter.specs.Evaluations.{At, ComesTo, PartComesTo, CallsDeep, Learnt, OutcomeCame};
 
 use crate::files::{FileCall, Files};
 use crate::measure::read_text;
 use comemo::begin::begin;
-use comemo::{Begun, CacheData, Constraint, How, Keyed, Memo, Reply, Sink, Tracked};
+use comemo::{
+    Begun, CacheData, Constraint, Hashed, How, Memo, Multi, MultiAnswer, MultiCall, Reply, Sink,
+    Tracked,
+};
 use scripts::{CalcFault, Outcome, Part, Parts, Total};
 use std::alloc::Global;
 
@@ -22,19 +25,21 @@ use std::alloc::Global;
 pub struct Eval;
 
 impl Memo for Eval {
-    type Call = FileCall;
+    type Call = MultiCall<(), FileCall>;
 
-    type Key = String;
+    type Key = (String, ());
 
-    type Answer = String;
+    type Answer = MultiAnswer<(), String>;
 
     type Out = Outcome;
 
-    ghost def = { λ script m outcome _. ComesTo m (string_bytes script) outcome };
+    ghost use Rattle.comemo.specs.Multi.{OnParts};
 
-    ghost output_clones = { λ key m a b writes h c d. Prim.search rules };
+    ghost def = { λ key answers outcome _. OnParts answers (λ _ m. ComesTo m (string_bytes key.0) outcome) };
 
-    ghost key_alike = { λ j k m output writes h e d. Prim.search rules };
+    ghost output_clones = { λ key m a b writes r c h x y p q. Prim.search (rules, h x y p q) };
+
+    ghost key_alike = { λ j k m output writes r e h x y p q. Prim.search (rules, h x y p q) };
 
     ghost key_clones = { λ x y h. Prim.search rules };
 
@@ -51,7 +56,7 @@ pub enum EvalFault {
 }
 
 /// Begins a script: finds what it comes to, or begins a run.
-fn begin_script<S: Sink<Call = FileCall, Answer = String>>(
+fn begin_script<S: Sink<Call = MultiCall<(), FileCall>, Answer = MultiAnswer<(), String>>>(
     alloc: Global,
     cache: &mut CacheData<Eval>,
     files: &Tracked<'_, Files>,
@@ -61,10 +66,10 @@ fn begin_script<S: Sink<Call = FileCall, Answer = String>>(
 ) -> Result<Begun<Eval>, EvalFault>
     ensures begun { IfOk result (λ b. (key : String Global) × (string_bytes key ≡ script.now) × OnBegun b
         (λ outcome. (outcome.height ≤ limit)
-        × Gave ⟦<FileCall as PartialEq>⟧.eq string_eq ⟦<Eval as Memo>⟧.def S.took key (answer_of files.now.texts files.now.missing) sink.old outcome sink.new
-        × Came ⟦<FileCall as PartialEq>⟧.eq string_eq string_eq ⟦<Outcome as Clone>⟧.is_clone key (answer_of files.now.texts files.now.missing) true outcome cache.old cache.old How.Hit cache.new)
+        × Gave ⟦<MultiCall<(), FileCall> as PartialEq>⟧.eq ⟦<MultiAnswer<(), String> as PartialEq>⟧.eq ⟦<Eval as Memo>⟧.def S.took (key, tt) (with_key (answer_of files.now.texts files.now.missing)) sink.old outcome sink.new
+        × Came ⟦<MultiCall<(), FileCall> as PartialEq>⟧.eq ⟦<MultiAnswer<(), String> as PartialEq>⟧.eq ⟦<(String, ()) as PartialEq>⟧.eq ⟦<Outcome as Clone>⟧.is_clone (key, tt) (with_key (answer_of files.now.texts files.now.missing)) true outcome cache.old cache.old How.Hit cache.new)
         (λ run. (0 < limit) × (sink.new ≡ sink.old)
-        × IsRun ⟦<FileCall as PartialEq>⟧.eq string_eq string_eq cache.old key (answer_of files.now.texts files.now.missing) true ⟦<Eval as Memo>⟧.def run)) }
+        × IsRun ⟦<MultiCall<(), FileCall> as PartialEq>⟧.eq ⟦<MultiAnswer<(), String> as PartialEq>⟧.eq ⟦<(String, ()) as PartialEq>⟧.eq cache.old (key, tt) (with_key (answer_of files.now.texts files.now.missing)) true ⟦<Eval as Memo>⟧.def run)) }
     ensures unchanged { cache.new ≡ cache.old }
     ensures deep { result ≡ Err EvalFault.TooDeep → Deep (At (answer_of files.now.texts files.now.missing)) script.now limit }
     ensures err { OnErr result (S.spoils sink.old sink.new) }
@@ -77,10 +82,7 @@ fn begin_script<S: Sink<Call = FileCall, Answer = String>>(
         sink.spoil();
         return Err(EvalFault::Memory);
     };
-    let mut input = Keyed {
-        key,
-        view: files.fork(),
-    };
+    let mut input = Multi((Hashed(key), files.fork()));
     let Ok(begun) = begin(alloc, cache, &mut input, sink, true) else {
         return Err(EvalFault::Memory);
     };
@@ -129,11 +131,11 @@ fn evaluate_part(
     files: &Tracked<'_, Files>,
     part: Part<'_>,
     limit: u64,
-    recording: &mut Constraint<FileCall, String>,
+    recording: &mut Constraint<MultiCall<(), FileCall>, MultiAnswer<(), String>>,
 ) -> Result<Outcome, EvalFault>
-    requires { Agrees string_eq (answer_of files.now.texts files.now.missing) recording.now.pairs }
+    requires { Agrees ⟦<MultiAnswer<(), String> as PartialEq>⟧.eq (with_key (answer_of files.now.texts files.now.missing)) recording.now.pairs }
     ensures ok { (bytes : List ℕ) → IsPart bytes part.entry → IfOk result (λ outcome. (outcome.height ≤ limit)
-        × Learnt ⟦<FileCall as PartialEq>⟧.eq (answer_of files.now.texts files.now.missing) recording.old recording.new (λ n. PartComesTo n bytes outcome)) }
+        × Learnt ⟦<FileCall as PartialEq>⟧.eq ⟦<MultiAnswer<(), String> as PartialEq>⟧.eq (answer_of files.now.texts files.now.missing) recording.old recording.new (λ n. PartComesTo n bytes outcome)) }
     ensures deep { (bytes : List ℕ) → IsPart bytes part.entry → result ≡ Err EvalFault.TooDeep → CallsDeep (answer_of files.now.texts files.now.missing) bytes limit }
     ensures grows { Grows cache.old cache.new }
 {
@@ -164,12 +166,12 @@ fn run_script(
     files: &Tracked<'_, Files>,
     script: &str,
     limit: u64,
-    recording: &mut Constraint<FileCall, String>,
+    recording: &mut Constraint<MultiCall<(), FileCall>, MultiAnswer<(), String>>,
 ) -> Result<Outcome, EvalFault>
     requires room { 0 < limit }
     requires fresh { recording.now.pairs ≡ [] }
     ensures ok { IfOk result (λ outcome. (outcome.height ≤ limit)
-        × Learnt ⟦<FileCall as PartialEq>⟧.eq (answer_of files.now.texts files.now.missing) recording.old recording.new (λ n. ComesTo n script.now outcome)) }
+        × Learnt ⟦<FileCall as PartialEq>⟧.eq ⟦<MultiAnswer<(), String> as PartialEq>⟧.eq (answer_of files.now.texts files.now.missing) recording.old recording.new (λ n. ComesTo n script.now outcome)) }
     ensures deep { result ≡ Err EvalFault.TooDeep → Deep (At (answer_of files.now.texts files.now.missing)) script.now limit }
     ensures grows { Grows cache.old cache.new }
 {
@@ -192,11 +194,11 @@ fn evaluate_within(
     files: &Tracked<'_, Files>,
     script: &str,
     limit: u64,
-    sink: &mut Constraint<FileCall, String>,
+    sink: &mut Constraint<MultiCall<(), FileCall>, MultiAnswer<(), String>>,
 ) -> Result<Reply<Outcome>, EvalFault>
     ensures outcome { IfOk result (λ reply. ComesTo (answer_of files.now.texts files.now.missing) script.now reply.output × (reply.output.height ≤ limit)) }
     ensures gave { IfOk result (λ reply. (key : String Global) × (string_bytes key ≡ script.now)
-        × Gave ⟦<FileCall as PartialEq>⟧.eq string_eq ⟦<Eval as Memo>⟧.def ⟦<Constraint<FileCall, String> as Sink>⟧.took key (answer_of files.now.texts files.now.missing) sink.old reply.output sink.new) }
+        × Gave ⟦<MultiCall<(), FileCall> as PartialEq>⟧.eq ⟦<MultiAnswer<(), String> as PartialEq>⟧.eq ⟦<Eval as Memo>⟧.def ⟦<Constraint<MultiCall<(), FileCall>, MultiAnswer<(), String>> as Sink>⟧.took (key, tt) (with_key (answer_of files.now.texts files.now.missing)) sink.old reply.output sink.new) }
     ensures deep { result ≡ Err EvalFault.TooDeep → Deep (At (answer_of files.now.texts files.now.missing)) script.now limit }
     ensures grows { Grows cache.old cache.new }
 {
@@ -207,7 +209,7 @@ fn evaluate_within(
 ///
 /// `TooDeep` comes exactly where the script is higher than the limit or never ends, on a hit as on a run; `Memory` says
 /// that there was no memory. Both spoil the sink; what was kept on the way stays.
-pub fn evaluate<S: Sink<Call = FileCall, Answer = String>>(
+pub fn evaluate<S: Sink<Call = MultiCall<(), FileCall>, Answer = MultiAnswer<(), String>>>(
     alloc: Global,
     cache: &mut CacheData<Eval>,
     files: &Tracked<'_, Files>,
@@ -217,8 +219,8 @@ pub fn evaluate<S: Sink<Call = FileCall, Answer = String>>(
 ) -> Result<Reply<Outcome>, EvalFault>
     ensures outcome { IfOk result (λ reply. ComesTo (answer_of files.now.texts files.now.missing) script.now reply.output × (reply.output.height ≤ limit)) }
     ensures gave { IfOk result (λ reply. (key : String Global) × (string_bytes key ≡ script.now)
-        × Gave ⟦<FileCall as PartialEq>⟧.eq string_eq ⟦<Eval as Memo>⟧.def S.took key (answer_of files.now.texts files.now.missing) sink.old reply.output sink.new) }
-    ensures came { IfOk result (λ reply. OutcomeCame ⟦<FileCall as PartialEq>⟧.eq ⟦<Outcome as Clone>⟧.is_clone (answer_of files.now.texts files.now.missing) script.now cache.old reply.output reply.how cache.new) }
+        × Gave ⟦<MultiCall<(), FileCall> as PartialEq>⟧.eq ⟦<MultiAnswer<(), String> as PartialEq>⟧.eq ⟦<Eval as Memo>⟧.def S.took (key, tt) (with_key (answer_of files.now.texts files.now.missing)) sink.old reply.output sink.new) }
+    ensures came { IfOk result (λ reply. OutcomeCame ⟦<MultiCall<(), FileCall> as PartialEq>⟧.eq ⟦<MultiAnswer<(), String> as PartialEq>⟧.eq ⟦<(String, ()) as PartialEq>⟧.eq ⟦<Outcome as Clone>⟧.is_clone (answer_of files.now.texts files.now.missing) script.now cache.old reply.output reply.how cache.new) }
     ensures deep { result ≡ Err EvalFault.TooDeep → Deep (At (answer_of files.now.texts files.now.missing)) script.now limit }
     ensures grows { Grows cache.old cache.new }
     ensures err { OnErr result (S.spoils sink.old sink.new) }

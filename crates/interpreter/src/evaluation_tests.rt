@@ -1,7 +1,7 @@
 //! Tests of `evaluate` and of `session`.
 use super::*;
 use CalcFault::{NotANumber, Overflow};
-use comemo::{CacheData, Constraint, How, Reply, Sink, Top, Track};
+use comemo::{CacheData, Constraint, How, MultiAnswer, MultiCall, Reply, Sink, Top, Track};
 use std::alloc::{AllocError, Global};
 use std::test::Fail;
 
@@ -90,6 +90,18 @@ fn a_hit_obeys_the_limit(rt: HostRuntime) -> Result<(), Fail> {
     Ok(())
 }
 
+/// Sends a recording the text that was read at a path.
+fn emit(
+    sink: &mut Constraint<MultiCall<(), FileCall>, MultiAnswer<(), String>>,
+    path: String,
+    text: String,
+) -> Result<bool, AllocError> {
+    sink.emit(
+        MultiCall::B(FileCall::Read(path)),
+        Some(MultiAnswer::B(text)),
+    )
+}
+
 #[test]
 fn too_deep_spoils_the_sink(rt: HostRuntime) -> Result<(), Fail> {
     let alloc = rt.alloc();
@@ -109,10 +121,10 @@ fn too_deep_spoils_the_sink(rt: HostRuntime) -> Result<(), Fail> {
     let text = String::from_str(alloc, "1")?;
     let path = String::from_str(alloc, "a")?;
     // The read of `a` is held already, and that of `b` is not.
-    assert_eq!(rt; sink.emit(FileCall::Read(path), Some(text)), Ok(false));
+    assert_eq!(rt; emit(&mut sink, path, text), Ok(false));
     let text = String::from_str(alloc, "")?;
     let path = String::from_str(alloc, "b")?;
-    assert_eq!(rt; sink.emit(FileCall::Read(path), Some(text)), Ok(true));
+    assert_eq!(rt; emit(&mut sink, path, text), Ok(true));
     Ok(())
 }
 

@@ -1,36 +1,42 @@
 //! The memoized size of a file.
-ghost use Rattle.std.specs.Prelude.{◌≡◌, ℕ, List, [], refl, true, string_bytes, string_eq, String, length, IfOk, IfErr, OnErr};
+ghost use Rattle.std.specs.Prelude.{◌≡◌, ℕ, List, [], refl, true, string_bytes, string_eq, String, length, IsTrue, IfOk, IfErr, OnErr};
 ghost use Rattle.std.proofs.Common.{rules, ◌∙◌, ap};
 ghost use Rattle.std.specs.Global.{Global};
 ghost use Rattle.comemo.specs.Called.{Gave, Came};
 ghost use Rattle.comemo.specs.Sending.{Asks};
-ghost use Rattle.interpreter.specs.Files.{text_of, answer_of};
+ghost use Rattle.comemo.specs.Mapped.{Through};
+ghost use Rattle.comemo.specs.Multi.{second_call, second_answer};
+ghost use Rattle.interpreter.specs.Files.{text_of, answer_of, with_key};
 ghost use Rattle.interpreter.specs.declared.files.FileCall.TheVariants.{Read};
 
 use crate::files::{FileCall, Files};
 use comemo::begin::begin;
-use comemo::{Begun, CacheData, Fault, How, Keyed, Memo, Pending, Reply, Sink, Tracked};
+use comemo::{
+    Begun, CacheData, Fault, Hashed, How, Memo, Multi, MultiAnswer, MultiCall, Pending, Reply,
+    Second, Sink, Tracked,
+};
 use std::alloc::{AllocError, Global};
 
 /// How many bytes the file at a path has.
 pub struct FileSize;
 
 impl Memo for FileSize {
-    type Call = FileCall;
+    type Call = MultiCall<(), FileCall>;
 
-    type Key = String;
+    type Key = (String, ());
 
-    type Answer = String;
+    type Answer = MultiAnswer<(), String>;
 
     type Out = u64;
 
+    ghost use Rattle.comemo.specs.Multi.{OnParts};
     ghost use Rattle.interpreter.specs.Size.{IsSize};
 
-    ghost def = { λ path m out _. IsSize path m out };
+    ghost def = { λ key answers out _. OnParts answers (λ _ m. IsSize key.0 m out) };
 
-    ghost output_clones = { λ key m a b writes h c d. Prim.search rules };
+    ghost output_clones = { λ key m a b writes r d h x y p q. Prim.search (rules, h x y p q) };
 
-    ghost key_alike = { λ j k m output writes h e d. let same : string_bytes (m (Read j)) ≡ string_bytes (m (Read k)) = Prim.search (rules, h (Read j) (Read k) e) in d ∙ ap length same };
+    ghost key_alike = { λ j k answers output writes r e h x m p q. let named : IsTrue (string_eq j.0 k.0) = Prim.search (rules, e) in let told : IsTrue (string_eq (m (Read j.0)) (m (Read k.0))) = rw (q (Read j.0), q (Read k.0)) at (r (second_call (Read j.0)) (second_call (Read k.0)) named) in let same : string_bytes (m (Read j.0)) ≡ string_bytes (m (Read k.0)) = Prim.search (rules, told) in h x m p q ∙ ap length same };
 
     ghost key_clones = { λ x y h. Prim.search rules };
 
@@ -38,23 +44,24 @@ impl Memo for FileSize {
 }
 
 /// Asks the files the text at a path, into a recording.
-pub(crate) fn read_text<S: Sink<Call = FileCall, Answer = String>>(
+pub(crate) fn read_text<S: Sink<Call = MultiCall<(), FileCall>, Answer = MultiAnswer<(), String>>>(
     alloc: Global,
     files: &Tracked<'_, Files>,
     path: &str,
     sink: &mut S,
 ) -> Result<String, AllocError>
-    ensures { IfOk result (λ text. (own : String Global) × (string_bytes own ≡ path.now) × Asks string_eq S.took (answer_of files.now.texts files.now.missing) sink.old (Read own) text sink.new) }
+    ensures { IfOk result (λ text. (own : String Global) × (string_bytes own ≡ path.now) × Asks string_eq (Through S.took second_call second_answer) (answer_of files.now.texts files.now.missing) sink.old (Read own) text sink.new) }
 {
     let own = String::from_str(alloc, path)?;
-    files.fork().ask(FileCall::Read(own), sink)
+    let mut view = files.fork();
+    view.ask_through(FileCall::Read(own), Second::new(), sink)
 }
 
 /// How many bytes the file at a path has, kept under the path and what was read.
 ///
 /// The size is that of the present text, on a hit as on a miss. `Memory` says that there was no memory for the answer:
 /// then the cache is as it was, and the sink is spoiled. A hit costs one look-up and a comparison of the texts.
-pub fn size<S: Sink<Call = FileCall, Answer = String>>(
+pub fn size<S: Sink<Call = MultiCall<(), FileCall>, Answer = MultiAnswer<(), String>>>(
     alloc: Global,
     cache: &mut CacheData<FileSize>,
     files: &Tracked<'_, Files>,
@@ -62,8 +69,8 @@ pub fn size<S: Sink<Call = FileCall, Answer = String>>(
     sink: &mut S,
 ) -> Result<Reply<u64>, Fault>
     ensures output { IfOk result (λ reply. reply.output ≡ length (string_bytes (text_of files.now.texts files.now.missing path.now))) }
-    ensures gave { IfOk result (λ reply. (key : String Global) × (string_bytes key ≡ path.now) × Gave ⟦<FileCall as PartialEq>⟧.eq string_eq ⟦<FileSize as Memo>⟧.def S.took key (answer_of files.now.texts files.now.missing) sink.old reply.output sink.new) }
-    ensures came { IfOk result (λ reply. (key : String Global) × (string_bytes key ≡ path.now) × Came ⟦<FileCall as PartialEq>⟧.eq string_eq string_eq ⟦<u64 as Clone>⟧.is_clone key (answer_of files.now.texts files.now.missing) true reply.output cache.old cache.old reply.how cache.new) }
+    ensures gave { IfOk result (λ reply. (key : String Global) × (string_bytes key ≡ path.now) × Gave ⟦<MultiCall<(), FileCall> as PartialEq>⟧.eq ⟦<MultiAnswer<(), String> as PartialEq>⟧.eq ⟦<FileSize as Memo>⟧.def S.took (key, tt) (with_key (answer_of files.now.texts files.now.missing)) sink.old reply.output sink.new) }
+    ensures came { IfOk result (λ reply. (key : String Global) × (string_bytes key ≡ path.now) × Came ⟦<MultiCall<(), FileCall> as PartialEq>⟧.eq ⟦<MultiAnswer<(), String> as PartialEq>⟧.eq ⟦<(String, ()) as PartialEq>⟧.eq ⟦<u64 as Clone>⟧.is_clone (key, tt) (with_key (answer_of files.now.texts files.now.missing)) true reply.output cache.old cache.old reply.how cache.new) }
     ensures fault { IfErr result (λ fault. fault ≡ Fault.Memory) }
     ensures err { OnErr result ((cache.new ≡ cache.old) × S.spoils sink.old sink.new) }
 {
@@ -71,10 +78,7 @@ pub fn size<S: Sink<Call = FileCall, Answer = String>>(
         sink.spoil();
         return Err(Fault::Memory);
     };
-    let mut input = Keyed {
-        key,
-        view: files.fork(),
-    };
+    let mut input = Multi((Hashed(key), files.fork()));
     match begin(alloc, cache, &mut input, sink, true)? {
         Begun::Hit(output) => Ok(Reply {
             output,

@@ -1,13 +1,14 @@
-use Rattle.std.proofs.Common.{arith, ◌≡◌, [], sym, ap, subst, Err, string_eq}
+use Rattle.std.proofs.Common.{arith, ◌≡◌, [], sym, ap, subst, Err}
 use Rattle.comemo_base.specs.Answers.{Agrees}
 use Rattle.comemo.proofs.Calls.{gave_at_key}
 use Rattle.comemo.proofs.Growing.{grows_on}
 use Rattle.scripts.specs.Meaning.{is_bad}
 use Rattle.scripts.proofs.Totals.{number_means, leaves_rest, means_at_end, means_at_fault, deep_at_part}
-use Rattle.interpreter.specs.Files.{answer_of}
+use Rattle.interpreter.specs.Files.{answer_of, with_key}
 use Rattle.interpreter.specs.Evaluations.{At}
-use Rattle.interpreter.proofs.Evaluations.{learnt_nothing, learnt_by_call, calls_deep, handed_on}
+use Rattle.interpreter.proofs.Evaluations.{learnt_nothing, learnt_by_call, calls_deep, handed_on, script_given, script_stands}
 use Rattle.interpreter.proofs.FileCalls.{answers_alike}
+use Rattle.interpreter.proofs.JoinedCalls.{same_answer, respects_with_key}
 use Rattle.interpreter.proofs.evaluation.+evaluating.Goals as goal
 
 pub evaluate_part-returns-in-Number-clause-ok : goal.evaluate_part-returns-in-Number-clause-ok
@@ -30,16 +31,26 @@ evaluate_part-returns-in_err-reply-in-Eval-clause-deep t c = λ bytes is e.
     let deep = c.in_err-reply-in-Eval.ensures.deep (ap (λ f. Err f) (handed_on c.from_residual.result c.in_err-reply-in-Eval.field-0.0 _ c.from_residual.ensures.1 e)) in
     calls_deep _ (answers_alike c.args.files.now.texts c.args.files.now.missing) (rw c.in-Eval.is at is) named asks (rw c.as_str.ensures.value at deep)
 
+pub evaluate_within-returns-in-Hit-clause-outcome : goal.evaluate_within-returns-in-Hit-clause-outcome
+evaluate_within-returns-in-Hit-clause-outcome t c =
+    let (key, same, hit) = rw c.in-Hit.is at c.in_ok-output.ensures.begun in
+    (script_given _ (answers_alike c.args.files.now.texts c.args.files.now.missing) same hit.1, hit.0)
+
 pub evaluate_within-returns-in-Hit-clause-gave : goal.evaluate_within-returns-in-Hit-clause-gave
 evaluate_within-returns-in-Hit-clause-gave t c =
     let (key, same, hit) = rw c.in-Hit.is at c.in_ok-output.ensures.begun in
     (key, same, hit.1)
 
+pub evaluate_within-finish-requires : goal.evaluate_within-finish-requires
+evaluate_within-finish-requires t c = λ whole.
+    let (key, same, run) = rw c.in-Run.is at c.in_ok-output.ensures.begun in
+    script_stands _ _ _ key c.in-Run.pending.key _ same run.2.has_key c.in-Ok.ensures.ok.1.1
+
 pub evaluate_within-returns-in-Ok-finish-clause-gave : goal.evaluate_within-returns-in-Ok-finish-clause-gave
 evaluate_within-returns-in-Ok-finish-clause-gave t c =
     let (key, same, run) = rw c.in-Run.is at c.in_ok-output.ensures.begun in
     let learnt = c.in-Ok.ensures.ok in
-    (key, same, gave_at_key run.2 ((rw (c.in-Ok-finish.is, run.1) at c.finish.ensures.gave) _ (answers_alike c.args.files.now.texts c.args.files.now.missing) learnt.1.0))
+    (key, same, gave_at_key run.2 ((rw (c.in-Ok-finish.is, run.1) at c.finish.ensures.gave) _ (respects_with_key _ (answers_alike c.args.files.now.texts c.args.files.now.missing)) learnt.1.0))
 
 pub evaluate_within-returns-in-Ok-finish-clause-grows : goal.evaluate_within-returns-in-Ok-finish-clause-grows
 evaluate_within-returns-in-Ok-finish-clause-grows t c =
@@ -73,7 +84,7 @@ run_script-returns-in-Err-clause-ok t c =
         out.1.0,
         λ m r a.
             let b = out.1.1 m r a in
-            (subst (λ ps. Agrees string_eq m ps) (sym fresh) tt, means_at_fault (At m) c.add.new.self (i.leaves m r b.0) cut b.1 c.in-Err.ensures.sum c.in-Err.ensures.height c.outcome.ensures.value c.outcome.ensures.height),
+            (subst (λ ps. Agrees same_answer (with_key m) ps) (sym fresh) tt, means_at_fault (At m) c.add.new.self (i.leaves m r b.0) cut b.1 c.in-Err.ensures.sum c.in-Err.ensures.height c.outcome.ensures.value c.outcome.ensures.height),
       ),
     )
 
@@ -98,4 +109,4 @@ pub run_script-returns-clause-ok : goal.run_script-returns-clause-ok
 run_script-returns-clause-ok t c =
     let fresh : c.args.recording.now.pairs ≡ [] = c.requires.1.1.1 in
     let i = c.loop-part.invariant in
-    (omega (arith, i.low, c.outcome-2.ensures.height), (i.agrees, λ m r a. (subst (λ ps. Agrees string_eq m ps) (sym fresh) tt, means_at_end (At m) (i.leaves m r a) c.in_default.ensures.0 c.outcome-2.ensures.value c.outcome-2.ensures.height)))
+    (omega (arith, i.low, c.outcome-2.ensures.height), (i.agrees, λ m r a. (subst (λ ps. Agrees same_answer (with_key m) ps) (sym fresh) tt, means_at_end (At m) (i.leaves m r a) c.in_default.ensures.0 c.outcome-2.ensures.value c.outcome-2.ensures.height)))

@@ -1,10 +1,12 @@
-use Rattle.std.proofs.Common.{rules, arith, sym, subst, ◌<◌}
+use Rattle.std.proofs.Common.{rules, arith, refl, sym, subst, ◌<◌}
 use Rattle.comemo.proofs.Calls.{gave_by_hit, came_by_hit}
+use Rattle.comemo.proofs.Joined.{joined_hit}
 use Rattle.scripts.specs.Meaning.{Means, Deep, no_room}
 use Rattle.scripts.proofs.Meanings.{deep_of_height}
 use Rattle.interpreter.specs.Files.{answer_of}
 use Rattle.interpreter.specs.Evaluations.{At}
 use Rattle.interpreter.proofs.FileCalls.{answers_alike}
+use Rattle.interpreter.proofs.JoinedCalls.{tells_calls}
 use Rattle.interpreter.proofs.evaluation.begin_script.Goals as goal
 
 pub returns-then-limit-eq0-clause-deep : goal.returns-then-limit-eq0-clause-deep
@@ -14,7 +16,7 @@ pub returns-then-outcome-limit-clause-deep : goal.returns-then-outcome-limit-cla
 returns-then-outcome-limit-clause-deep g c = λ _.
     let m = answer_of c.args.files.now.texts c.args.files.now.missing in
     let hit = rw (c.in-Hit.is, c.fork.ensures) at c.in-Ok-begin.ensures.begun in
-    let means = hit.stands m (answers_alike c.args.files.now.texts c.args.files.now.missing) hit.agrees in
+    let means = joined_hit hit tells_calls (λ x y h. refl) (answers_alike c.args.files.now.texts c.args.files.now.missing) (λ _. tt) m (λ c. refl) (λ c. refl) in
     deep_of_height (At m) (subst (λ script. Means (At m) script c.in-Hit.outcome.value c.in-Hit.outcome.height) c.in-Ok.ensures.ok means) c.args.limit c.if-outcome-limit.true
 
 pub returns-in-Hit-clause-begun : goal.returns-in-Hit-clause-begun

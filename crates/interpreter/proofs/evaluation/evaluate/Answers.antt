@@ -1,19 +1,31 @@
 use Rattle.std.proofs.Common.{refl}
 use Rattle.comemo.proofs.Calls.{gave_at_key, came_by_reply}
 use Rattle.comemo.proofs.Growing.{grows_on, grows_not}
+use Rattle.interpreter.proofs.Evaluations.{script_given, script_stands}
 use Rattle.interpreter.proofs.FileCalls.{answers_alike}
+use Rattle.interpreter.proofs.JoinedCalls.{respects_with_key}
 use Rattle.interpreter.proofs.evaluation.evaluate.Goals as goal
+
+pub returns-in-Hit-clause-outcome : goal.returns-in-Hit-clause-outcome
+returns-in-Hit-clause-outcome g c =
+    let (key, same, hit) = rw c.in-Hit.is at c.in_ok-output.ensures.begun in
+    (script_given _ (answers_alike c.args.files.now.texts c.args.files.now.missing) same hit.1, hit.0)
 
 pub returns-in-Hit-clause-gave : goal.returns-in-Hit-clause-gave
 returns-in-Hit-clause-gave g c =
     let (key, same, hit) = rw c.in-Hit.is at c.in_ok-output.ensures.begun in
     (key, same, hit.1)
 
+pub finish-requires : goal.finish-requires
+finish-requires g c = λ whole.
+    let (key, same, run) = rw c.in-Run.is at c.in_ok-output.ensures.begun in
+    script_stands _ _ _ key c.in-Run.pending.key _ same run.2.has_key c.in-Ok.ensures.ok.1.1
+
 pub returns-in-Ok-finish-clause-gave : goal.returns-in-Ok-finish-clause-gave
 returns-in-Ok-finish-clause-gave g c =
     let (key, same, run) = rw c.in-Run.is at c.in_ok-output.ensures.begun in
     let learnt = c.in-Ok.ensures.ok in
-    (key, same, gave_at_key run.2 ((rw (c.in-Ok-finish.is, run.1) at c.finish.ensures.gave) _ (answers_alike c.args.files.now.texts c.args.files.now.missing) learnt.1.0))
+    (key, same, gave_at_key run.2 ((rw (c.in-Ok-finish.is, run.1) at c.finish.ensures.gave) _ (respects_with_key _ (answers_alike c.args.files.now.texts c.args.files.now.missing)) learnt.1.0))
 
 pub returns-in-Ok-finish-clause-grows : goal.returns-in-Ok-finish-clause-grows
 returns-in-Ok-finish-clause-grows g c =

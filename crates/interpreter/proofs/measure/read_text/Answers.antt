@@ -3,5 +3,5 @@ use Rattle.interpreter.proofs.measure.read_text.Goals as goal
 
 pub returns : goal.returns
 returns g c =
-    let ok = rw c.fork.ensures at c.ask.ensures.ok in
-    mapped (λ text asks. (c.in_ok-own.own, c.in_ok-own.ensures.ok, asks)) c.ask.result ok
+    let ok = rw c.fork-view.ensures at c.ask_through.ensures.ok in
+    mapped (λ text asks. (c.in_ok-own.own, c.in_ok-own.ensures.ok, asks)) c.ask_through.result ok

@@ -1,16 +1,20 @@
-use Rattle.std.proofs.Common.{rules, ◌≡◌, ◌∙◌, sym, subst, length, string_bytes}
+use Rattle.std.proofs.Common.{rules, refl, ◌≡◌, ◌∙◌, sym, subst, length, string_bytes}
+use Rattle.comemo.specs.Multi.{OnParts}
 use Rattle.comemo.proofs.Calls.{gave_by_hit, came_by_hit, gave_by_run, came_by_run}
+use Rattle.comemo.proofs.Joined.{joined_hit}
 use Rattle.interpreter.specs.Files.{text_of, answer_of}
 use Rattle.interpreter.specs.Size.{IsSize}
-use Rattle.interpreter.proofs.Sizes.{mapped, same_bytes, run_stands, run_agrees}
+use Rattle.interpreter.proofs.FileCalls.{same_key, answers_alike}
+use Rattle.interpreter.proofs.JoinedCalls.{tells_calls, respects_with_key}
+use Rattle.interpreter.proofs.Sizes.{mapped, run_stands, run_agrees}
 use Rattle.interpreter.proofs.measure.size.Goals as goal
 
 pub returns-in-Hit-clause-output : goal.returns-in-Hit-clause-output
 returns-in-Hit-clause-output g c =
-    let hit = rw c.in-Hit.is at c.in_ok-output.ensures.begun in
-    let found = hit.stands (answer_of c.fork.result.texts c.fork.result.missing) (λ x y h. search rules) hit.agrees in
-    let here = subst (λ files. c.in-Hit.output ≡ length (string_bytes (text_of files.texts files.missing (string_bytes c.in-Ok.key)))) c.fork.ensures found in
-    subst (λ path. c.in-Hit.output ≡ length (string_bytes (text_of c.args.files.now.texts c.args.files.now.missing path))) c.in-Ok.ensures.ok here
+    let m = answer_of c.args.files.now.texts c.args.files.now.missing in
+    let hit = rw (c.in-Hit.is, c.fork.ensures) at c.in_ok-output.ensures.begun in
+    let found = joined_hit hit tells_calls (λ x y h. refl) (answers_alike c.args.files.now.texts c.args.files.now.missing) (λ _. tt) m (λ c. refl) (λ c. refl) in
+    subst (λ path. c.in-Hit.output ≡ length (string_bytes (text_of c.args.files.now.texts c.args.files.now.missing path))) c.in-Ok.ensures.ok found
 
 pub returns-in-Hit-clause-gave : goal.returns-in-Hit-clause-gave
 returns-in-Hit-clause-gave g c =
@@ -25,16 +29,17 @@ returns-in-Hit-clause-came g c =
 pub finish-requires : goal.finish-requires
 finish-requires g c = λ whole m respects agrees.
     let run = rw c.in-Run.is at c.in_ok-output.ensures.begun in
-    let told = c.in-Ok-read_text.ensures in
+    let (own, named, asked) = c.in-Ok-read_text.ensures in
     let long : length (string_bytes c.in-Ok-read_text.text) ≡ c.len-output.result = search rules in
-    subst (λ size. IsSize c.in-Run.pending.key m size) long (run_stands _ (λ a b h. h) _ told.0 c.in-Run.pending.key c.in-Ok-read_text.text _ _ (rw c.recording.ensures.value run.0.pairs) (told.1 ∙ sym c.in-Ok.ensures.ok ∙ same_bytes c.in-Ok.key c.in-Run.pending.key run.0.has_key) told.2 m respects agrees)
+    subst (λ size. OnParts m (λ _ n. IsSize c.in-Run.pending.key.0 n size)) long (run_stands (answer_of c.args.files.now.texts c.args.files.now.missing) (answers_alike c.args.files.now.texts c.args.files.now.missing) own c.in-Ok-read_text.text _ _ (rw c.recording.ensures.value run.0.pairs) asked c.in-Run.pending.key (named ∙ sym c.in-Ok.ensures.ok ∙ same_key c.in-Ok.key c.in-Run.pending.key.0 run.0.has_key) m respects agrees)
 
 pub returns-clause-gave : goal.returns-clause-gave
 returns-clause-gave g c =
     let run = rw (c.in-Run.is, c.fork.ensures) at c.in_ok-output.ensures.begun in
-    let told = c.in-Ok-read_text.ensures in
-    let agrees = run_agrees _ (λ a b h. h) _ told.0 c.in-Run.pending.key c.in-Ok-read_text.text _ _ (rw c.recording.ensures.value run.0.pairs) told.2 in
-    mapped (λ reply gave. (c.in-Ok.key, c.in-Ok.ensures.ok, gave)) c.finish.result (gave_by_run run.0 _ _ _ _ c.finish.result (λ x y h. search rules) agrees (rw run.2 at c.finish.ensures.gave))
+    let (own, named, asked) = c.in-Ok-read_text.ensures in
+    let alike = answers_alike c.args.files.now.texts c.args.files.now.missing in
+    let agrees = run_agrees (answer_of c.args.files.now.texts c.args.files.now.missing) alike own c.in-Ok-read_text.text _ _ (rw c.recording.ensures.value run.0.pairs) asked in
+    mapped (λ reply gave. (c.in-Ok.key, c.in-Ok.ensures.ok, gave)) c.finish.result (gave_by_run run.0 _ _ _ _ c.finish.result (respects_with_key _ alike) agrees (rw run.2 at c.finish.ensures.gave))
 
 pub returns-clause-came : goal.returns-clause-came
 returns-clause-came g c =
