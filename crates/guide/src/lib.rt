@@ -1,15 +1,15 @@
 //! Four memoized functions as a user of the library writes them, from the simplest to one that calls others.
 #![tactic(auto)]
 
-pub mod contains;
 pub mod double;
 pub mod greetings;
 pub mod kinds;
 pub mod numbers;
 pub mod orders;
-pub mod place;
+pub mod passes;
 pub mod report;
 #[cfg(test)]
 mod tests;
 pub mod texts;
 pub mod town;
+pub mod warmth;

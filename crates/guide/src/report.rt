@@ -2,9 +2,9 @@
 ghost use Rattle.std.specs.Prelude.{◌≡◌, ◌||◌, cond, nat_lt};
 ghost use Rattle.std.proofs.Common.{rules};
 
-use crate::contains::Passes;
-use crate::place::Warmth;
+use crate::passes::Passes;
 use crate::town::Town;
+use crate::warmth::Warmth;
 use comemo::{CacheData, Fault, Function, MemoOf, Recorder};
 
 /// The caches of the two functions that a report calls.

@@ -1,12 +1,12 @@
 //! The functions at work: which calls ran, and which were answered from the cache.
 
-use crate::contains::Passes;
+use crate::passes::Passes;
 use crate::double::Double;
 use crate::greetings::{Greeting, SaysHello, World};
 use crate::kinds::{IsLong, Selfie, Text};
 use crate::numbers::{DoubleFlat, Flat, Identity, Sum};
 use crate::orders::{Both, Either, Turn};
-use crate::place::Warmth;
+use crate::warmth::Warmth;
 use crate::report::{Kept, Report};
 use crate::texts::Same;
 use crate::town::Town;
