@@ -1,9 +1,11 @@
 //! Four memoized functions as a user of the library writes them, from the simplest to one that calls others.
 #![tactic(auto)]
 
+pub mod chains;
 pub mod double;
 pub mod greetings;
 pub mod kinds;
+pub mod loader;
 pub mod numbers;
 pub mod orders;
 pub mod passes;

@@ -1,5 +1,6 @@
 //! Functions of numbers, which ask nothing: of one, of two, and of one that is equal by its number and hashed as nothing.
 ghost use Rattle.std.specs.Prelude.{◌≡◌, ◌+◌, ◌%◌, ◌^◌, [], refl};
+ghost use Rattle.std.specs.List.{sum, range_with_len};
 ghost use Rattle.std.proofs.Common.{rules};
 
 use comemo::{Fault, Function, Recorder};
@@ -44,6 +45,38 @@ impl Function for Sum {
 
     fn run(key: &(u32, u32), _of: &mut Recorder<'_, ()>, _needs: &mut ()) -> Result<u32, Fault> {
         Ok(key.0.wrapping_add(key.1))
+    }
+}
+
+/// The sum of the numbers below a number. It takes as many steps.
+pub fn sum_below(n: u32) -> u64
+    ensures { result ≡ sum (range_with_len 0 n) }
+{
+    let mut total = 0;
+    for i in 0..n {
+        total += u64::from(i);
+    }
+    total
+}
+
+/// The sum of the numbers below a number.
+pub struct SumBelow;
+
+impl Function for SumBelow {
+    type Key = u32;
+
+    type Of = ();
+
+    type Out = u64;
+
+    type Needs = ();
+
+    ghost means = { λ n _ out. out ≡ sum (range_with_len 0 n) };
+
+    ghost laws = { Prim.search rules };
+
+    fn run(n: &u32, _of: &mut Recorder<'_, ()>, _needs: &mut ()) -> Result<u64, Fault> {
+        Ok(sum_below(*n))
     }
 }
 

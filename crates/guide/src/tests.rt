@@ -1,18 +1,19 @@
 //! The functions at work: which calls ran, and which were answered from the cache.
 
-use crate::passes::Passes;
 use crate::double::Double;
 use crate::greetings::{Greeting, SaysHello, World};
 use crate::kinds::{IsLong, Selfie, Text};
-use crate::numbers::{DoubleFlat, Flat, Identity, Sum};
+use crate::loader::{Contents, Library, Loader};
+use crate::numbers::{DoubleFlat, Flat, Identity, Sum, SumBelow};
 use crate::orders::{Both, Either, Turn};
-use crate::warmth::Warmth;
+use crate::passes::Passes;
 use crate::report::{Kept, Report};
 use crate::texts::Same;
 use crate::town::Town;
+use crate::warmth::Warmth;
 use comemo::function::memoized;
 use comemo::{CacheData, Fault, Function, How, MemoOf, Reply, Top, Track};
-use std::alloc::Global;
+use std::alloc::{AllocError, Global};
 use std::test::Fail;
 
 fn town(people: u64, degrees: u64) -> Town {
@@ -374,5 +375,52 @@ fn a_text_answers_two_kinds_of_questions(rt: HostRuntime) -> Result<(), Fail> {
     let long = call(alloc, &mut lengths, (), &longer)?;
     assert_eq!(rt; long.output, true);
     assert_eq!(rt; long.how, How::Stored);
+    Ok(())
+}
+
+#[test]
+fn numbers_are_added_up_once(rt: HostRuntime) -> Result<(), Fail> {
+    let alloc = rt.alloc();
+    let mut cache: CacheData<MemoOf<SumBelow>> = CacheData::new(alloc);
+    for how in [How::Stored, How::Hit] {
+        let reply = call(alloc, &mut cache, 1000, &())?;
+        assert_eq!(rt; reply.output, 499500);
+        assert_eq!(rt; reply.how, how);
+    }
+    Ok(())
+}
+
+/// A loader that gives the same bytes for every path.
+#[derive(Drop)]
+struct OneFile {
+    bytes: Vec<u8>,
+}
+
+impl Loader for OneFile {
+    ghost gives = { λ s _. s.bytes };
+
+    fn load(&self, _path: &str) -> Result<Vec<u8>, AllocError> {
+        self.bytes.clone()
+    }
+}
+
+#[test]
+fn each_path_is_loaded_once(rt: HostRuntime) -> Result<(), Fail> {
+    let alloc = rt.alloc();
+    let mut cache: CacheData<MemoOf<Contents<OneFile>>> = CacheData::new(alloc);
+    let bytes = vec![in alloc; 1, 2, 3]?;
+    let library = Library {
+        loader: Box::new(alloc, OneFile { bytes })?,
+    };
+    let asked = [
+        ("hi.rs", How::Stored),
+        ("hi.rs", How::Hit),
+        ("bye.rs", How::Stored),
+    ];
+    for (path, how) in asked {
+        let reply = call(alloc, &mut cache, String::from_str(alloc, path)?, &library)?;
+        assert_eq!(rt; reply.output.as_slice(), [1, 2, 3].as_slice());
+        assert_eq!(rt; reply.how, how);
+    }
     Ok(())
 }

@@ -1,0 +1,96 @@
+//! Bytes by path from a boxed loader that is known by its trait alone, and a function that asks for them.
+ghost use Rattle.std.specs.Prelude.{◌≡◌, ℕ, List, Vec, false, refl, IfOk, string_bytes};
+ghost use Rattle.std.specs.Global.{Global as AnyGlobal};
+ghost use Rattle.std.specs.List.{each_same};
+ghost use Rattle.std.proofs.Common.{rules, ◌∙◌};
+
+use comemo::{Call, Fault, Function, Recorder, Track};
+use std::alloc::AllocError;
+use std::marker::PhantomData;
+
+/// What gives bytes for a path.
+pub trait Loader: Drop {
+    // the bytes for a path
+    ghost gives: { Self → List ℕ → Vec ℕ AnyGlobal };
+
+    /// The bytes for a path. An error says that there was no memory for them.
+    fn load(&self, path: &str) -> Result<Vec<u8>, AllocError>
+        ensures { IfOk result (λ bytes. bytes.items ≡ (gives self.now path.now).items) };
+}
+
+/// What can be asked of a library.
+#[derive(Clone, Drop, Debug, PartialEq, Eq, Hash)]
+pub enum LibraryCall {
+    /// The bytes for a path.
+    Load(String),
+}
+
+impl Call for LibraryCall {
+    ghost is_write = { λ _. false };
+
+    ghost same_kind = { λ x y h. refl };
+
+    ghost clones = { λ x y h. Prim.search rules };
+
+    fn is_mutable(&self) -> bool {
+        false
+    }
+}
+
+/// A library that loads by any loader.
+#[derive(Drop)]
+pub struct Library<L> {
+    pub loader: Box<L>,
+}
+
+impl<L: Loader> Track for Library<L> {
+    type Call = LibraryCall;
+
+    type Answer = Vec<u8>;
+
+    ghost use Rattle.guide.specs.Loads.{path_in};
+    ghost use Rattle.guide.specs.LoadLaws.{equal_bytes};
+
+    ghost answers = { λ s call. L.gives s.loader.value (path_in call) };
+
+    ghost alike = { λ s x y h. Prim.search rules };
+
+    ghost clones = { λ x y h. equal_bytes x.items y.items (each_same x.items y.items h.0) };
+
+    fn ask(&self, call: &LibraryCall) -> Result<Vec<u8>, AllocError> {
+        match call {
+            LibraryCall::Load(path) => self.loader.load(path.as_str()),
+        }
+    }
+}
+
+/// The bytes for a path.
+pub struct Contents<L> {
+    loader: PhantomData<L>,
+}
+
+impl<L: Loader> Function for Contents<L> {
+    type Key = String;
+
+    type Of = Library<L>;
+
+    type Out = Vec<u8>;
+
+    type Needs = ();
+
+    ghost use Rattle.guide.specs.declared.loader.LibraryCall.TheVariants.{Load};
+    ghost use Rattle.guide.specs.LoadLaws.{same_bytes};
+
+    ghost means = { λ path m out. out.items ≡ (m (Load path)).items };
+
+    ghost laws = { Prim.search (rules, each_same, same_bytes) };
+
+    fn run(
+        path: &String,
+        library: &mut Recorder<'_, Library<L>>,
+        _needs: &mut (),
+    ) -> Result<Vec<u8>, Fault> {
+        let bytes = library.ask(LibraryCall::Load(path.clone()?))?;
+        Ok(bytes)
+    }
+}
