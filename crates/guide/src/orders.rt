@@ -1,5 +1,5 @@
 //! Functions that do not always ask the same: which question they ask, or which one first, is no argument of theirs.
-ghost use Rattle.std.specs.Prelude.{◌≡◌, ⊤};
+ghost use Rattle.std.specs.Prelude.{◌≡◌, ◌||◌, ⊤, nat_lt};
 ghost use Rattle.std.proofs.Common.{rules};
 
 use crate::town::{Town, TownCall};
@@ -69,5 +69,29 @@ impl Function for Both {
                 Ok((people, degrees))
             }
         }
+    }
+}
+
+/// Whether a town has more people than a number or, which is asked only where it has not, more degrees.
+pub struct Exceeds;
+
+impl Function for Exceeds {
+    type Key = u64;
+
+    type Of = Town;
+
+    type Out = bool;
+
+    type Needs = ();
+
+    ghost use Rattle.guide.specs.declared.town.TownCall.TheVariants.{People, Degrees};
+
+    ghost means = { λ n m out. out ≡ (nat_lt n (m People) || nat_lt n (m Degrees)) };
+
+    ghost laws = { Prim.search rules };
+
+    fn run(n: &u64, town: &mut Recorder<'_, Town>, _needs: &mut ()) -> Result<bool, Fault> {
+        let people = town.ask(TownCall::People)?;
+        Ok(people > *n || town.ask(TownCall::Degrees)? > *n)
     }
 }

@@ -1,11 +1,11 @@
-//! A function of a number and a tracked value, which asks a second question only where it needs the answer.
-ghost use Rattle.std.specs.Prelude.{◌≡◌, ◌||◌, nat_lt};
+//! A function of a number and a tracked value, which asks two questions.
+ghost use Rattle.std.specs.Prelude.{◌≡◌, max, nat_lt};
 ghost use Rattle.std.proofs.Common.{rules};
 
 use crate::town::{Town, TownCall};
 use comemo::{Fault, Function, Recorder};
 
-/// Whether a town has more people, or more degrees, than a number.
+/// Whether what a town has most of, people or degrees, passes a number.
 pub struct Passes;
 
 impl Function for Passes {
@@ -19,12 +19,13 @@ impl Function for Passes {
 
     ghost use Rattle.guide.specs.declared.town.TownCall.TheVariants.{People, Degrees};
 
-    ghost means = { λ n m out. out ≡ (nat_lt n (m People) || nat_lt n (m Degrees)) };
+    ghost means = { λ n m out. out ≡ nat_lt n (max (m People) (m Degrees)) };
 
     ghost laws = { Prim.search rules };
 
     fn run(n: &u64, town: &mut Recorder<'_, Town>, _needs: &mut ()) -> Result<bool, Fault> {
         let people = town.ask(TownCall::People)?;
-        Ok(people > *n || town.ask(TownCall::Degrees)? > *n)
+        let degrees = town.ask(TownCall::Degrees)?;
+        Ok(people.max(degrees) > *n)
     }
 }

@@ -1,5 +1,5 @@
 //! A function of two numbers and a tracked value, which calls two others.
-ghost use Rattle.std.specs.Prelude.{◌≡◌, ◌||◌, cond, nat_lt};
+ghost use Rattle.std.specs.Prelude.{◌≡◌, cond, max, nat_lt};
 ghost use Rattle.std.proofs.Common.{rules};
 
 use crate::passes::Passes;
@@ -24,7 +24,7 @@ impl Function for Report {
 
     ghost use Rattle.guide.specs.declared.town.TownCall.TheVariants.{People, Degrees};
 
-    ghost means = { λ key m out. out ≡ cond (nat_lt key.0 (m People) || nat_lt key.0 (m Degrees)) (m Degrees) key.1 };
+    ghost means = { λ key m out. out ≡ cond (nat_lt key.0 (max (m People) (m Degrees))) (m Degrees) key.1 };
 
     ghost laws = { Prim.search rules };
 

@@ -5,7 +5,7 @@ use crate::greetings::{Greeting, SaysHello, World};
 use crate::kinds::{IsLong, Selfie, Text};
 use crate::loader::{Contents, Library, Loader};
 use crate::numbers::{DoubleFlat, Flat, Identity, Sum, SumBelow};
-use crate::orders::{Both, Either, Turn};
+use crate::orders::{Both, Either, Exceeds, Turn};
 use crate::passes::Passes;
 use crate::report::{Kept, Report};
 use crate::texts::Same;
@@ -92,9 +92,28 @@ fn only_what_was_asked_counts(rt: HostRuntime) -> Result<(), Fail> {
 }
 
 #[test]
-fn a_question_that_was_not_asked_may_change(rt: HostRuntime) -> Result<(), Fail> {
+fn a_number_is_kept_with_both_answers(rt: HostRuntime) -> Result<(), Fail> {
     let alloc = rt.alloc();
     let mut cache: CacheData<MemoOf<Passes>> = CacheData::new(alloc);
+    let asked = [
+        (900, 21, true, How::Stored),
+        (900, 21, true, How::Hit),
+        (900, 4, true, How::Stored),
+        (90, 4, false, How::Stored),
+        (900, 21, true, How::Hit),
+    ];
+    for (people, degrees, passes, how) in asked {
+        let reply = call(alloc, &mut cache, 500, &town(people, degrees))?;
+        assert_eq!(rt; reply.output, passes);
+        assert_eq!(rt; reply.how, how);
+    }
+    Ok(())
+}
+
+#[test]
+fn a_question_that_was_not_asked_may_change(rt: HostRuntime) -> Result<(), Fail> {
+    let alloc = rt.alloc();
+    let mut cache: CacheData<MemoOf<Exceeds>> = CacheData::new(alloc);
     let warm = town(900, 21);
     let first = call(alloc, &mut cache, 500, &warm)?;
     assert_eq!(rt; first.output, true);
@@ -126,7 +145,7 @@ fn what_a_called_function_asked_counts_for_its_caller(rt: HostRuntime) -> Result
     let third = report(alloc, &mut cache, &mut kept, &cold)?;
     assert_eq!(rt; third.output, 4);
     assert_eq!(rt; third.how, How::Stored);
-    assert_eq!(rt; kept.0.len(), 1);
+    assert_eq!(rt; kept.0.len(), 2);
     assert_eq!(rt; kept.1.len(), 2);
     let small = town(90, 4);
     let fourth = report(alloc, &mut cache, &mut kept, &small)?;
