@@ -1,5 +1,6 @@
 //! The functions at work: which calls ran, and which were answered from the cache.
 
+use crate::chains::{Chain, IsInChain};
 use crate::double::Double;
 use crate::greetings::{Greeting, SaysHello, World};
 use crate::kinds::{IsLong, Selfie, Text};
@@ -404,6 +405,39 @@ fn numbers_are_added_up_once(rt: HostRuntime) -> Result<(), Fail> {
     for how in [How::Stored, How::Hit] {
         let reply = call(alloc, &mut cache, 1000, &())?;
         assert_eq!(rt; reply.output, 499500);
+        assert_eq!(rt; reply.how, how);
+    }
+    Ok(())
+}
+
+/// A chain that stays for good, so that others can refer to it.
+fn stay(alloc: Global, chain: Chain<'static>) -> Result<&'static Chain<'static>, AllocError> {
+    Ok(Box::leak(Box::new(alloc, chain)?))
+}
+
+#[test]
+fn chains_that_answer_alike_share_what_is_kept(rt: HostRuntime) -> Result<(), Fail> {
+    let alloc = rt.alloc();
+    let mut cache: CacheData<MemoOf<IsInChain<'static>>> = CacheData::new(alloc);
+    let one = stay(alloc, Chain::new(1))?;
+    let three = stay(alloc, Chain::new(3))?;
+    let to_two = stay(alloc, Chain::insert(one, 2))?;
+    let to_three = stay(alloc, Chain::insert(to_two, 3))?;
+    let to_four = stay(alloc, Chain::insert(to_two, 4))?;
+    let to_five = stay(alloc, Chain::insert(to_four, 5))?;
+    let asked = [
+        (one, 0, false, How::Stored),
+        (one, 1, true, How::Stored),
+        (to_three, 2, true, How::Stored),
+        (to_four, 2, true, How::Hit),
+        (to_two, 2, true, How::Hit),
+        (to_five, 2, true, How::Hit),
+        (one, 2, false, How::Stored),
+        (three, 2, false, How::Hit),
+    ];
+    for (chain, n, is, how) in asked {
+        let reply = call(alloc, &mut cache, n, chain)?;
+        assert_eq!(rt; reply.output, is);
         assert_eq!(rt; reply.how, how);
     }
     Ok(())
