@@ -46,16 +46,28 @@ fn told_of<F: Function<Key = bool, Of = Context>>(
 #[test]
 fn a_fault_of_a_closure_is_answered(rt: HostRuntime) -> Result<(), Fail> {
     let alloc = rt.alloc();
-    assert_eq!(rt; told_of_closure(alloc, Fault::Memory), (Some(Fault::Memory), false));
-    assert_eq!(rt; told_of_closure(alloc, Fault::Incomplete), (Some(Fault::Incomplete), false));
+    assert_eq!(rt;
+        told_of_closure(alloc, Fault::Memory),
+        (Some(Fault::Memory), false)
+    );
+    assert_eq!(rt;
+        told_of_closure(alloc, Fault::Incomplete),
+        (Some(Fault::Incomplete), false)
+    );
     Ok(())
 }
 
 #[test]
 fn a_fault_of_a_function_is_answered(rt: HostRuntime) -> Result<(), Fail> {
     let alloc = rt.alloc();
-    assert_eq!(rt; told_of::<Failing>(alloc, &mut (), true), (Some(Fault::Memory), false));
-    assert_eq!(rt; told_of::<Failing>(alloc, &mut (), false), (Some(Fault::Incomplete), false));
+    assert_eq!(rt;
+        told_of::<Failing>(alloc, &mut (), true),
+        (Some(Fault::Memory), false)
+    );
+    assert_eq!(rt;
+        told_of::<Failing>(alloc, &mut (), false),
+        (Some(Fault::Incomplete), false)
+    );
     Ok(())
 }
 
@@ -63,7 +75,13 @@ fn a_fault_of_a_function_is_answered(rt: HostRuntime) -> Result<(), Fail> {
 fn a_fault_of_a_called_function_is_handed_on(rt: HostRuntime) -> Result<(), Fail> {
     let alloc = rt.alloc();
     let mut cache = CacheData::new(alloc);
-    assert_eq!(rt; told_of::<Calling>(alloc, &mut cache, true), (Some(Fault::Memory), false));
-    assert_eq!(rt; told_of::<Calling>(alloc, &mut cache, false), (Some(Fault::Incomplete), false));
+    assert_eq!(rt;
+        told_of::<Calling>(alloc, &mut cache, true),
+        (Some(Fault::Memory), false)
+    );
+    assert_eq!(rt;
+        told_of::<Calling>(alloc, &mut cache, false),
+        (Some(Fault::Incomplete), false)
+    );
     Ok(())
 }

@@ -78,6 +78,8 @@ pub fn closed_fault<S: Sink<Call = ContextCall, Answer = u64>>(
         context.fork(),
         sink,
         true,
-        |_view: &mut Tracked<'_, Context>, _recording: &mut Constraint<ContextCall, u64>| Err(fault),
+        |_view: &mut Tracked<'_, Context>, _recording: &mut Constraint<ContextCall, u64>| Err(
+            fault,
+        ),
     )
 }

@@ -1,6 +1,6 @@
 -- The sum of the numbers below a number, and one more.
-use Rattle.std.proofs.Common.{◌≡◌, ℕ, zero, suc, ◌∷◌, ◌+◌, arith, add-one}
-use Rattle.std.specs.List.{sum, sum_by, range_with_len}
+use Rattle.std.proofs.Common.{◌≡◌, ℕ, zero, suc, ◌+◌, arith, add-one}
+use Rattle.std.specs.List.{sum, range_with_len}
 use Rattle.std.proofs.lemmas.List.Sums.{sum_by-cons}
 
 after : (a n : ℕ) → sum (range_with_len a (suc n)) ≡ sum (range_with_len a n) + (a + n)
