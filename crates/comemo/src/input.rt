@@ -60,7 +60,8 @@ pub trait Input {
 /// A key joined with a view: the input of a function of one argument that isn't tracked and one that is. Its calls are
 /// the view's.
 ///
-/// It stands in the place of comemo's `Multi` of two parts for now.
+/// The front door's input. It takes what its parts take. This project's own: with one view no call has to say whose it is,
+/// as a call of `Multi` does.
 #[derive(Drop)]
 pub struct Keyed<'a, K: Clone + Eq + Hash, T> {
     pub key: K,

@@ -1,4 +1,5 @@
-//! Four memoized functions as a user of the library writes them, from the simplest to one that calls others.
+//! Memoized functions as a user of the library writes them: four, from the simplest to one that calls others, and those of
+//! other kinds of arguments and answers.
 #![tactic(auto)]
 
 pub mod chains;

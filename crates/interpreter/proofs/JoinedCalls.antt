@@ -25,6 +25,7 @@ use Rattle.interpreter.specs.contracts.files.FileCall as file_call
 use Rattle.interpreter.specs.contracts.files.FileCallPartialEq.TheImpl as call
 use Rattle.interpreter.proofs.FileCalls.{same_calls, same_texts, same_bytes}
 
+-- the derived tests of joined calls and answers
 abbrev pub same_call : JoinedCall → JoinedCall → Bool
 same_call = (multi_call.ghosts denote.Builtin.unit file_call.the_row unit.ghosts unit.dict call.ghosts call.dict).eq
 
@@ -43,6 +44,7 @@ answers_told = joined_answers (record { left = λ a b. refl; right = λ a b. ref
 pub respects_with_key : (n : FileCall → String Global) → Respects call.ghosts.eq string_eq n → Respects same_call same_answer (with_key n)
 respects_with_key n r = joined_respect same_answer tells_calls (λ _. tt) n (λ c d h. refl) r
 
+-- all answers whose parts are known
 answered : (m : JoinedCall → JoinedAnswer) (p : ⊤ → ⊤) (n : FileCall → String Global) → ((c : ⊤) → m (first_call c) ≡ first_answer (p c)) → ((c : FileCall) → m (second_call c) ≡ second_answer (n c)) → (c : JoinedCall) → m c ≡ with_key n c
 answered m p n first second (part.A c) = first c
 answered m p n first second (part.B c) = second c

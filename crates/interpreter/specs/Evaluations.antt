@@ -30,8 +30,8 @@ PartComesTo m part outcome = PartMeans (At m) part outcome.value outcome.height
 abbrev pub CallsDeep : (FileCall → String Global) → List ℕ → ℕ → Type 0
 CallsDeep m part limit = (path text : List ℕ) × IsEval part path × At m path text × Deep (At m) text limit
 
--- a recording went on from `before` to `after`, with pairs that the answers m agree with; and whichever answers agree with
--- those of `after` agree with those of `before`, and P holds of them
+-- a recording went on from `before` to `after`, with pairs that the files' answers m agree with; and whichever answers of
+-- files agree with those of `after` agree with those of `before`, and P holds of them
 abbrev pub Learnt : (FileCall → FileCall → Bool) → (JoinedAnswer → JoinedAnswer → Bool) → (FileCall → String Global) → Recording JoinedCall JoinedAnswer → Recording JoinedCall JoinedAnswer → ((FileCall → String Global) → Type 0) → Type 0
 Learnt eq same m before after P =
     Agrees same (with_key m) after.pairs × ((n : FileCall → String Global) → Respects eq string_eq n → Agrees same (with_key n) after.pairs → Agrees same (with_key n) before.pairs × P n)

@@ -43,7 +43,7 @@ impl Memo for FileSize {
     ghost answer_clones = { λ x y h. Prim.search rules };
 }
 
-/// Asks the files the text at a path, into a recording.
+/// Asks the files the text at a path, into a recording of a key joined with them.
 pub(crate) fn read_text<S: Sink<Call = MultiCall<(), FileCall>, Answer = MultiAnswer<(), String>>>(
     alloc: Global,
     files: &Tracked<'_, Files>,
