@@ -8,7 +8,7 @@ use comemo::closure::memoize;
 use comemo::{CacheData, Constraint, Fault, Function, MemoOf, Recorder, Reply, Sink, Tracked};
 use std::alloc::Global;
 
-/// A function whose runs all end in the fault that is its key.
+/// A function whose runs all end in a fault: `Memory` where its key is true, and else `Incomplete`.
 pub struct Failing;
 
 impl Function for Failing {
