@@ -3,7 +3,7 @@ use Rattle.std.proofs.Common.{◌≡◌, ◌↔◌, inl, inr, Bool, true, false,
 use Rattle.std.specs.Borrow.{MutBor}
 use Rattle.comemo_base.specs.Answers.{Respects, Agrees}
 use Rattle.comemo_base.specs.Tree.{Stored}
-use Rattle.comemo.specs.Recording.{Recording}
+use Rattle.tracking.specs.Recording.{Recording}
 use Rattle.comemo.specs.Cache.{Output, HasNone}
 use Rattle.comemo.specs.Begin.{PendingRun, IsRun}
 use Rattle.comemo.specs.Called.{Gave}

@@ -1,15 +1,8 @@
-pub mod Recordings
-pub mod Absorbing
 pub mod Entries
 pub mod NewPath
-pub mod Sendings
-pub mod Copies
 pub mod Endings
-pub mod Told
 pub mod Recorders
-pub mod Validating
 pub mod Calls
 pub mod Closures
 pub mod Growing
-pub mod Through
-pub mod Joined
+pub mod JoinedHits

@@ -3,12 +3,12 @@ use Rattle.std.proofs.Common.{◌≡◌, ◌∙◌, Bool, true, false, List, [],
 use Rattle.std.specs.Cmp.{IsEquivalence}
 use Rattle.comemo_base.specs.Answers.{Respects, Agrees}
 use Rattle.comemo_base.proofs.Paths.{turned, joined}
-use Rattle.comemo.specs.Recording.{Recording, Took}
-use Rattle.comemo.specs.Sending.{Asks}
+use Rattle.tracking.specs.Recording.{Recording, Took}
+use Rattle.tracking.specs.Sending.{Asks}
 use Rattle.comemo.specs.Called.{Gave}
 use Rattle.comemo.specs.Function.{Fits}
 use Rattle.comemo.specs.declared.finish.Reply.{Reply}
-use Rattle.comemo.proofs.Told.{told_pairs}
+use Rattle.tracking.proofs.Told.{told_pairs}
 
 module _ {C R : Type 0} {eq : C → C → Bool} {same : R → R → Bool} (calls : IsEquivalence eq) (answers : IsEquivalence same) (m : C → R) (respects : Respects eq same m) {s t : Recording C R} (P : List (C × R)) (W : List C) (took : Took eq s P W t) (a : Agrees same m P) (before : s.whole ≡ true → Agrees same m s.pairs) where
   was_whole : t.whole ≡ true → s.whole ≡ true

@@ -3,7 +3,7 @@ use Rattle.std.specs.Prelude.{◌≡◌, Bool, true, List, [], IsTrue, refl}
 use Rattle.std.specs.Coded.{Coded, code_by, coded×, coded_bool}
 use Rattle.comemo_base.specs.Answers.{Respects, Agrees}
 use Rattle.comemo_base.specs.Tree.{Stored}
-use Rattle.comemo.specs.Recording.{Recording, recording_code}
+use Rattle.tracking.specs.Recording.{Recording, recording_code}
 use Rattle.comemo.specs.Cache.{Output, Stands, HasNone, Has}
 
 -- a run that began: its key, whether it is to be stored, and what it has recorded

@@ -1,7 +1,7 @@
 -- What a memoized function of a key and a tracked value means.
 use Rattle.std.specs.Prelude.{◌≡◌, Bool, true, IsTrue}
 use Rattle.comemo_base.specs.Answers.{Respects, Agrees}
-use Rattle.comemo.specs.Recording.{Recording}
+use Rattle.tracking.specs.Recording.{Recording}
 
 module _ {C R : Type 0} (eq : C → C → Bool) (same : R → R → Bool) where
   -- nothing is lost of the recording, and the answers, which tell no equal calls apart, agree with it

@@ -1,6 +1,3 @@
-pub mod Sending
-pub mod Recording
-pub mod RecordingLaws
 pub mod Cache
 pub mod Begin
 pub mod Begun
@@ -9,8 +6,11 @@ pub mod Called
 pub mod Closure
 pub mod Function
 pub mod FunctionLaws
-pub mod Views
-pub mod Multi
-pub mod Mapped
-pub mod MultiLaws
-pub mod MappedLaws
+pub use Rattle.tracking.specs.Sending
+pub use Rattle.tracking.specs.Recording
+pub use Rattle.tracking.specs.RecordingLaws
+pub use Rattle.tracking.specs.Views
+pub use Rattle.tracking.specs.Multi
+pub use Rattle.tracking.specs.Mapped
+pub use Rattle.tracking.specs.MultiLaws
+pub use Rattle.tracking.specs.MappedLaws

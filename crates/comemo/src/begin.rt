@@ -4,10 +4,10 @@ ghost use Rattle.std.specs.List.{All};
 ghost use Rattle.comemo.specs.Begin.{IsHit, IsRun};
 ghost use Rattle.comemo.specs.Begun.{OnBegun};
 
-use crate::constraint::Constraint;
-use crate::input::Input;
+use tracking::constraint::Constraint;
+use tracking::input::Input;
 use crate::memoize::{CacheData, Found, Memo};
-use crate::track::{Call, Sink};
+use tracking::track::{Call, Sink};
 use std::alloc::{AllocError, Global};
 use std::marker::Model;
 
@@ -57,7 +57,7 @@ impl<M: Memo> Model for Pending<M> {
 impl<M: Memo> Pending<M> {
     ghost use Rattle.std.specs.Borrow.{sem, Lends};
     ghost use Rattle.comemo.specs.contracts.begin.Pending.{the_row};
-    ghost use Rattle.comemo.specs.contracts.constraint.Constraint.{the_row as recording_row};
+    ghost use Rattle.tracking.specs.contracts.constraint.Constraint.{the_row as recording_row};
 
     /// What the run has recorded, to be recorded into: the sink of what the run asks.
     pub fn recording(&mut self) -> &mut Constraint<M::Call, M::Answer>

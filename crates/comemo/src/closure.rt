@@ -2,16 +2,16 @@
 ghost use Rattle.std.specs.Prelude.{◌≡◌, [], true, IfOk, IfErr, OnErr, Ok};
 ghost use Rattle.std.specs.Borrow.{MutBor};
 ghost use Rattle.comemo.specs.Begin.{IsHit};
-ghost use Rattle.comemo.specs.Recording.{Recording};
+ghost use Rattle.tracking.specs.Recording.{Recording};
 ghost use Rattle.comemo.specs.Cache.{Stands};
 ghost use Rattle.comemo.specs.Closure.{Starts, Ran, Ended, IsFault};
 
 use crate::begin::{Begun, Fault, begin};
-use crate::constraint::Constraint;
+use tracking::constraint::Constraint;
 use crate::finish::{How, Reply};
-use crate::input::Input;
+use tracking::input::Input;
 use crate::memoize::{CacheData, Memo};
-use crate::track::{Call, Sink};
+use tracking::track::{Call, Sink};
 use std::alloc::Global;
 
 /// The recording that a closure is handed. `Constraint` is one, and there is no other.

@@ -8,9 +8,9 @@ ghost use Rattle.comemo.specs.Called.{Gave, Grows};
 ghost use Rattle.comemo.specs.Finish.{Ends, Gives};
 
 use crate::begin::{Fault, Pending, give_pairs};
-use crate::constraint::Constraint;
+use tracking::constraint::Constraint;
 use crate::memoize::{CacheData, Memo};
-use crate::track::{Call, Sink};
+use tracking::track::{Call, Sink};
 use comemo_base::{CallSequence, InsertError};
 use std::alloc::{AllocError, Global};
 

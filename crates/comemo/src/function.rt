@@ -6,11 +6,11 @@ ghost use Rattle.comemo.specs.Function.{Fits, Laws};
 ghost use Rattle.comemo.specs.FunctionLaws.{agrees_if_prop};
 
 use crate::begin::{Begun, Fault, begin};
-use crate::constraint::Constraint;
+use tracking::constraint::Constraint;
 use crate::finish::{How, Reply};
-use crate::input::Keyed;
+use tracking::input::Keyed;
 use crate::memoize::{CacheData, Memo};
-use crate::track::{Call, Sink, Track, Tracked};
+use tracking::track::{Call, Sink, Track, Tracked};
 use std::alloc::Global;
 use std::hash::Hash;
 use std::marker::PhantomData;

@@ -7,8 +7,8 @@ ghost use Rattle.comemo_base.specs.Tree.{stored};
 ghost use Rattle.comemo_base.specs.Insertion.{Exists, Misses, IsNewPath, IsReason};
 ghost use Rattle.comemo.specs.Cache.{Output, Stands, HasNone, Has};
 
-use crate::input::{Input, find_agreeing};
-use crate::track::Call;
+use tracking::input::{Input, find_agreeing};
+use tracking::track::Call;
 use comemo_base::{CallSequence, CallTree, InsertError};
 use std::alloc::{AllocError, Global};
 use std::hash::Hash;

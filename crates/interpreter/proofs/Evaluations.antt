@@ -8,7 +8,7 @@ use Rattle.comemo.specs.Mapped.{Through}
 use Rattle.comemo.specs.Multi.{OnParts, second_call, second_answer}
 use Rattle.comemo.specs.Recording.{Recording, Took}
 use Rattle.comemo.specs.Sending.{Asks}
-use Rattle.comemo.proofs.Told.{told_pairs}
+use Rattle.tracking.proofs.Told.{told_pairs}
 use Rattle.scripts.specs.Meaning.{Means, Deep, is_eval}
 use Rattle.scripts.specs.Parts.{IsEval}
 use Rattle.scripts.specs.declared.outcome.Outcome.{Outcome}

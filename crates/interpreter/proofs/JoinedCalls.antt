@@ -12,12 +12,12 @@ use Rattle.comemo.specs.Mapped.{Through}
 use Rattle.comemo.specs.Multi.{first_call, second_call, first_answer, second_answer, OnParts}
 use Rattle.comemo.specs.Recording.{Recording, Took}
 use Rattle.comemo.specs.Sending.{Asks}
-use Rattle.comemo.specs.declared.multi.MultiCall.TheVariants as part
-use Rattle.comemo.specs.contracts.multi.MultiCallPartialEq.TheImpl as multi_call
-use Rattle.comemo.specs.contracts.multi.MultiAnswerPartialEq.TheImpl as multi_answer
-use Rattle.comemo.proofs.Joined.{TellsCalls, joined_calls, joined_answers, joined_respect}
-use Rattle.comemo.proofs.Through.{asked_through}
-use Rattle.comemo.proofs.Told.{told_answer}
+use Rattle.tracking.specs.declared.multi.MultiCall.TheVariants as part
+use Rattle.tracking.specs.contracts.multi.MultiCallPartialEq.TheImpl as multi_call
+use Rattle.tracking.specs.contracts.multi.MultiAnswerPartialEq.TheImpl as multi_answer
+use Rattle.tracking.proofs.Joined.{TellsCalls, joined_calls, joined_answers, joined_respect}
+use Rattle.tracking.proofs.Through.{asked_through}
+use Rattle.tracking.proofs.Told.{told_answer}
 use Rattle.interpreter.specs.Files.{JoinedCall, JoinedAnswer, with_key}
 use Rattle.interpreter.specs.declared.files.FileCall.{FileCall}
 use Rattle.interpreter.specs.declared.files.FileCall.TheVariants.{Read}

@@ -3,8 +3,8 @@ use Rattle.std.specs.Prelude.{⊤, ℕ, List, String, string_bytes, unwrap_or}
 use Rattle.std.specs.Global.{Global}
 use Rattle.std.specs.HashMap.{HashMap, get_by_text}
 use Rattle.comemo.specs.Multi.{part_answers}
-use Rattle.comemo.specs.declared.multi.MultiCall.{MultiCall}
-use Rattle.comemo.specs.declared.multi.MultiAnswer.{MultiAnswer}
+use Rattle.tracking.specs.declared.multi.MultiCall.{MultiCall}
+use Rattle.tracking.specs.declared.multi.MultiAnswer.{MultiAnswer}
 use Rattle.interpreter.specs.declared.files.FileCall.{FileCall}
 use Rattle.interpreter.specs.declared.files.FileCall.TheVariants.{Read}
 

@@ -1,4 +1,4 @@
-use Rattle.comemo.proofs.Sendings.{rest_sent, spoiled_sent, reads_left}
+use Rattle.tracking.proofs.Sendings.{rest_sent, spoiled_sent, reads_left}
 use Rattle.comemo.proofs.begin.send_pairs.Goals as goal
 
 pub loop-call-preserved : goal.loop-call-preserved

@@ -1,5 +1,5 @@
 use Rattle.std.proofs.Common.{sym, []}
-use Rattle.comemo.proofs.Sendings.{rest_sent, spoiled_sent, reads_left, head_read, on_err}
+use Rattle.tracking.proofs.Sendings.{rest_sent, spoiled_sent, reads_left, head_read, on_err}
 use Rattle.comemo.proofs.finish.send_reads.Goals as goal
 
 pub emit-requires-clause-answered : goal.emit-requires-clause-answered

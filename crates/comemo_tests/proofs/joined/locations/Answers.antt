@@ -1,5 +1,5 @@
 use Rattle.std.proofs.Common.{rules, refl}
-use Rattle.comemo.proofs.Joined.{joined_hit}
+use Rattle.comemo.proofs.JoinedHits.{joined_hit}
 use Rattle.comemo_tests.proofs.Contains.{is_sum}
 use Rattle.comemo_tests.proofs.joined.locations.Goals as goal
 

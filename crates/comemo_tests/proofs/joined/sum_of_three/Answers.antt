@@ -1,6 +1,6 @@
 use Rattle.std.proofs.Common.{rules, refl}
 use Rattle.comemo.specs.MultiLaws.{by_parts}
-use Rattle.comemo.proofs.Joined.{joined_hit}
+use Rattle.comemo.proofs.JoinedHits.{joined_hit}
 use Rattle.comemo_tests.proofs.joined.sum_of_three.Goals as goal
 
 pub returns-in-Hit-clause-output : goal.returns-in-Hit-clause-output

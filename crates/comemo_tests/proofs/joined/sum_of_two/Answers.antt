@@ -1,5 +1,5 @@
 use Rattle.std.proofs.Common.{refl}
-use Rattle.comemo.proofs.Joined.{joined_hit}
+use Rattle.comemo.proofs.JoinedHits.{joined_hit}
 use Rattle.comemo_tests.proofs.joined.sum_of_two.Goals as goal
 
 pub returns-in-Hit-clause-output : goal.returns-in-Hit-clause-output

@@ -1,5 +1,5 @@
 use Rattle.std.proofs.Common.{rules, ◌+◌, ◌%◌, ◌^◌, ap}
-use Rattle.comemo.proofs.Told.{told_pairs}
+use Rattle.tracking.proofs.Told.{told_pairs}
 use Rattle.comemo.proofs.Calls.{gave_by_run}
 use Rattle.comemo_tests.proofs.Contexts.{same_calls}
 use Rattle.comemo_tests.proofs.Places.{same_numbers}

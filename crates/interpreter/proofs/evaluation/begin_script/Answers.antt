@@ -1,6 +1,6 @@
 use Rattle.std.proofs.Common.{rules, arith, refl, sym, subst, ◌<◌}
 use Rattle.comemo.proofs.Calls.{gave_by_hit, came_by_hit}
-use Rattle.comemo.proofs.Joined.{joined_hit}
+use Rattle.comemo.proofs.JoinedHits.{joined_hit}
 use Rattle.scripts.specs.Meaning.{Means, Deep, no_room}
 use Rattle.scripts.proofs.Meanings.{deep_of_height}
 use Rattle.interpreter.specs.Files.{answer_of}

@@ -1,7 +1,7 @@
 use Rattle.std.proofs.Common.{rules, refl, ◌≡◌, ◌∙◌, sym, subst, length, string_bytes}
 use Rattle.comemo.specs.Multi.{OnParts}
 use Rattle.comemo.proofs.Calls.{gave_by_hit, came_by_hit, gave_by_run, came_by_run}
-use Rattle.comemo.proofs.Joined.{joined_hit}
+use Rattle.comemo.proofs.JoinedHits.{joined_hit}
 use Rattle.interpreter.specs.Files.{text_of, answer_of}
 use Rattle.interpreter.specs.Size.{IsSize}
 use Rattle.interpreter.proofs.FileCalls.{same_key, answers_alike}

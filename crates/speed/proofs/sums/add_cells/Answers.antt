@@ -1,5 +1,5 @@
 use Rattle.std.proofs.Common.{rules, arith}
-use Rattle.comemo.proofs.Told.{told_answer}
+use Rattle.tracking.proofs.Told.{told_answer}
 use Rattle.speed.specs.Sums.{numbers, by_call}
 use Rattle.speed.proofs.Gets.{same_gets, same_numbers, respects_gets, same_number, sum_more}
 use Rattle.speed.proofs.sums.add_cells.Goals as goal

@@ -1,8 +1,8 @@
 //! Sinks that send each call on under another name.
 ghost use Rattle.std.specs.Prelude.{◌≡◌, [], List, false, not, is_none, IfOk, OnOk, OnErr, map, refl};
 ghost use Rattle.std.proofs.Common.{◌∙◌};
-ghost use Rattle.comemo.specs.Mapped.{Through};
-ghost use Rattle.comemo.specs.Sending.{Asks, sent_pairs, sent_writes};
+ghost use Rattle.tracking.specs.Mapped.{Through};
+ghost use Rattle.tracking.specs.Sending.{Asks, sent_pairs, sent_writes};
 
 use crate::track::{Call, Sink, Track, Tracked};
 use std::alloc::AllocError;
@@ -80,8 +80,8 @@ impl<'a, S: Sink<Call = M::To, Answer = M::ToAnswer>, M: CallMap> Sink for Mappe
 
     type Answer = M::FromAnswer;
 
-    ghost use Rattle.comemo.specs.Mapped.{MapsTook};
-    ghost use Rattle.comemo.specs.MappedLaws.{maps_nothing, maps_both};
+    ghost use Rattle.tracking.specs.Mapped.{MapsTook};
+    ghost use Rattle.tracking.specs.MappedLaws.{maps_nothing, maps_both};
 
     ghost took = { λ s P W t. MapsTook S.took M.maps M.maps_answer s.sink s.map P W t.sink t.map };
 

@@ -1,7 +1,7 @@
 use Rattle.std.proofs.Common.{rules, ◌≡◌, ◌∙◌, [], IsTrue, IfOk, refl, sym, subst}
 use Rattle.std.proofs.lemmas.Fn.{answers_by}
 use Rattle.comemo_base.proofs.Keeps.{find_keeps}
-use Rattle.comemo.proofs.input.find_agreeing.Goals as goal
+use Rattle.tracking.proofs.input.find_agreeing.Goals as goal
 
 pub returns-clause-same : goal.returns-clause-same
 returns-clause-same g c =

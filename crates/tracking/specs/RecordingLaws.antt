@@ -2,7 +2,7 @@
 use Rattle.std.proofs.Common.{Bool, List, [], ◌++◌, refl, sym, ap, ◌∙◌, append_assoc, append-nil}
 use Rattle.comemo_base.specs.Sequence.{absorbed}
 use Rattle.comemo_base.proofs.Pairs.{absorbed-append}
-use Rattle.comemo.specs.Recording.{Recording, Took}
+use Rattle.tracking.specs.Recording.{Recording, Took}
 
 pub took_nothing : {C R : Type 0} (eq : C → C → Bool) (s : Recording C R) → Took eq s [] [] s
 took_nothing eq s = record { pairs = refl; writes = sym (append-nil s.writes); whole = refl }

@@ -2,7 +2,7 @@
 ghost use Rattle.std.specs.Prelude.{◌≡◌, [], ◌∷◌, ◌++◌, List, Bool, true, false, not, Some, is_none, IsTrue, IfOk, OnOk, OnErr, ⊤, refl};
 ghost use Rattle.std.proofs.Common.{◌∙◌};
 ghost use Rattle.comemo_base.specs.Answers.{Respects};
-ghost use Rattle.comemo.specs.Sending.{sent_pairs, sent_writes, Asks};
+ghost use Rattle.tracking.specs.Sending.{sent_pairs, sent_writes, Asks};
 
 use std::alloc::AllocError;
 use std::fmt;
@@ -297,7 +297,7 @@ impl<'a, T: Track> Tracked<'a, T> {
 
 /// It prints as `Tracked(..)`, whatever its value is.
 impl<'a, T> Debug for Tracked<'a, T> {
-    ghost use Rattle.comemo.specs.Views.{tracked_text};
+    ghost use Rattle.tracking.specs.Views.{tracked_text};
 
     ghost debug_output = { λ _. Some tracked_text };
 
@@ -334,7 +334,7 @@ impl<'a, T: Track, S: Sink<Call = T::Call, Answer = T::Answer>> TrackedWith<'a, 
 
 /// It prints as the view without the sink does.
 impl<'a, T: Track, S> Debug for TrackedWith<'a, T, S> {
-    ghost use Rattle.comemo.specs.Views.{tracked_text};
+    ghost use Rattle.tracking.specs.Views.{tracked_text};
 
     ghost debug_output = { λ _. Some tracked_text };
 

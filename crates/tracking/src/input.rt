@@ -228,7 +228,7 @@ impl<T: Clone + Eq + Hash> Input for Hashed<T> {
 /// The path under a key of a tree that an input's answers agree with, cloned, with its value.
 ///
 /// The tree's calls are reads, so none is kept from the input as a write.
-pub(crate) fn find_agreeing<'a, K: Clone + Eq + Hash, In: Input, T>(
+pub fn find_agreeing<'a, K: Clone + Eq + Hash, In: Input, T>(
     tree: &'a CallTree<K, In::Call, In::Answer, T>,
     key: &K,
     input: &mut In,

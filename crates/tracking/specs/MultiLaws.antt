@@ -1,9 +1,9 @@
 -- The laws of joined inputs, which the traits ask. They say nothing that a reader must believe.
 use Rattle.std.proofs.Common.{◌≡◌, List, [], ◌∷◌, ◌++◌, refl, sym, ap, subst}
-use Rattle.comemo.specs.Multi.{part_answers, firsts, seconds}
-use Rattle.comemo.specs.declared.multi.MultiCall.{MultiCall}
-use Rattle.comemo.specs.declared.multi.MultiCall.TheVariants as call
-use Rattle.comemo.specs.declared.multi.MultiAnswer.TheVariants as answer
+use Rattle.tracking.specs.Multi.{part_answers, firsts, seconds}
+use Rattle.tracking.specs.declared.multi.MultiCall.{MultiCall}
+use Rattle.tracking.specs.declared.multi.MultiCall.TheVariants as call
+use Rattle.tracking.specs.declared.multi.MultiAnswer.TheVariants as answer
 
 module _ {X Y : Type 0} where
   -- what holds of two calls of either part, and of calls of different parts

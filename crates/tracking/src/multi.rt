@@ -20,8 +20,8 @@ pub enum MultiCall<A, B> {
 }
 
 impl<A: Call, B: Call> Call for MultiCall<A, B> {
-    ghost use Rattle.comemo.specs.Multi.{by_part};
-    ghost use Rattle.comemo.specs.MultiLaws.{by_parts};
+    ghost use Rattle.tracking.specs.Multi.{by_part};
+    ghost use Rattle.tracking.specs.MultiLaws.{by_parts};
 
     ghost is_write = { by_part A.is_write B.is_write };
 
@@ -96,8 +96,8 @@ impl<A: Input, B: Input> Input for Multi<(A, B)> {
 
     type Answer = MultiAnswer<A::Answer, B::Answer>;
 
-    ghost use Rattle.comemo.specs.Multi.{part_answers, firsts, seconds};
-    ghost use Rattle.comemo.specs.MultiLaws.{by_parts, part_answers_alike, both_did};
+    ghost use Rattle.tracking.specs.Multi.{part_answers, firsts, seconds};
+    ghost use Rattle.tracking.specs.MultiLaws.{by_parts, part_answers_alike, both_did};
 
     ghost key_of = { λ s. (A.key_of s.0.0, B.key_of s.0.1) };
 
@@ -160,7 +160,7 @@ impl<A: Call, B: Call, RA: Clone + Ord, RB: Clone + Ord> CallMap for First<A, B,
 
     type ToAnswer = MultiAnswer<RA, RB>;
 
-    ghost use Rattle.comemo.specs.Multi.{first_call, first_answer};
+    ghost use Rattle.tracking.specs.Multi.{first_call, first_answer};
 
     ghost maps = { λ _. first_call };
 
@@ -209,7 +209,7 @@ impl<A: Call, B: Call, RA: Clone + Ord, RB: Clone + Ord> CallMap for Second<A, B
 
     type ToAnswer = MultiAnswer<RA, RB>;
 
-    ghost use Rattle.comemo.specs.Multi.{second_call, second_answer};
+    ghost use Rattle.tracking.specs.Multi.{second_call, second_answer};
 
     ghost maps = { λ _. second_call };
 

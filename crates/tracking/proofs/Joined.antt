@@ -1,15 +1,12 @@
 -- For the authors of functions of two arguments: calls and answers of joined inputs are told apart by their parts.
-use Rattle.std.proofs.Common.{◌≡◌, Bool, true, false, List, sym, ◌∙◌}
+use Rattle.std.proofs.Common.{◌≡◌, Bool, true, false, sym, ◌∙◌}
 use Rattle.std.specs.Cmp.{IsEquivalence}
 use Rattle.comemo_base.specs.Answers.{Respects}
-use Rattle.comemo_base.specs.Tree.{Stored}
-use Rattle.comemo.specs.Begin.{IsHit}
-use Rattle.comemo.specs.Cache.{Output}
-use Rattle.comemo.specs.Multi.{part_answers}
-use Rattle.comemo.specs.declared.multi.MultiCall.{MultiCall}
-use Rattle.comemo.specs.declared.multi.MultiCall.TheVariants as call
-use Rattle.comemo.specs.declared.multi.MultiAnswer.{MultiAnswer}
-use Rattle.comemo.specs.declared.multi.MultiAnswer.TheVariants as answer
+use Rattle.tracking.specs.Multi.{part_answers}
+use Rattle.tracking.specs.declared.multi.MultiCall.{MultiCall}
+use Rattle.tracking.specs.declared.multi.MultiCall.TheVariants as call
+use Rattle.tracking.specs.declared.multi.MultiAnswer.{MultiAnswer}
+use Rattle.tracking.specs.declared.multi.MultiAnswer.TheVariants as answer
 
 -- a test of calls that never takes a call of one part for one of the other
 pub record TellsCalls {X Y : Type 0} (eq : MultiCall X Y → MultiCall X Y → Bool) : Type 0 where
@@ -76,8 +73,3 @@ joined_respect same tells m n p q (call.A c) (call.A d) h = p c d h
 joined_respect same tells m n p q (call.B c) (call.B d) h = q c d h
 joined_respect same tells m n p q (call.A c) (call.B d) h = false_is_true (tells.left c d) h
 joined_respect same tells m n p q (call.B c) (call.A d) h = false_is_true (tells.right c d) h
-
--- a hit at joined answers is right at them
-pub joined_hit : {K X Y P Q O I S : Type 0} {eq : MultiCall X Y → MultiCall X Y → Bool} {same : MultiAnswer P Q → MultiAnswer P Q → Bool} {eqk : K → K → Bool} {es : List (Stored K (MultiCall X Y) (MultiAnswer P Q) (Output O (MultiCall X Y)))} {key : K} {m : X → P} {n : Y → Q} {enabled : Bool} {def : K → (MultiCall X Y → MultiAnswer P Q) → O → List (MultiCall X Y) → Type 0} {cloned : O → O → Type 0} {did : I → List (MultiCall X Y) → I → Type 0} {took : S → List (MultiCall X Y × MultiAnswer P Q) → List (MultiCall X Y) → S → Type 0} {i j : I} {s t : S} {output : O}
-    → (hit : IsHit eq same eqk es key (part_answers m n) enabled def cloned did took i j s t output) → TellsCalls eq → Respects (λ c d. eq (call.A c) (call.A d)) (λ a b. same (answer.A a) (answer.A b)) m → Respects (λ c d. eq (call.B c) (call.B d)) (λ a b. same (answer.B a) (answer.B b)) n → def key (part_answers m n) output hit.writes
-joined_hit {same = same} {m = m} {n = n} hit tells p q = hit.stands (part_answers m n) (joined_respect same tells m n p q) hit.agrees

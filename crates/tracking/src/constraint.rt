@@ -3,8 +3,8 @@ ghost use Rattle.std.specs.Prelude.{◌≡◌, ◌↔◌, ◌&&◌, [], ◌∷�
 ghost use Rattle.std.specs.List.{All};
 ghost use Rattle.comemo_base.specs.Sequence.{held, absorbed};
 ghost use Rattle.comemo_base.specs.Answers.{Agrees};
-ghost use Rattle.comemo.specs.Recording.{Took, AgreesBefore};
-ghost use Rattle.comemo.specs.Sending.{sent_pairs, sent_writes};
+ghost use Rattle.tracking.specs.Recording.{Took, AgreesBefore};
+ghost use Rattle.tracking.specs.Sending.{sent_pairs, sent_writes};
 
 use crate::track::{Call, Sink, Track};
 use comemo_base::CallSequence;
@@ -23,7 +23,7 @@ pub struct Constraint<C: Call, R> {
 
 impl<C: Call, R> Model for Constraint<C, R> {
     ghost use Rattle.std.specs.Prelude.{[]};
-    ghost use Rattle.comemo.specs.Recording.{Recording, recording_code, IsRecording};
+    ghost use Rattle.tracking.specs.Recording.{Recording, recording_code, IsRecording};
 
     ghost Value = { Recording C R };
 
@@ -58,8 +58,8 @@ impl<C: Call, R> Constraint<C, R> {
         self.whole
     }
 
-    /// The recorded reads, as a sequence.
-    pub(crate) fn into_reads(self) -> CallSequence<C, R>
+    /// The recorded reads, as a sequence, which is what a cache stores them by. It takes no memory. This project's own.
+    pub fn into_reads(self) -> CallSequence<C, R>
         ensures pairs { result.pairs ≡ self.pairs }
         ensures reads { All (λ p. C.is_write p.0 ≡ false) self.pairs }
         ensures writes { self.writes ≡ [] }
@@ -116,7 +116,7 @@ impl<C: Call, R: Clone + Ord> Sink for Constraint<C, R> {
 
     type Answer = R;
 
-    ghost use Rattle.comemo.specs.RecordingLaws.{took_nothing, took_both};
+    ghost use Rattle.tracking.specs.RecordingLaws.{took_nothing, took_both};
 
     ghost took = { λ s P W t. Took C.eq s P W t };
 

@@ -3,7 +3,7 @@
 use Rattle.std.proofs.Common.{List, [], ◌++◌, map, refl, sym, subst, ◌∙◌}
 use Rattle.std.proofs.lemmas.List.{map-append}
 use Rattle.std.specs.Borrow.{MutBor}
-use Rattle.comemo.specs.Mapped.{mapped_pairs, MapsTook}
+use Rattle.tracking.specs.Mapped.{mapped_pairs, MapsTook}
 
 module _ {S M C D R Q : Type 0} {took : S → List (D × Q) → List D → S → Type 0} {maps : M → C → D} {answers : M → R → Q} where
   pub maps_nothing : ((s : S) → took s [] [] s) → (s : MutBor S) (m : M) → MapsTook took maps answers s m [] [] s m
