@@ -35,14 +35,16 @@ pub trait Function {
 
     /// Does the function: asks the value through the recorder, which keeps what it was told.
     ///
-    /// The output has to be right for all answers that agree with what was recorded.
+    /// The output has to be right for all answers that agree with what was recorded. A run may answer `Incomplete` only
+    /// where its recording was spoiled, as by a call that failed.
     fn run(
         key: &Self::Key,
         of: &mut Recorder<'_, Self::Of>,
         needs: &mut Self::Needs,
     ) -> Result<Self::Out, Fault>
         ensures same { of.new.view ≡ of.old.view }
-        ensures right { IfOk result (λ output. (m : Self.Of.Call → Self.Of.Answer) → Fits Self.Of.Call.eq Self.Of.Answer.eq of.new.recording m → means key.now m output) };
+        ensures right { IfOk result (λ output. (m : Self.Of.Call → Self.Of.Answer) → Fits Self.Of.Call.eq Self.Of.Answer.eq of.new.recording m → means key.now m output) }
+        ensures fault { IfErr result (λ fault. fault ≡ Fault.Incomplete → of.new.recording.whole ≡ false) };
 
     // clones of keys are equal, and the meaning tells apart neither equal keys nor an output from its clone
     ghost laws: { Laws Self.Of.Call.eq Self.Of.Answer.eq Self.Key.eq Self.Key.is_clone Self.Out.is_clone means };
@@ -84,6 +86,7 @@ impl<'a, T: Track> Recorder<'a, T> {
         ensures same { self.new.view ≡ self.old.view }
         ensures before { OnOk result ((m : T.Call → T.Answer) → Fits T.Call.eq T.Answer.eq self.new.recording m → Fits T.Call.eq T.Answer.eq self.old.recording m) }
         ensures told { IfOk result (λ answer. (m : T.Call → T.Answer) → Fits T.Call.eq T.Answer.eq self.new.recording m → IsTrue (T.Answer.eq (m call) answer)) }
+        ensures answer { IfOk result (λ answer. IsTrue (T.Answer.eq (T.answers self.old.view call) answer)) }
         ensures whole { self.new.recording.whole ≡ self.old.recording.whole }
         ensures err { IfErr result (λ fault. (fault ≡ Fault.Memory) × (self.new.recording.pairs ≡ self.old.recording.pairs)) }
     {
