@@ -1,5 +1,5 @@
 //! The library's front door: a memoized function of a key and a tracked value, as one trait and one call.
-ghost use Rattle.std.specs.Prelude.{◌≡◌, [], true, false, IsTrue, IfOk, IfErr, OnOk, OnErr};
+ghost use Rattle.std.specs.Prelude.{◌≡◌, [], List, true, false, IsTrue, IfOk, IfErr, OnOk, OnErr};
 ghost use Rattle.comemo_base.specs.Answers.{Agrees};
 ghost use Rattle.comemo.specs.Called.{Gave, Came};
 ghost use Rattle.comemo.specs.Function.{Fits, Laws};
@@ -96,15 +96,15 @@ impl<'a, T: Track> Recorder<'a, T> {
     /// Calls another memoized function of the same value, and records what it asked.
     ///
     /// A fault leaves the other's cache as it was, and the recording is spoiled: the run that is recorded can't be finished.
-    pub fn call<G: Function<Of = T>>(
+    pub fn call<G: FunctionOf<T>>(
         &mut self,
-        cache: &mut CacheData<MemoOf<G>>,
+        cache: &mut CacheData<G>,
         needs: &mut G::Needs,
         key: G::Key,
     ) -> Result<G::Out, Fault>
         ensures same { self.new.view ≡ self.old.view }
         ensures before { OnOk result ((m : T.Call → T.Answer) → Fits T.Call.eq T.Answer.eq self.new.recording m → Fits T.Call.eq T.Answer.eq self.old.recording m) }
-        ensures told { IfOk result (λ output. (m : T.Call → T.Answer) → Fits T.Call.eq T.Answer.eq self.new.recording m → G.means key m output) }
+        ensures told { IfOk result (λ output. (m : T.Call → T.Answer) → Fits T.Call.eq T.Answer.eq self.new.recording m → G.def key m output []) }
         ensures whole { OnOk result (self.new.recording.whole ≡ self.old.recording.whole) }
         ensures came { IfOk result (λ output. (how : How) × Came T.Call.eq T.Answer.eq G.Key.eq G.Out.is_clone key (T.answers self.old.view) true output cache.old cache.old how cache.new) }
         ensures err { OnErr result ((cache.new ≡ cache.old) × (self.new.recording.whole ≡ false)) }
@@ -149,6 +149,42 @@ impl<F: Function> Memo for MemoOf<F> {
     ghost answer_clones = { F.Of.clones };
 }
 
+/// A memoized function of a key and `T`, where `T` may borrow: several tracked values as one, by `Both`, or a view of a
+/// user's own.
+///
+/// What the function means is its `Memo`, which names no lifetime, so that its cache outlives the values. A `Function` is
+/// one by its `MemoOf`, with nothing to write. This project's own.
+pub trait FunctionOf<T: Track>: Memo<Call = T::Call, Answer = T::Answer> {
+    type Needs;
+
+    /// Does the function, as `Function::run` does.
+    fn run(
+        key: &Self::Key,
+        of: &mut Recorder<'_, T>,
+        needs: &mut Self::Needs,
+    ) -> Result<Self::Out, Fault>
+        ensures same { of.new.view ≡ of.old.view }
+        ensures right { IfOk result (λ output. (m : T.Call → T.Answer) → Fits T.Call.eq T.Answer.eq of.new.recording m → Self.def key.now m output []) }
+        ensures fault { IfErr result (λ fault. fault ≡ Fault.Incomplete → of.new.recording.whole ≡ false) };
+
+    // a run reads alone, so that what the function means is the same whatever was written
+    ghost reads: { (key : Self.Key) (m : T.Call → T.Answer) (output : Self.Out) (V W : List T.Call) → Self.Memo.def key m output V → Self.Memo.def key m output W };
+}
+
+impl<F: Function> FunctionOf<F::Of> for MemoOf<F> {
+    type Needs = F::Needs;
+
+    ghost reads = { λ key m output V W right. right };
+
+    fn run(
+        key: &F::Key,
+        of: &mut Recorder<'_, F::Of>,
+        needs: &mut F::Needs,
+    ) -> Result<F::Out, Fault> {
+        F::run(key, of, needs)
+    }
+}
+
 /// Calls a memoized function: gives the output that its cache keeps where an entry agrees, or runs it and keeps what it
 /// gave.
 ///
@@ -157,20 +193,21 @@ impl<F: Function> Memo for MemoOf<F> {
 /// to its needs stays. A hit costs what `begin` costs. This project's own: a call of a function under comemo's
 /// `#[memoize]`.
 pub fn memoized<
-    F: Function,
-    S: Sink<Call = <F::Of as Track>::Call, Answer = <F::Of as Track>::Answer>,
+    M: FunctionOf<T>,
+    T: Track,
+    S: Sink<Call = T::Call, Answer = T::Answer>,
 >(
     alloc: Global,
-    cache: &mut CacheData<MemoOf<F>>,
-    needs: &mut F::Needs,
-    key: F::Key,
-    of: &Tracked<'_, F::Of>,
+    cache: &mut CacheData<M>,
+    needs: &mut M::Needs,
+    key: M::Key,
+    of: &Tracked<'_, T>,
     sink: &mut S,
     enabled: bool,
-) -> Result<Reply<F::Out>, Fault>
-    ensures right { IfOk result (λ reply. F.means key (F.Of.answers of.now) reply.output) }
-    ensures gave { IfOk result (λ reply. Gave F.Of.Call.eq F.Of.Answer.eq (λ k m output _. F.means k m output) S.took key (F.Of.answers of.now) sink.old reply.output sink.new) }
-    ensures came { IfOk result (λ reply. Came F.Of.Call.eq F.Of.Answer.eq F.Key.eq F.Out.is_clone key (F.Of.answers of.now) enabled reply.output cache.old cache.old reply.how cache.new) }
+) -> Result<Reply<M::Out>, Fault>
+    ensures right { IfOk result (λ reply. M.def key (T.answers of.now) reply.output []) }
+    ensures gave { IfOk result (λ reply. Gave T.Call.eq T.Answer.eq M.def S.took key (T.answers of.now) sink.old reply.output sink.new) }
+    ensures came { IfOk result (λ reply. Came T.Call.eq T.Answer.eq M.Key.eq M.Out.is_clone key (T.answers of.now) enabled reply.output cache.old cache.old reply.how cache.new) }
     ensures err { OnErr result ((cache.new ≡ cache.old) × S.spoils sink.old sink.new) }
 {
     let mut input = Keyed {
@@ -184,7 +221,7 @@ pub fn memoized<
         }),
         Begun::Run(mut pending) => {
             let mut recorder = Recorder::new(alloc, of.fork());
-            let ran = F::run(&input.key, &mut recorder, needs);
+            let ran = M::run(&input.key, &mut recorder, needs);
             let Recorder {
                 alloc: _,
                 view: _,

@@ -11,7 +11,7 @@ pub mod memoize;
 pub use begin::{Begun, Fault, Pending};
 pub use closure::Record;
 pub use finish::{How, Reply};
-pub use function::{Function, MemoOf, Recorder};
+pub use function::{Function, FunctionOf, MemoOf, Recorder};
 pub use memoize::{CacheData, Found, Memo};
 pub use tracking::{
     Call, CallMap, Constraint, First, Hashed, Input, Keyed, MappedSink, Multi, MultiAnswer, MultiCall, Second, Sink, Top, Track,
