@@ -3,6 +3,7 @@ use Rattle.std.proofs.Common.{◌≡◌, List, [], ◌∷◌, ◌++◌, refl, sy
 use Rattle.tracking.specs.Multi.{part_answers, firsts, seconds}
 use Rattle.tracking.specs.declared.multi.MultiCall.{MultiCall}
 use Rattle.tracking.specs.declared.multi.MultiCall.TheVariants as call
+use Rattle.tracking.specs.declared.multi.MultiAnswer.{MultiAnswer}
 use Rattle.tracking.specs.declared.multi.MultiAnswer.TheVariants as answer
 
 module _ {X Y : Type 0} where
@@ -12,6 +13,13 @@ module _ {X Y : Type 0} where
   by_parts T p q r s (call.B c) (call.B d) = q c d
   by_parts T p q r s (call.A c) (call.B d) = r c d
   by_parts T p q r s (call.B c) (call.A d) = s c d
+
+  -- the same of answers
+  pub by_answers : (T : MultiAnswer X Y → MultiAnswer X Y → Type 0) → ((a b : X) → T (answer.A a) (answer.A b)) → ((a b : Y) → T (answer.B a) (answer.B b)) → ((a : X) (b : Y) → T (answer.A a) (answer.B b)) → ((a : Y) (b : X) → T (answer.B a) (answer.A b)) → (x y : MultiAnswer X Y) → T x y
+  by_answers T p q r s (answer.A a) (answer.A b) = p a b
+  by_answers T p q r s (answer.B a) (answer.B b) = q a b
+  by_answers T p q r s (answer.A a) (answer.B b) = r a b
+  by_answers T p q r s (answer.B a) (answer.A b) = s a b
 
   pub firsts-append : (V W : List (MultiCall X Y)) → firsts (V ++ W) ≡ firsts V ++ firsts W
   firsts-append [] W = refl

@@ -2,12 +2,14 @@
 //! input of a memoized function.
 #![tactic(auto)]
 
+pub mod both;
 pub mod constraint;
 pub mod input;
 pub mod mapped;
 pub mod multi;
 pub mod track;
 
+pub use both::Both;
 pub use constraint::Constraint;
 pub use input::{Hashed, Input, Keyed};
 pub use mapped::{CallMap, MappedSink};

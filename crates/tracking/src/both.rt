@@ -1,0 +1,43 @@
+//! Tracked values joined: several as one.
+ghost use Rattle.std.proofs.Common.{rules};
+
+use crate::multi::{MultiAnswer, MultiCall};
+use crate::track::{Track, Tracked};
+use std::alloc::AllocError;
+
+/// Views joined: two tracked values as one, each of which may be two itself.
+///
+/// Each call and its answer are a part's, as those of `Multi` are. What is joined is tracked itself, so that a run can be
+/// handed it by one view. It takes no memory. This project's own: comemo's functions take their tracked arguments side by
+/// side.
+#[derive(Drop)]
+pub struct Both<'a, A, B> {
+    pub first: Tracked<'a, A>,
+    pub second: Tracked<'a, B>,
+}
+
+/// An answer takes what its part takes, and is refused where its part's is.
+impl<'a, A: Track, B: Track> Track for Both<'a, A, B> {
+    type Call = MultiCall<A::Call, B::Call>;
+
+    type Answer = MultiAnswer<A::Answer, B::Answer>;
+
+    ghost use Rattle.tracking.specs.Multi.{part_answers};
+    ghost use Rattle.tracking.specs.MultiLaws.{by_parts, by_answers};
+
+    ghost answers = { λ s. part_answers (A.answers s.first) (B.answers s.second) };
+
+    ghost alike = { λ s. by_parts _ (A.alike s.first) (B.alike s.second) (λ c d h. Prim.search rules) (λ c d h. Prim.search rules) };
+
+    ghost clones = { by_answers _ A.clones B.clones (λ a b h. Prim.search rules) (λ a b h. Prim.search rules) };
+
+    fn ask(
+        &self,
+        call: &MultiCall<A::Call, B::Call>,
+    ) -> Result<MultiAnswer<A::Answer, B::Answer>, AllocError> {
+        match call {
+            MultiCall::A(call) => Ok(MultiAnswer::A(self.first.fork().call(call)?)),
+            MultiCall::B(call) => Ok(MultiAnswer::B(self.second.fork().call(call)?)),
+        }
+    }
+}
