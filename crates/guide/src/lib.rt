@@ -11,6 +11,7 @@ pub mod numbers;
 pub mod orders;
 pub mod passes;
 pub mod report;
+pub mod several;
 #[cfg(test)]
 mod tests;
 pub mod texts;

@@ -85,12 +85,8 @@ impl<L: Loader> Function for Contents<L> {
 
     ghost laws = { Prim.search (rules, each_same, same_bytes) };
 
-    fn run(
-        path: &String,
-        library: &mut Recorder<'_, Library<L>>,
-        _needs: &mut (),
-    ) -> Result<Vec<u8>, Fault> {
-        let bytes = library.ask(LibraryCall::Load(path.clone()?))?;
+    fn run(path: &String, of: &mut Recorder<'_, Library<L>>, _: &mut ()) -> Result<Vec<u8>, Fault> {
+        let bytes = of.ask(LibraryCall::Load(path.clone()?))?;
         Ok(bytes)
     }
 }

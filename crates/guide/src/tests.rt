@@ -9,6 +9,7 @@ use crate::numbers::{DoubleFlat, Flat, Identity, Sum, SumBelow};
 use crate::orders::{Both, Either, Exceeds, Turn};
 use crate::passes::Passes;
 use crate::report::{Kept, Report};
+use crate::several::IsWarmer;
 use crate::texts::Same;
 use crate::town::Town;
 use crate::warmth::Warmth;
@@ -407,6 +408,56 @@ fn numbers_are_added_up_once(rt: HostRuntime) -> Result<(), Fail> {
         assert_eq!(rt; reply.output, 499500);
         assert_eq!(rt; reply.how, how);
     }
+    Ok(())
+}
+
+/// Asks which of two towns is warmer.
+fn is_warmer(
+    alloc: Global,
+    cache: &mut CacheData<IsWarmer>,
+    one: &Town,
+    other: &Town,
+) -> Result<Reply<bool>, Fault> {
+    let towns = comemo::Both {
+        first: one.track(),
+        second: other.track(),
+    };
+    memoized(
+        alloc,
+        cache,
+        &mut (),
+        (),
+        &towns.track(),
+        &mut Top::new(),
+        true,
+    )
+}
+
+#[test]
+fn two_towns_are_asked_of_what_was_asked_of_each(rt: HostRuntime) -> Result<(), Fail> {
+    let alloc = rt.alloc();
+    let mut cache: CacheData<IsWarmer> = CacheData::new(alloc);
+    let mut one = town(900, 21);
+    let mut other = town(50, 24);
+    let first = is_warmer(alloc, &mut cache, &one, &other)?;
+    assert_eq!(rt; first.output, false);
+    assert_eq!(rt; first.how, How::Stored);
+    one.people = 1000;
+    other.people = 2000;
+    let grown = is_warmer(alloc, &mut cache, &one, &other)?;
+    assert_eq!(rt; grown.output, false);
+    assert_eq!(rt; grown.how, How::Hit);
+    other.degrees = 20;
+    let cooled = is_warmer(alloc, &mut cache, &one, &other)?;
+    assert_eq!(rt; cooled.output, true);
+    assert_eq!(rt; cooled.how, How::Stored);
+    let turned = is_warmer(alloc, &mut cache, &other, &one)?;
+    assert_eq!(rt; turned.output, false);
+    assert_eq!(rt; turned.how, How::Stored);
+    one.degrees = 21;
+    let again = is_warmer(alloc, &mut cache, &one, &other)?;
+    assert_eq!(rt; again.output, true);
+    assert_eq!(rt; again.how, How::Hit);
     Ok(())
 }
 

@@ -1,0 +1,44 @@
+//! A function of two tracked values.
+ghost use Rattle.std.specs.Prelude.{◌≡◌, nat_lt};
+ghost use Rattle.std.proofs.Common.{rules};
+
+use crate::town::{Town, TownCall};
+use comemo::{Both, Fault, FunctionOf, Memo, MultiAnswer, MultiCall, Recorder};
+
+/// Whether the first of two towns is warmer than the second.
+pub struct IsWarmer;
+
+impl Memo for IsWarmer {
+    type Call = MultiCall<TownCall, TownCall>;
+
+    type Key = ();
+
+    type Answer = MultiAnswer<u64, u64>;
+
+    type Out = bool;
+
+    ghost use Rattle.tracking.specs.Multi.{OnParts};
+    ghost use Rattle.guide.specs.declared.town.TownCall.TheVariants.{Degrees};
+
+    ghost def = { λ _ m out _. OnParts m (λ one other. out ≡ nat_lt (other Degrees) (one Degrees)) };
+
+    ghost output_clones = { Prim.search rules };
+
+    ghost key_alike = { Prim.search rules };
+
+    ghost key_clones = { Prim.search rules };
+
+    ghost answer_clones = { Prim.search rules };
+}
+
+impl<'a> FunctionOf<Both<'a, Town, Town>> for IsWarmer {
+    type Needs = ();
+
+    ghost reads = { λ key m out V W right. right };
+
+    fn run(_: &(), towns: &mut Recorder<'_, Both<'a, Town, Town>>, _: &mut ()) -> Result<bool, Fault> {
+        let one = towns.ask_first(TownCall::Degrees)?;
+        let other = towns.ask_second(TownCall::Degrees)?;
+        Ok(one > other)
+    }
+}
