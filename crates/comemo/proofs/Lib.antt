@@ -6,3 +6,4 @@ pub mod Calls
 pub mod Closures
 pub mod Growing
 pub mod JoinedHits
+pub mod ThroughMaps

@@ -10,8 +10,6 @@ use tracking::constraint::Constraint;
 use crate::finish::{How, Reply};
 use tracking::input::Keyed;
 use crate::memoize::{CacheData, Memo};
-use tracking::both::Both;
-use tracking::multi::{MultiAnswer, MultiCall};
 use tracking::track::{Call, Sink, Track, Tracked};
 use std::alloc::Global;
 use std::hash::Hash;
@@ -57,9 +55,9 @@ pub trait Function {
 /// This project's own.
 #[derive(Drop)]
 pub struct Recorder<'a, T: Track> {
-    alloc: Global,
-    view: Tracked<'a, T>,
-    recording: Constraint<T::Call, T::Answer>,
+    pub(crate) alloc: Global,
+    pub(crate) view: Tracked<'a, T>,
+    pub(crate) recording: Constraint<T::Call, T::Answer>,
     // while nothing is lost, the value's answers agree with what is recorded
     ghost agrees: { recording.whole ≡ true → Agrees T.Answer.eq (T.answers view) recording.pairs } by { agrees_if_prop T.Answer.eq (T.answers view) recording.whole recording.pairs },
 }
@@ -121,47 +119,6 @@ impl<'a, T: Track> Recorder<'a, T> {
             true,
         )?;
         Ok(reply.output)
-    }
-}
-
-/// What a run asks of two values that are one.
-///
-/// A part that is two values itself is asked by a `MultiCall`, and answers by a `MultiAnswer`.
-impl<'a, 'b, A: Track, B: Track> Recorder<'a, Both<'b, A, B>> {
-    ghost use Rattle.tracking.specs.Multi.{first_call, second_call, first_answer, second_answer};
-    ghost use Rattle.tracking.specs.declared.multi.MultiCall.{MultiCall};
-    ghost use Rattle.tracking.specs.declared.multi.MultiAnswer.{MultiAnswer};
-
-    /// Asks the first value a read, and records it as a call of both. Else it is as `ask`.
-    pub fn ask_first(&mut self, call: A::Call) -> Result<A::Answer, Fault>
-        requires { A.Call.is_write call ≡ false }
-        ensures same { self.new.view ≡ self.old.view }
-        ensures before { OnOk result ((m : MultiCall A.Call B.Call → MultiAnswer A.Answer B.Answer) → Fits ⟦<MultiCall<A::Call, B::Call> as PartialEq>⟧.eq ⟦<MultiAnswer<A::Answer, B::Answer> as PartialEq>⟧.eq self.new.recording m → Fits ⟦<MultiCall<A::Call, B::Call> as PartialEq>⟧.eq ⟦<MultiAnswer<A::Answer, B::Answer> as PartialEq>⟧.eq self.old.recording m) }
-        ensures told { IfOk result (λ answer. (m : MultiCall A.Call B.Call → MultiAnswer A.Answer B.Answer) → Fits ⟦<MultiCall<A::Call, B::Call> as PartialEq>⟧.eq ⟦<MultiAnswer<A::Answer, B::Answer> as PartialEq>⟧.eq self.new.recording m → (part : A.Call → A.Answer) → ((c : A.Call) → m (first_call c) ≡ first_answer (part c)) → IsTrue (A.Answer.eq (part call) answer)) }
-        ensures answer { IfOk result (λ answer. IsTrue (A.Answer.eq (A.answers self.old.view.first call) answer)) }
-        ensures whole { self.new.recording.whole ≡ self.old.recording.whole }
-        ensures err { IfErr result (λ fault. (fault ≡ Fault.Memory) × (self.new.recording.pairs ≡ self.old.recording.pairs)) }
-    {
-        match self.ask(MultiCall::A(call))? {
-            MultiAnswer::A(answer) => Ok(answer),
-            MultiAnswer::B(_) => unreachable!(),
-        }
-    }
-
-    /// Asks the second value a read, and records it as a call of both. Else it is as `ask`.
-    pub fn ask_second(&mut self, call: B::Call) -> Result<B::Answer, Fault>
-        requires { B.Call.is_write call ≡ false }
-        ensures same { self.new.view ≡ self.old.view }
-        ensures before { OnOk result ((m : MultiCall A.Call B.Call → MultiAnswer A.Answer B.Answer) → Fits ⟦<MultiCall<A::Call, B::Call> as PartialEq>⟧.eq ⟦<MultiAnswer<A::Answer, B::Answer> as PartialEq>⟧.eq self.new.recording m → Fits ⟦<MultiCall<A::Call, B::Call> as PartialEq>⟧.eq ⟦<MultiAnswer<A::Answer, B::Answer> as PartialEq>⟧.eq self.old.recording m) }
-        ensures told { IfOk result (λ answer. (m : MultiCall A.Call B.Call → MultiAnswer A.Answer B.Answer) → Fits ⟦<MultiCall<A::Call, B::Call> as PartialEq>⟧.eq ⟦<MultiAnswer<A::Answer, B::Answer> as PartialEq>⟧.eq self.new.recording m → (part : B.Call → B.Answer) → ((c : B.Call) → m (second_call c) ≡ second_answer (part c)) → IsTrue (B.Answer.eq (part call) answer)) }
-        ensures answer { IfOk result (λ answer. IsTrue (B.Answer.eq (B.answers self.old.view.second call) answer)) }
-        ensures whole { self.new.recording.whole ≡ self.old.recording.whole }
-        ensures err { IfErr result (λ fault. (fault ≡ Fault.Memory) × (self.new.recording.pairs ≡ self.old.recording.pairs)) }
-    {
-        match self.ask(MultiCall::B(call))? {
-            MultiAnswer::B(answer) => Ok(answer),
-            MultiAnswer::A(_) => unreachable!(),
-        }
     }
 }
 

@@ -7,6 +7,7 @@ pub mod closure;
 pub mod finish;
 pub mod function;
 pub mod memoize;
+pub mod parts;
 
 pub use begin::{Begun, Fault, Pending};
 pub use closure::Record;

@@ -1,9 +1,12 @@
-//! A function of two tracked values.
-ghost use Rattle.std.specs.Prelude.{◌≡◌, nat_lt};
+//! Functions of two tracked values.
+ghost use Rattle.std.specs.Prelude.{◌≡◌, ◌-◌, nat_lt};
 ghost use Rattle.std.proofs.Common.{rules};
 
 use crate::town::{Town, TownCall};
-use comemo::{Both, Fault, FunctionOf, Memo, MultiAnswer, MultiCall, Recorder};
+use crate::warmth::Warmth;
+use comemo::{
+    Both, CacheData, Fault, FunctionOf, Memo, MemoOf, MultiAnswer, MultiCall, Recorder,
+};
 
 /// Whether the first of two towns is warmer than the second.
 pub struct IsWarmer;
@@ -40,5 +43,47 @@ impl<'a> FunctionOf<Both<'a, Town, Town>> for IsWarmer {
         let one = towns.ask_first(TownCall::Degrees)?;
         let other = towns.ask_second(TownCall::Degrees)?;
         Ok(one > other)
+    }
+}
+
+/// How much warmer the first of two towns is than the second; 0 where it isn't.
+pub struct Lead;
+
+impl Memo for Lead {
+    type Call = MultiCall<TownCall, TownCall>;
+
+    type Key = ();
+
+    type Answer = MultiAnswer<u64, u64>;
+
+    type Out = u64;
+
+    ghost use Rattle.tracking.specs.Multi.{OnParts};
+    ghost use Rattle.guide.specs.declared.town.TownCall.TheVariants.{Degrees};
+
+    ghost def = { λ _ m out _. OnParts m (λ one other. out ≡ one Degrees - other Degrees) };
+
+    ghost output_clones = { Prim.search rules };
+
+    ghost key_alike = { Prim.search rules };
+
+    ghost key_clones = { Prim.search rules };
+
+    ghost answer_clones = { Prim.search rules };
+}
+
+impl<'a> FunctionOf<Both<'a, Town, Town>> for Lead {
+    type Needs = CacheData<MemoOf<Warmth>>;
+
+    ghost reads = { λ key m out V W right. right };
+
+    fn run(
+        _key: &(),
+        towns: &mut Recorder<'_, Both<'a, Town, Town>>,
+        kept: &mut CacheData<MemoOf<Warmth>>,
+    ) -> Result<u64, Fault> {
+        let one = towns.call_first(kept, &mut (), ())?;
+        let other = towns.call_second(kept, &mut (), ())?;
+        Ok(one.saturating_sub(other))
     }
 }

@@ -9,7 +9,7 @@ use crate::numbers::{DoubleFlat, Flat, Identity, Sum, SumBelow};
 use crate::orders::{Both, Either, Exceeds, Turn};
 use crate::passes::Passes;
 use crate::report::{Kept, Report};
-use crate::several::IsWarmer;
+use crate::several::{IsWarmer, Lead};
 use crate::texts::Same;
 use crate::town::Town;
 use crate::warmth::Warmth;
@@ -458,6 +458,57 @@ fn two_towns_are_asked_of_what_was_asked_of_each(rt: HostRuntime) -> Result<(), 
     let again = is_warmer(alloc, &mut cache, &one, &other)?;
     assert_eq!(rt; again.output, true);
     assert_eq!(rt; again.how, How::Hit);
+    Ok(())
+}
+
+/// Asks how much warmer one town is than another.
+fn lead(
+    alloc: Global,
+    cache: &mut CacheData<Lead>,
+    kept: &mut CacheData<MemoOf<Warmth>>,
+    one: &Town,
+    other: &Town,
+) -> Result<Reply<u64>, Fault> {
+    let towns = comemo::Both {
+        first: one.track(),
+        second: other.track(),
+    };
+    memoized(
+        alloc,
+        cache,
+        kept,
+        (),
+        &towns.track(),
+        &mut Top::new(),
+        true,
+    )
+}
+
+#[test]
+fn a_function_of_two_towns_calls_one_of_each(rt: HostRuntime) -> Result<(), Fail> {
+    let alloc = rt.alloc();
+    let mut cache: CacheData<Lead> = CacheData::new(alloc);
+    let mut kept: CacheData<MemoOf<Warmth>> = CacheData::new(alloc);
+    let mut one = town(900, 24);
+    let mut other = town(50, 21);
+    let first = lead(alloc, &mut cache, &mut kept, &one, &other)?;
+    assert_eq!(rt; first.output, 3);
+    assert_eq!(rt; first.how, How::Stored);
+    assert_eq!(rt; kept.len(), 2);
+    one.people = 1000;
+    other.people = 2000;
+    let grown = lead(alloc, &mut cache, &mut kept, &one, &other)?;
+    assert_eq!(rt; grown.output, 3);
+    assert_eq!(rt; grown.how, How::Hit);
+    let turned = lead(alloc, &mut cache, &mut kept, &other, &one)?;
+    assert_eq!(rt; turned.output, 0);
+    assert_eq!(rt; turned.how, How::Stored);
+    assert_eq!(rt; kept.len(), 2);
+    other.degrees = 20;
+    let cooled = lead(alloc, &mut cache, &mut kept, &one, &other)?;
+    assert_eq!(rt; cooled.output, 4);
+    assert_eq!(rt; cooled.how, How::Stored);
+    assert_eq!(rt; kept.len(), 3);
     Ok(())
 }
 

@@ -1,4 +1,5 @@
 //! Tracked values joined: several as one.
+ghost use Rattle.std.specs.Prelude.{◌≡◌};
 ghost use Rattle.std.proofs.Common.{rules};
 
 use crate::multi::{MultiAnswer, MultiCall};
@@ -39,5 +40,22 @@ impl<'a, A: Track, B: Track> Track for Both<'a, A, B> {
             MultiCall::A(call) => Ok(MultiAnswer::A(self.first.fork().call(call)?)),
             MultiCall::B(call) => Ok(MultiAnswer::B(self.second.fork().call(call)?)),
         }
+    }
+}
+
+/// What a view of two values gives: views of the parts, which take no memory.
+impl<'a, 'b, A: Track, B: Track> Tracked<'a, Both<'b, A, B>> {
+    /// A view of the first value.
+    pub fn first(&self) -> Tracked<'b, A>
+        ensures { result ≡ self.now.first }
+    {
+        self.value.first.fork()
+    }
+
+    /// A view of the second value.
+    pub fn second(&self) -> Tracked<'b, B>
+        ensures { result ≡ self.now.second }
+    {
+        self.value.second.fork()
     }
 }

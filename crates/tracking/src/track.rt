@@ -244,7 +244,7 @@ impl Track for () {
 /// comemo's `Tracked`. It does not lend its value.
 #[derive(Drop)]
 pub struct Tracked<'a, T> {
-    value: &'a T,
+    pub(crate) value: &'a T,
 }
 
 impl<'a, T> Model for Tracked<'a, T> {
