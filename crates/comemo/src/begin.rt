@@ -4,12 +4,12 @@ ghost use Rattle.std.specs.List.{All};
 ghost use Rattle.comemo.specs.Begin.{IsHit, IsRun};
 ghost use Rattle.comemo.specs.Begun.{OnBegun};
 
-use tracking::constraint::Constraint;
-use tracking::input::Input;
 use crate::memoize::{CacheData, Found, Memo};
-use tracking::track::{Call, Sink};
 use std::alloc::{AllocError, Global};
 use std::marker::Model;
+use tracking::constraint::Constraint;
+use tracking::input::Input;
+use tracking::track::{Call, Sink};
 
 /// Why a call failed. Each fault spoils the sink.
 ///

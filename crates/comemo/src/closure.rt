@@ -7,12 +7,12 @@ ghost use Rattle.comemo.specs.Cache.{Stands};
 ghost use Rattle.comemo.specs.Closure.{Starts, Ran, Ended, IsFault};
 
 use crate::begin::{Begun, Fault, begin};
-use tracking::constraint::Constraint;
 use crate::finish::{How, Reply};
-use tracking::input::Input;
 use crate::memoize::{CacheData, Memo};
-use tracking::track::{Call, Sink};
 use std::alloc::Global;
+use tracking::constraint::Constraint;
+use tracking::input::Input;
+use tracking::track::{Call, Sink};
 
 /// The recording that a closure is handed. `Constraint` is one, and there is no other.
 ///

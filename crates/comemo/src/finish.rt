@@ -8,11 +8,11 @@ ghost use Rattle.comemo.specs.Called.{Gave, Grows};
 ghost use Rattle.comemo.specs.Finish.{Ends, Gives};
 
 use crate::begin::{Fault, Pending, give_pairs};
-use tracking::constraint::Constraint;
 use crate::memoize::{CacheData, Memo};
-use tracking::track::{Call, Sink};
 use comemo_base::{CallSequence, InsertError};
 use std::alloc::{AllocError, Global};
+use tracking::constraint::Constraint;
+use tracking::track::{Call, Sink};
 
 /// What became of a call of a memoized function. With all but `Hit` the sink has the run's recording.
 ///

@@ -6,14 +6,14 @@ ghost use Rattle.comemo.specs.Function.{Fits, Laws};
 ghost use Rattle.comemo.specs.FunctionLaws.{agrees_if_prop};
 
 use crate::begin::{Begun, Fault, begin};
-use tracking::constraint::Constraint;
 use crate::finish::{How, Reply};
-use tracking::input::Keyed;
 use crate::memoize::{CacheData, Memo};
-use tracking::track::{Call, Sink, Track, Tracked};
 use std::alloc::Global;
 use std::hash::Hash;
 use std::marker::PhantomData;
+use tracking::constraint::Constraint;
+use tracking::input::Keyed;
+use tracking::track::{Call, Sink, Track, Tracked};
 
 /// A memoized function of a key and a tracked value.
 ///
@@ -192,11 +192,7 @@ impl<F: Function> FunctionOf<F::Of> for MemoOf<F> {
 /// false there is no look-up, and nothing is kept. A fault leaves the cache as it was and spoils the sink; what the run did
 /// to its needs stays. A hit costs what `begin` costs. This project's own: a call of a function under comemo's
 /// `#[memoize]`.
-pub fn memoized<
-    M: FunctionOf<T>,
-    T: Track,
-    S: Sink<Call = T::Call, Answer = T::Answer>,
->(
+pub fn memoized<M: FunctionOf<T>, T: Track, S: Sink<Call = T::Call, Answer = T::Answer>>(
     alloc: Global,
     cache: &mut CacheData<M>,
     needs: &mut M::Needs,

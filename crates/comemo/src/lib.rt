@@ -15,6 +15,6 @@ pub use finish::{How, Reply};
 pub use function::{Function, FunctionOf, MemoOf, Recorder};
 pub use memoize::{CacheData, Found, Memo};
 pub use tracking::{
-    Both, Call, CallMap, Constraint, First, Hashed, Input, Keyed, MappedSink, Multi, MultiAnswer, MultiCall, Second, Sink, Top, Track,
-    Tracked, TrackedWith,
+    Both, Call, CallMap, Constraint, First, Hashed, Input, Keyed, MappedSink, Multi, MultiAnswer,
+    MultiCall, Second, Sink, Top, Track, Tracked, TrackedWith,
 };

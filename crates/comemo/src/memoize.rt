@@ -7,12 +7,12 @@ ghost use Rattle.comemo_base.specs.Tree.{stored};
 ghost use Rattle.comemo_base.specs.Insertion.{Exists, Misses, IsNewPath, IsReason};
 ghost use Rattle.comemo.specs.Cache.{Output, Stands, HasNone, Has};
 
-use tracking::input::{Input, find_agreeing};
-use tracking::track::Call;
 use comemo_base::{CallSequence, CallTree, InsertError};
 use std::alloc::{AllocError, Global};
 use std::hash::Hash;
 use std::marker::Model;
+use tracking::input::{Input, find_agreeing};
+use tracking::track::Call;
 
 /// A memoized function: the types of its calls, keys, answers and outputs, and what it means.
 ///

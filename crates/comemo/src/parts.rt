@@ -19,7 +19,8 @@ impl<'a, T: Track> Recorder<'a, T> {
     fn call_through<
         A: Track,
         G: FunctionOf<A>,
-        P: CallMap<From = A::Call, FromAnswer = A::Answer, To = T::Call, ToAnswer = T::Answer> + Drop,
+        P: CallMap<From = A::Call, FromAnswer = A::Answer, To = T::Call, ToAnswer = T::Answer>
+            + Drop,
     >(
         &mut self,
         cache: &mut CacheData<G>,

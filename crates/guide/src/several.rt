@@ -4,9 +4,7 @@ ghost use Rattle.std.proofs.Common.{rules};
 
 use crate::town::{Town, TownCall};
 use crate::warmth::Warmth;
-use comemo::{
-    Both, CacheData, Fault, FunctionOf, Memo, MemoOf, MultiAnswer, MultiCall, Recorder,
-};
+use comemo::{Both, CacheData, Fault, FunctionOf, Memo, MemoOf, MultiAnswer, MultiCall, Recorder};
 
 /// Whether the first of two towns is warmer than the second.
 pub struct IsWarmer;
@@ -39,7 +37,11 @@ impl<'a> FunctionOf<Both<'a, Town, Town>> for IsWarmer {
 
     ghost reads = { λ key m out V W right. right };
 
-    fn run(_: &(), towns: &mut Recorder<'_, Both<'a, Town, Town>>, _: &mut ()) -> Result<bool, Fault> {
+    fn run(
+        _: &(),
+        towns: &mut Recorder<'_, Both<'a, Town, Town>>,
+        _: &mut (),
+    ) -> Result<bool, Fault> {
         let one = towns.ask_first(TownCall::Degrees)?;
         let other = towns.ask_second(TownCall::Degrees)?;
         Ok(one > other)
