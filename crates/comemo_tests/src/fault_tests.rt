@@ -27,7 +27,7 @@ fn told_of_closure(alloc: Global, fault: Fault) -> (Option<Fault>, bool) {
 fn told_of<F: Function<Key = bool, Of = Context>>(
     alloc: Global,
     needs: &mut F::Needs,
-    without_memory: bool,
+    hands_on: bool,
 ) -> (Option<Fault>, bool) {
     let mut cache: CacheData<MemoOf<F>> = CacheData::new(alloc);
     let mut outer: Constraint<ContextCall, u64> = Constraint::new(alloc);
@@ -35,7 +35,7 @@ fn told_of<F: Function<Key = bool, Of = Context>>(
         alloc,
         &mut cache,
         needs,
-        without_memory,
+        hands_on,
         &context().track(),
         &mut outer,
         true,
@@ -60,12 +60,13 @@ fn a_fault_of_a_closure_is_answered(rt: HostRuntime) -> Result<(), Fail> {
 #[test]
 fn a_fault_of_a_function_is_answered(rt: HostRuntime) -> Result<(), Fail> {
     let alloc = rt.alloc();
+    let mut cache = CacheData::new(alloc);
     assert_eq!(rt;
-        told_of::<Failing>(alloc, &mut (), true),
+        told_of::<Failing>(alloc, &mut cache, true),
         (Some(Fault::Memory), false)
     );
     assert_eq!(rt;
-        told_of::<Failing>(alloc, &mut (), false),
+        told_of::<Failing>(alloc, &mut cache, false),
         (Some(Fault::Incomplete), false)
     );
     Ok(())
@@ -74,13 +75,13 @@ fn a_fault_of_a_function_is_answered(rt: HostRuntime) -> Result<(), Fail> {
 #[test]
 fn a_fault_of_a_called_function_is_handed_on(rt: HostRuntime) -> Result<(), Fail> {
     let alloc = rt.alloc();
-    let mut cache = CacheData::new(alloc);
+    let mut kept = (CacheData::new(alloc), CacheData::new(alloc));
     assert_eq!(rt;
-        told_of::<Calling>(alloc, &mut cache, true),
+        told_of::<Calling>(alloc, &mut kept, true),
         (Some(Fault::Memory), false)
     );
     assert_eq!(rt;
-        told_of::<Calling>(alloc, &mut cache, false),
+        told_of::<Calling>(alloc, &mut kept, false),
         (Some(Fault::Incomplete), false)
     );
     Ok(())

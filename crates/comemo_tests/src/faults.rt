@@ -8,11 +8,11 @@ use comemo::closure::memoize;
 use comemo::{CacheData, Constraint, Fault, Function, MemoOf, Recorder, Reply, Sink, Tracked};
 use std::alloc::Global;
 
-/// A function whose runs all end in a fault: `Memory` where its key is true, and else `Incomplete`.
-pub struct Failing;
+/// A function whose runs all end for want of memory.
+pub struct Refused;
 
-impl Function for Failing {
-    type Key = bool;
+impl Function for Refused {
+    type Key = ();
 
     type Of = Context;
 
@@ -24,16 +24,38 @@ impl Function for Failing {
 
     ghost laws = { Prim.search rules };
 
+    fn run(_key: &(), _of: &mut Recorder<'_, Context>, _needs: &mut ()) -> Result<u64, Fault> {
+        Err(Fault::Memory)
+    }
+}
+
+/// A function that calls one that is refused, and hands its fault on where its key is true; else it says that its own
+/// recording is spoiled, as it is then.
+pub struct Failing;
+
+impl Function for Failing {
+    type Key = bool;
+
+    type Of = Context;
+
+    type Out = u64;
+
+    type Needs = CacheData<MemoOf<Refused>>;
+
+    ghost means = { λ _ _ _. ⊥ };
+
+    ghost laws = { Prim.search rules };
+
     fn run(
-        without_memory: &bool,
-        _of: &mut Recorder<'_, Context>,
-        _needs: &mut (),
+        hands_on: &bool,
+        of: &mut Recorder<'_, Context>,
+        cache: &mut CacheData<MemoOf<Refused>>,
     ) -> Result<u64, Fault> {
-        if *without_memory {
-            Err(Fault::Memory)
-        } else {
-            Err(Fault::Incomplete)
+        let called = of.call(cache, &mut (), ());
+        if called.is_err() && !*hands_on {
+            return Err(Fault::Incomplete);
         }
+        called
     }
 }
 
@@ -47,18 +69,18 @@ impl Function for Calling {
 
     type Out = u64;
 
-    type Needs = CacheData<MemoOf<Failing>>;
+    type Needs = (CacheData<MemoOf<Failing>>, CacheData<MemoOf<Refused>>);
 
     ghost means = { λ _ _ _. ⊥ };
 
     ghost laws = { Prim.search rules };
 
     fn run(
-        without_memory: &bool,
+        hands_on: &bool,
         of: &mut Recorder<'_, Context>,
-        cache: &mut CacheData<MemoOf<Failing>>,
+        kept: &mut (CacheData<MemoOf<Failing>>, CacheData<MemoOf<Refused>>),
     ) -> Result<u64, Fault> {
-        of.call(cache, &mut (), *without_memory)
+        of.call(&mut kept.0, &mut kept.1, *hands_on)
     }
 }
 
