@@ -6,3 +6,4 @@ pub mod Told
 pub mod Validating
 pub mod Through
 pub mod Joined
+pub mod KeyedViews

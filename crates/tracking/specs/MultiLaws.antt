@@ -1,6 +1,7 @@
 -- The laws of joined inputs, which the traits ask. They say nothing that a reader must believe.
-use Rattle.std.proofs.Common.{◌≡◌, List, [], ◌∷◌, ◌++◌, refl, sym, ap, subst}
-use Rattle.tracking.specs.Multi.{part_answers, firsts, seconds}
+use Rattle.std.proofs.Common.{◌≡◌, Bool, IsTrue, List, [], ◌∷◌, ◌++◌, refl, sym, ap, subst}
+use Rattle.comemo_base.specs.Answers.{Respects}
+use Rattle.tracking.specs.Multi.{second_call, second_answer, part_answers, firsts, seconds}
 use Rattle.tracking.specs.declared.multi.MultiCall.{MultiCall}
 use Rattle.tracking.specs.declared.multi.MultiCall.TheVariants as call
 use Rattle.tracking.specs.declared.multi.MultiAnswer.{MultiAnswer}
@@ -34,6 +35,10 @@ module _ {X Y : Type 0} where
   pub part_answers_alike : {P Q : Type 0} (m m' : X → P) (n n' : Y → Q) → ((c : X) → m' c ≡ m c) → ((c : Y) → n' c ≡ n c) → (c : MultiCall X Y) → part_answers m' n' c ≡ part_answers m n c
   part_answers_alike m m' n n' p q (call.A c) = ap (λ a. answer.A a) (p c)
   part_answers_alike m m' n n' p q (call.B c) = ap (λ a. answer.B a) (q c)
+
+  -- answers that tell no equal calls apart do so at the second part
+  pub second_respects : {P Q : Type 0} (eq : MultiCall X Y → MultiCall X Y → Bool) (same : MultiAnswer P Q → MultiAnswer P Q → Bool) (m : MultiCall X Y → MultiAnswer P Q) (n : Y → Q) → Respects eq same m → ((c : Y) → m (second_call c) ≡ second_answer (n c)) → Respects (λ c d. eq (second_call c) (second_call d)) (λ a b. same (second_answer a) (second_answer b)) n
+  second_respects eq same m n respects second c d h = subst (λ b. IsTrue (same (second_answer (n c)) b)) (second d) (subst (λ a. IsTrue (same a (m (second_call d)))) (second c) (respects (second_call c) (second_call d) h))
 
   module _ {S T : Type 0} {did : S → List X → S → Type 0} {does : T → List Y → T → Type 0}
       (joins : (s t u : S) (V W : List X) → did s V t → did t W u → did s (V ++ W) u)
