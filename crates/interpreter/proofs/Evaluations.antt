@@ -8,6 +8,7 @@ use Rattle.comemo.specs.Mapped.{Through}
 use Rattle.comemo.specs.Multi.{OnParts, second_call, second_answer}
 use Rattle.comemo.specs.Recording.{Recording, Took}
 use Rattle.comemo.specs.Sending.{Asks}
+use Rattle.tracking.proofs.KeyedViews.{keyed_calls, keyed_answers, respects_with_key, on_parts, told_read}
 use Rattle.tracking.proofs.Told.{told_pairs}
 use Rattle.scripts.specs.Meaning.{Means, Deep, is_eval}
 use Rattle.scripts.specs.Parts.{IsEval}
@@ -21,7 +22,7 @@ use Rattle.interpreter.specs.declared.files.FileCall.{FileCall}
 use Rattle.interpreter.specs.declared.files.FileCall.TheVariants.{Read}
 use Rattle.interpreter.specs.contracts.files.FileCallPartialEq.TheImpl.{ghosts}
 use Rattle.interpreter.proofs.FileCalls.{same_bytes, same_key}
-use Rattle.interpreter.proofs.JoinedCalls.{same_call, same_answer, calls_told, answers_told, respects_with_key, on_parts, told_text}
+use Rattle.interpreter.proofs.JoinedCalls.{same_call, same_answer, tests}
 
 -- what the memoized function means
 abbrev IsOutcome : String Global × ⊤ → (JoinedCall → JoinedAnswer) → Outcome → List JoinedCall → Type 0
@@ -35,14 +36,14 @@ module _ (m : FileCall → String Global) (respects : Respects ghosts.eq string_
   -- a script was read and came to this, so the part does
   pub learnt_by_call : {u : Recording JoinedCall JoinedAnswer} {key : String Global} {outcome : Outcome} → Agrees same_answer (with_key m) s.pairs → string_bytes key ≡ string_bytes text → Gave same_call same_answer IsOutcome (Took same_call) (key, tt) (with_key m) t outcome u → Learnt ghosts.eq same_answer m s u (λ n. PartComesTo n part outcome)
   learnt_by_call {u = u} {outcome = outcome} agrees same gave =
-      let read = told_text m respects s t own text agrees asks in
-      let ran = told_pairs calls_told answers_told (with_key m) (respects_with_key m respects) t u gave.pairs gave.writes read.agrees gave.agrees gave.sent in (
+      let read = told_read tests m respects s t (Read own) text agrees asks in
+      let ran = told_pairs (keyed_calls tests) (keyed_answers tests) (with_key m) (respects_with_key tests m respects) t u gave.pairs gave.writes read.agrees gave.agrees gave.sent in (
         ran.agrees,
         λ n r a.
-            let both = respects_with_key n r in
+            let both = respects_with_key tests n r in
             let b = ran.before (with_key n) both a in
             let means : Means (At n) (string_bytes text) outcome.value outcome.height = subst (λ script. Means (At n) script outcome.value outcome.height) same (gave.stands (with_key n) both (ran.told (with_key n) both a) (λ _. tt) n (λ c. refl) (λ c. refl)) in
-            (read.before n r b, is_eval is (own, named, read.told n r b) means),
+            (read.before n r b, is_eval is (own, named, same_bytes (n (Read own)) text (read.told n r b)) means),
       )
 
   -- a script was read that goes deeper than the limit
@@ -51,11 +52,11 @@ module _ (m : FileCall → String Global) (respects : Respects ghosts.eq string_
 
 -- what a call gave its sink stands for what it gave its caller
 pub script_given : {S : Type 0} {took : S → List (JoinedCall × JoinedAnswer) → List JoinedCall → S → Type 0} (m : FileCall → String Global) → Respects ghosts.eq string_eq m → {s t : S} {key : String Global} {script : List ℕ} {outcome : Outcome} → string_bytes key ≡ script → Gave same_call same_answer IsOutcome took (key, tt) (with_key m) s outcome t → ComesTo m script outcome
-script_given m respects {outcome = outcome} same gave = subst (λ script. ComesTo m script outcome) same (gave.stands (with_key m) (respects_with_key m respects) gave.agrees (λ _. tt) m (λ c. refl) (λ c. refl))
+script_given m respects {outcome = outcome} same gave = subst (λ script. ComesTo m script outcome) same (gave.stands (with_key m) (respects_with_key tests m respects) gave.agrees (λ _. tt) m (λ c. refl) (λ c. refl))
 
 -- what was learnt of a script, which is the run's key, stands where the run is finished
 pub script_stands : (s : List ℕ) (before after : List (JoinedCall × JoinedAnswer)) (key : String Global) (own : String Global × ⊤) (outcome : Outcome) → string_bytes key ≡ s → IsTrue (string_eq key own.0 && true) → ((n : FileCall → String Global) → Respects ghosts.eq string_eq n → Agrees same_answer (with_key n) after → Agrees same_answer (with_key n) before × ComesTo n s outcome) → (m : JoinedCall → JoinedAnswer) → Respects same_call same_answer m → Agrees same_answer m after → OnParts m (λ _ n. ComesTo n (string_bytes own.0) outcome)
-script_stands s before after key own outcome same has learnt = on_parts after (λ n. ComesTo n (string_bytes own.0) outcome) (λ n r a. subst (λ script. ComesTo n script outcome) (sym same ∙ same_key key own.0 has) (learnt n r a).1)
+script_stands s before after key own outcome same has learnt = on_parts tests after (λ n. ComesTo n (string_bytes own.0) outcome) (λ n r a. subst (λ script. ComesTo n script outcome) (sym same ∙ same_key key own.0 has) (learnt n r a).1)
 
 abbrev fault_or : {A : Type 0} → EvalFault → Result A EvalFault → EvalFault
 fault_or d (Ok x) = d

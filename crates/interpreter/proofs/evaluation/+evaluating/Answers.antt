@@ -2,13 +2,14 @@ use Rattle.std.proofs.Common.{arith, ◌≡◌, [], sym, ap, subst, Err}
 use Rattle.comemo_base.specs.Answers.{Agrees}
 use Rattle.comemo.proofs.Calls.{gave_at_key}
 use Rattle.comemo.proofs.Growing.{grows_on}
+use Rattle.tracking.proofs.KeyedViews.{respects_with_key}
 use Rattle.scripts.specs.Meaning.{is_bad}
 use Rattle.scripts.proofs.Totals.{number_means, leaves_rest, means_at_end, means_at_fault, deep_at_part}
 use Rattle.interpreter.specs.Files.{answer_of, with_key}
 use Rattle.interpreter.specs.Evaluations.{At}
 use Rattle.interpreter.proofs.Evaluations.{learnt_nothing, learnt_by_call, calls_deep, handed_on, script_given, script_stands}
 use Rattle.interpreter.proofs.FileCalls.{answers_alike}
-use Rattle.interpreter.proofs.JoinedCalls.{same_answer, respects_with_key}
+use Rattle.interpreter.proofs.JoinedCalls.{same_answer, tests}
 use Rattle.interpreter.proofs.evaluation.+evaluating.Goals as goal
 
 pub evaluate_part-returns-in-Number-clause-ok : goal.evaluate_part-returns-in-Number-clause-ok
@@ -50,7 +51,7 @@ pub evaluate_within-returns-in-Ok-finish-clause-gave : goal.evaluate_within-retu
 evaluate_within-returns-in-Ok-finish-clause-gave t c =
     let (key, same, run) = rw c.in-Run.is at c.in_ok-output.ensures.begun in
     let learnt = c.in-Ok.ensures.ok in
-    (key, same, gave_at_key run.2 ((rw (c.in-Ok-finish.is, run.1) at c.finish.ensures.gave) _ (respects_with_key _ (answers_alike c.args.files.now.texts c.args.files.now.missing)) learnt.1.0))
+    (key, same, gave_at_key run.2 ((rw (c.in-Ok-finish.is, run.1) at c.finish.ensures.gave) _ (respects_with_key tests _ (answers_alike c.args.files.now.texts c.args.files.now.missing)) learnt.1.0))
 
 pub evaluate_within-returns-in-Ok-finish-clause-grows : goal.evaluate_within-returns-in-Ok-finish-clause-grows
 evaluate_within-returns-in-Ok-finish-clause-grows t c =

@@ -6,7 +6,7 @@ use Rattle.scripts.proofs.Meanings.{deep_of_height}
 use Rattle.interpreter.specs.Files.{answer_of}
 use Rattle.interpreter.specs.Evaluations.{At}
 use Rattle.interpreter.proofs.FileCalls.{answers_alike}
-use Rattle.interpreter.proofs.JoinedCalls.{tells_calls}
+use Rattle.interpreter.proofs.JoinedCalls.{tests}
 use Rattle.interpreter.proofs.evaluation.begin_script.Goals as goal
 
 pub returns-then-limit-eq0-clause-deep : goal.returns-then-limit-eq0-clause-deep
@@ -16,7 +16,7 @@ pub returns-then-outcome-limit-clause-deep : goal.returns-then-outcome-limit-cla
 returns-then-outcome-limit-clause-deep g c = λ _.
     let m = answer_of c.args.files.now.texts c.args.files.now.missing in
     let hit = rw (c.in-Hit.is, c.fork.ensures) at c.in-Ok-begin.ensures.begun in
-    let means = joined_hit hit tells_calls (λ x y h. refl) (answers_alike c.args.files.now.texts c.args.files.now.missing) (λ _. tt) m (λ c. refl) (λ c. refl) in
+    let means = joined_hit hit tests.tells_calls (λ x y h. refl) (answers_alike c.args.files.now.texts c.args.files.now.missing) (λ _. tt) m (λ c. refl) (λ c. refl) in
     deep_of_height (At m) (subst (λ script. Means (At m) script c.in-Hit.outcome.value c.in-Hit.outcome.height) c.in-Ok.ensures.ok means) c.args.limit c.if-outcome-limit.true
 
 pub returns-in-Hit-clause-begun : goal.returns-in-Hit-clause-begun

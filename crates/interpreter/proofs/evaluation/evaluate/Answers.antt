@@ -1,9 +1,10 @@
 use Rattle.std.proofs.Common.{refl}
 use Rattle.comemo.proofs.Calls.{gave_at_key, came_by_reply}
 use Rattle.comemo.proofs.Growing.{grows_on, grows_not}
+use Rattle.tracking.proofs.KeyedViews.{respects_with_key}
 use Rattle.interpreter.proofs.Evaluations.{script_given, script_stands}
 use Rattle.interpreter.proofs.FileCalls.{answers_alike}
-use Rattle.interpreter.proofs.JoinedCalls.{respects_with_key}
+use Rattle.interpreter.proofs.JoinedCalls.{tests}
 use Rattle.interpreter.proofs.evaluation.evaluate.Goals as goal
 
 pub returns-in-Hit-clause-outcome : goal.returns-in-Hit-clause-outcome
@@ -25,7 +26,7 @@ pub returns-in-Ok-finish-clause-gave : goal.returns-in-Ok-finish-clause-gave
 returns-in-Ok-finish-clause-gave g c =
     let (key, same, run) = rw c.in-Run.is at c.in_ok-output.ensures.begun in
     let learnt = c.in-Ok.ensures.ok in
-    (key, same, gave_at_key run.2 ((rw (c.in-Ok-finish.is, run.1) at c.finish.ensures.gave) _ (respects_with_key _ (answers_alike c.args.files.now.texts c.args.files.now.missing)) learnt.1.0))
+    (key, same, gave_at_key run.2 ((rw (c.in-Ok-finish.is, run.1) at c.finish.ensures.gave) _ (respects_with_key tests _ (answers_alike c.args.files.now.texts c.args.files.now.missing)) learnt.1.0))
 
 pub returns-in-Ok-finish-clause-grows : goal.returns-in-Ok-finish-clause-grows
 returns-in-Ok-finish-clause-grows g c =

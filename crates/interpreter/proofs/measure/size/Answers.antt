@@ -2,10 +2,11 @@ use Rattle.std.proofs.Common.{rules, refl, ◌≡◌, ◌∙◌, sym, subst, len
 use Rattle.comemo.specs.Multi.{OnParts}
 use Rattle.comemo.proofs.Calls.{gave_by_hit, came_by_hit, gave_by_run, came_by_run}
 use Rattle.comemo.proofs.JoinedHits.{joined_hit}
+use Rattle.tracking.proofs.KeyedViews.{respects_with_key}
 use Rattle.interpreter.specs.Files.{text_of, answer_of}
 use Rattle.interpreter.specs.Size.{IsSize}
 use Rattle.interpreter.proofs.FileCalls.{same_key, answers_alike}
-use Rattle.interpreter.proofs.JoinedCalls.{tells_calls, respects_with_key}
+use Rattle.interpreter.proofs.JoinedCalls.{tests}
 use Rattle.interpreter.proofs.Sizes.{mapped, run_stands, run_agrees}
 use Rattle.interpreter.proofs.measure.size.Goals as goal
 
@@ -13,7 +14,7 @@ pub returns-in-Hit-clause-output : goal.returns-in-Hit-clause-output
 returns-in-Hit-clause-output g c =
     let m = answer_of c.args.files.now.texts c.args.files.now.missing in
     let hit = rw (c.in-Hit.is, c.fork.ensures) at c.in_ok-output.ensures.begun in
-    let found = joined_hit hit tells_calls (λ x y h. refl) (answers_alike c.args.files.now.texts c.args.files.now.missing) (λ _. tt) m (λ c. refl) (λ c. refl) in
+    let found = joined_hit hit tests.tells_calls (λ x y h. refl) (answers_alike c.args.files.now.texts c.args.files.now.missing) (λ _. tt) m (λ c. refl) (λ c. refl) in
     subst (λ path. c.in-Hit.output ≡ length (string_bytes (text_of c.args.files.now.texts c.args.files.now.missing path))) c.in-Ok.ensures.ok found
 
 pub returns-in-Hit-clause-gave : goal.returns-in-Hit-clause-gave
@@ -39,7 +40,7 @@ returns-clause-gave g c =
     let (own, named, asked) = c.in-Ok-read_text.ensures in
     let alike = answers_alike c.args.files.now.texts c.args.files.now.missing in
     let agrees = run_agrees (answer_of c.args.files.now.texts c.args.files.now.missing) alike own c.in-Ok-read_text.text _ _ (rw c.recording.ensures.value run.0.pairs) asked in
-    mapped (λ reply gave. (c.in-Ok.key, c.in-Ok.ensures.ok, gave)) c.finish.result (gave_by_run run.0 _ _ _ _ c.finish.result (respects_with_key _ alike) agrees (rw run.2 at c.finish.ensures.gave))
+    mapped (λ reply gave. (c.in-Ok.key, c.in-Ok.ensures.ok, gave)) c.finish.result (gave_by_run run.0 _ _ _ _ c.finish.result (respects_with_key tests _ alike) agrees (rw run.2 at c.finish.ensures.gave))
 
 pub returns-clause-came : goal.returns-clause-came
 returns-clause-came g c =
