@@ -1,4 +1,5 @@
 pub mod Files
 pub mod Size
+pub mod SizeLaws
 pub mod Sessions
 pub mod Evaluations

@@ -11,7 +11,7 @@ ghost use Rattle.scripts.specs.Meaning.{Deep};
 ghost use Rattle.interpreter.specs.Files.{answer_of, with_key};
 ghost use Rattle.interpreter.specs.Evaluations.{At, ComesTo, PartComesTo, CallsDeep, Learnt, OutcomeCame};
 
-use crate::files::{FileCall, Files};
+use crate::files::{FileCall, Files, JoinedAnswer, JoinedCall};
 use crate::measure::read_text;
 use comemo::begin::begin;
 use comemo::{
@@ -56,7 +56,7 @@ pub enum EvalFault {
 }
 
 /// Begins a script: finds what it comes to, or begins a run.
-fn begin_script<S: Sink<Call = MultiCall<(), FileCall>, Answer = MultiAnswer<(), String>>>(
+fn begin_script<S: Sink<Call = JoinedCall, Answer = JoinedAnswer>>(
     alloc: Global,
     cache: &mut CacheData<Eval>,
     files: &Tracked<'_, Files>,
@@ -66,10 +66,10 @@ fn begin_script<S: Sink<Call = MultiCall<(), FileCall>, Answer = MultiAnswer<(),
 ) -> Result<Begun<Eval>, EvalFault>
     ensures begun { IfOk result (λ b. (key : String Global) × (string_bytes key ≡ script.now) × OnBegun b
         (λ outcome. (outcome.height ≤ limit)
-        × Gave ⟦<MultiCall<(), FileCall> as PartialEq>⟧.eq ⟦<MultiAnswer<(), String> as PartialEq>⟧.eq ⟦<Eval as Memo>⟧.def S.took (key, tt) (with_key (answer_of files.now.texts files.now.missing)) sink.old outcome sink.new
-        × Came ⟦<MultiCall<(), FileCall> as PartialEq>⟧.eq ⟦<MultiAnswer<(), String> as PartialEq>⟧.eq ⟦<(String, ()) as PartialEq>⟧.eq ⟦<Outcome as Clone>⟧.is_clone (key, tt) (with_key (answer_of files.now.texts files.now.missing)) true outcome cache.old cache.old How.Hit cache.new)
+        × Gave ⟦<JoinedCall as PartialEq>⟧.eq ⟦<JoinedAnswer as PartialEq>⟧.eq ⟦<Eval as Memo>⟧.def S.took (key, tt) (with_key (answer_of files.now.texts files.now.missing)) sink.old outcome sink.new
+        × Came ⟦<JoinedCall as PartialEq>⟧.eq ⟦<JoinedAnswer as PartialEq>⟧.eq ⟦<(String, ()) as PartialEq>⟧.eq ⟦<Outcome as Clone>⟧.is_clone (key, tt) (with_key (answer_of files.now.texts files.now.missing)) true outcome cache.old cache.old How.Hit cache.new)
         (λ run. (0 < limit) × (sink.new ≡ sink.old)
-        × IsRun ⟦<MultiCall<(), FileCall> as PartialEq>⟧.eq ⟦<MultiAnswer<(), String> as PartialEq>⟧.eq ⟦<(String, ()) as PartialEq>⟧.eq cache.old (key, tt) (with_key (answer_of files.now.texts files.now.missing)) true ⟦<Eval as Memo>⟧.def run)) }
+        × IsRun ⟦<JoinedCall as PartialEq>⟧.eq ⟦<JoinedAnswer as PartialEq>⟧.eq ⟦<(String, ()) as PartialEq>⟧.eq cache.old (key, tt) (with_key (answer_of files.now.texts files.now.missing)) true ⟦<Eval as Memo>⟧.def run)) }
     ensures unchanged { cache.new ≡ cache.old }
     ensures deep { result ≡ Err EvalFault.TooDeep → Deep (At (answer_of files.now.texts files.now.missing)) script.now limit }
     ensures err { OnErr result (S.spoils sink.old sink.new) }
@@ -131,11 +131,11 @@ fn evaluate_part(
     files: &Tracked<'_, Files>,
     part: Part<'_>,
     limit: u64,
-    recording: &mut Constraint<MultiCall<(), FileCall>, MultiAnswer<(), String>>,
+    recording: &mut Constraint<JoinedCall, JoinedAnswer>,
 ) -> Result<Outcome, EvalFault>
-    requires { Agrees ⟦<MultiAnswer<(), String> as PartialEq>⟧.eq (with_key (answer_of files.now.texts files.now.missing)) recording.now.pairs }
+    requires { Agrees ⟦<JoinedAnswer as PartialEq>⟧.eq (with_key (answer_of files.now.texts files.now.missing)) recording.now.pairs }
     ensures ok { (bytes : List ℕ) → IsPart bytes part.entry → IfOk result (λ outcome. (outcome.height ≤ limit)
-        × Learnt ⟦<FileCall as PartialEq>⟧.eq ⟦<MultiAnswer<(), String> as PartialEq>⟧.eq (answer_of files.now.texts files.now.missing) recording.old recording.new (λ n. PartComesTo n bytes outcome)) }
+        × Learnt ⟦<FileCall as PartialEq>⟧.eq ⟦<JoinedAnswer as PartialEq>⟧.eq (answer_of files.now.texts files.now.missing) recording.old recording.new (λ n. PartComesTo n bytes outcome)) }
     ensures deep { (bytes : List ℕ) → IsPart bytes part.entry → result ≡ Err EvalFault.TooDeep → CallsDeep (answer_of files.now.texts files.now.missing) bytes limit }
     ensures grows { Grows cache.old cache.new }
 {
@@ -166,12 +166,12 @@ fn run_script(
     files: &Tracked<'_, Files>,
     script: &str,
     limit: u64,
-    recording: &mut Constraint<MultiCall<(), FileCall>, MultiAnswer<(), String>>,
+    recording: &mut Constraint<JoinedCall, JoinedAnswer>,
 ) -> Result<Outcome, EvalFault>
     requires room { 0 < limit }
     requires fresh { recording.now.pairs ≡ [] }
     ensures ok { IfOk result (λ outcome. (outcome.height ≤ limit)
-        × Learnt ⟦<FileCall as PartialEq>⟧.eq ⟦<MultiAnswer<(), String> as PartialEq>⟧.eq (answer_of files.now.texts files.now.missing) recording.old recording.new (λ n. ComesTo n script.now outcome)) }
+        × Learnt ⟦<FileCall as PartialEq>⟧.eq ⟦<JoinedAnswer as PartialEq>⟧.eq (answer_of files.now.texts files.now.missing) recording.old recording.new (λ n. ComesTo n script.now outcome)) }
     ensures deep { result ≡ Err EvalFault.TooDeep → Deep (At (answer_of files.now.texts files.now.missing)) script.now limit }
     ensures grows { Grows cache.old cache.new }
 {
@@ -194,11 +194,11 @@ fn evaluate_within(
     files: &Tracked<'_, Files>,
     script: &str,
     limit: u64,
-    sink: &mut Constraint<MultiCall<(), FileCall>, MultiAnswer<(), String>>,
+    sink: &mut Constraint<JoinedCall, JoinedAnswer>,
 ) -> Result<Reply<Outcome>, EvalFault>
     ensures outcome { IfOk result (λ reply. ComesTo (answer_of files.now.texts files.now.missing) script.now reply.output × (reply.output.height ≤ limit)) }
     ensures gave { IfOk result (λ reply. (key : String Global) × (string_bytes key ≡ script.now)
-        × Gave ⟦<MultiCall<(), FileCall> as PartialEq>⟧.eq ⟦<MultiAnswer<(), String> as PartialEq>⟧.eq ⟦<Eval as Memo>⟧.def ⟦<Constraint<MultiCall<(), FileCall>, MultiAnswer<(), String>> as Sink>⟧.took (key, tt) (with_key (answer_of files.now.texts files.now.missing)) sink.old reply.output sink.new) }
+        × Gave ⟦<JoinedCall as PartialEq>⟧.eq ⟦<JoinedAnswer as PartialEq>⟧.eq ⟦<Eval as Memo>⟧.def ⟦<Constraint<JoinedCall, JoinedAnswer> as Sink>⟧.took (key, tt) (with_key (answer_of files.now.texts files.now.missing)) sink.old reply.output sink.new) }
     ensures deep { result ≡ Err EvalFault.TooDeep → Deep (At (answer_of files.now.texts files.now.missing)) script.now limit }
     ensures grows { Grows cache.old cache.new }
 {
@@ -209,7 +209,7 @@ fn evaluate_within(
 ///
 /// `TooDeep` comes exactly where the script is higher than the limit or never ends, on a hit as on a run; `Memory` says
 /// that there was no memory. Both spoil the sink; what was kept on the way stays.
-pub fn evaluate<S: Sink<Call = MultiCall<(), FileCall>, Answer = MultiAnswer<(), String>>>(
+pub fn evaluate<S: Sink<Call = JoinedCall, Answer = JoinedAnswer>>(
     alloc: Global,
     cache: &mut CacheData<Eval>,
     files: &Tracked<'_, Files>,
@@ -219,8 +219,8 @@ pub fn evaluate<S: Sink<Call = MultiCall<(), FileCall>, Answer = MultiAnswer<(),
 ) -> Result<Reply<Outcome>, EvalFault>
     ensures outcome { IfOk result (λ reply. ComesTo (answer_of files.now.texts files.now.missing) script.now reply.output × (reply.output.height ≤ limit)) }
     ensures gave { IfOk result (λ reply. (key : String Global) × (string_bytes key ≡ script.now)
-        × Gave ⟦<MultiCall<(), FileCall> as PartialEq>⟧.eq ⟦<MultiAnswer<(), String> as PartialEq>⟧.eq ⟦<Eval as Memo>⟧.def S.took (key, tt) (with_key (answer_of files.now.texts files.now.missing)) sink.old reply.output sink.new) }
-    ensures came { IfOk result (λ reply. OutcomeCame ⟦<MultiCall<(), FileCall> as PartialEq>⟧.eq ⟦<MultiAnswer<(), String> as PartialEq>⟧.eq ⟦<(String, ()) as PartialEq>⟧.eq ⟦<Outcome as Clone>⟧.is_clone (answer_of files.now.texts files.now.missing) script.now cache.old reply.output reply.how cache.new) }
+        × Gave ⟦<JoinedCall as PartialEq>⟧.eq ⟦<JoinedAnswer as PartialEq>⟧.eq ⟦<Eval as Memo>⟧.def S.took (key, tt) (with_key (answer_of files.now.texts files.now.missing)) sink.old reply.output sink.new) }
+    ensures came { IfOk result (λ reply. OutcomeCame ⟦<JoinedCall as PartialEq>⟧.eq ⟦<JoinedAnswer as PartialEq>⟧.eq ⟦<(String, ()) as PartialEq>⟧.eq ⟦<Outcome as Clone>⟧.is_clone (answer_of files.now.texts files.now.missing) script.now cache.old reply.output reply.how cache.new) }
     ensures deep { result ≡ Err EvalFault.TooDeep → Deep (At (answer_of files.now.texts files.now.missing)) script.now limit }
     ensures grows { Grows cache.old cache.new }
     ensures err { OnErr result (S.spoils sink.old sink.new) }

@@ -3,7 +3,7 @@ ghost use Rattle.std.specs.Prelude.{◌≡◌, ℕ, List, [], false, refl, strin
 ghost use Rattle.std.proofs.Common.{rules};
 ghost use Rattle.interpreter.specs.Files.{text_of};
 
-use comemo::{Call, Track};
+use comemo::{Call, MultiAnswer, MultiCall, Track};
 use std::alloc::{AllocError, Global};
 use std::collections::HashMap;
 use std::hash::Hash;
@@ -14,6 +14,12 @@ pub enum FileCall {
     /// The text of the file at a path.
     Read(String),
 }
+
+/// A call of a key joined with the files: one of the files, since the key isn't tracked.
+pub type JoinedCall = MultiCall<(), FileCall>;
+
+/// An answer of a key joined with the files: a text.
+pub type JoinedAnswer = MultiAnswer<(), String>;
 
 impl Call for FileCall {
     ghost is_write = { λ _. false };

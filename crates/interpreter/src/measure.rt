@@ -1,6 +1,6 @@
 //! The memoized size of a file.
 ghost use Rattle.std.specs.Prelude.{◌≡◌, ℕ, List, [], refl, true, string_bytes, string_eq, String, length, IsTrue, IfOk, IfErr, OnErr};
-ghost use Rattle.std.proofs.Common.{rules, ◌∙◌, ap};
+ghost use Rattle.std.proofs.Common.{rules};
 ghost use Rattle.std.specs.Global.{Global};
 ghost use Rattle.comemo.specs.Called.{Gave, Came};
 ghost use Rattle.comemo.specs.Sending.{Asks};
@@ -9,7 +9,7 @@ ghost use Rattle.comemo.specs.Multi.{second_call, second_answer};
 ghost use Rattle.interpreter.specs.Files.{text_of, answer_of, with_key};
 ghost use Rattle.interpreter.specs.declared.files.FileCall.TheVariants.{Read};
 
-use crate::files::{FileCall, Files};
+use crate::files::{FileCall, Files, JoinedAnswer, JoinedCall};
 use comemo::begin::begin;
 use comemo::{
     Begun, CacheData, Fault, Hashed, How, Memo, Multi, MultiAnswer, MultiCall, Pending, Reply,
@@ -30,13 +30,15 @@ impl Memo for FileSize {
     type Out = u64;
 
     ghost use Rattle.comemo.specs.Multi.{OnParts};
+    ghost use Rattle.comemo.specs.MultiLaws.{second_respects};
     ghost use Rattle.interpreter.specs.Size.{IsSize};
+    ghost use Rattle.interpreter.specs.SizeLaws.{size_alike};
 
     ghost def = { λ key answers out _. OnParts answers (λ _ m. IsSize key.0 m out) };
 
     ghost output_clones = { λ key m a b writes r d h x y p q. Prim.search (rules, h x y p q) };
 
-    ghost key_alike = { λ j k answers output writes r e h x m p q. let named : IsTrue (string_eq j.0 k.0) = Prim.search (rules, e) in let told : IsTrue (string_eq (m (Read j.0)) (m (Read k.0))) = rw (q (Read j.0), q (Read k.0)) at (r (second_call (Read j.0)) (second_call (Read k.0)) named) in let same : string_bytes (m (Read j.0)) ≡ string_bytes (m (Read k.0)) = Prim.search (rules, told) in h x m p q ∙ ap length same };
+    ghost key_alike = { λ j k answers output writes r e h x m p q. size_alike j.0 k.0 m output (second_respects _ ⟦<JoinedAnswer as PartialEq>⟧.eq answers m r q) e (h x m p q) };
 
     ghost key_clones = { λ x y h. Prim.search rules };
 
@@ -44,7 +46,7 @@ impl Memo for FileSize {
 }
 
 /// Asks the files the text at a path, into a recording of a key joined with them.
-pub(crate) fn read_text<S: Sink<Call = MultiCall<(), FileCall>, Answer = MultiAnswer<(), String>>>(
+pub(crate) fn read_text<S: Sink<Call = JoinedCall, Answer = JoinedAnswer>>(
     alloc: Global,
     files: &Tracked<'_, Files>,
     path: &str,
@@ -61,7 +63,7 @@ pub(crate) fn read_text<S: Sink<Call = MultiCall<(), FileCall>, Answer = MultiAn
 ///
 /// The size is that of the present text, on a hit as on a miss. `Memory` says that there was no memory for the answer:
 /// then the cache is as it was, and the sink is spoiled. A hit costs one look-up and a comparison of the texts.
-pub fn size<S: Sink<Call = MultiCall<(), FileCall>, Answer = MultiAnswer<(), String>>>(
+pub fn size<S: Sink<Call = JoinedCall, Answer = JoinedAnswer>>(
     alloc: Global,
     cache: &mut CacheData<FileSize>,
     files: &Tracked<'_, Files>,
@@ -69,8 +71,8 @@ pub fn size<S: Sink<Call = MultiCall<(), FileCall>, Answer = MultiAnswer<(), Str
     sink: &mut S,
 ) -> Result<Reply<u64>, Fault>
     ensures output { IfOk result (λ reply. reply.output ≡ length (string_bytes (text_of files.now.texts files.now.missing path.now))) }
-    ensures gave { IfOk result (λ reply. (key : String Global) × (string_bytes key ≡ path.now) × Gave ⟦<MultiCall<(), FileCall> as PartialEq>⟧.eq ⟦<MultiAnswer<(), String> as PartialEq>⟧.eq ⟦<FileSize as Memo>⟧.def S.took (key, tt) (with_key (answer_of files.now.texts files.now.missing)) sink.old reply.output sink.new) }
-    ensures came { IfOk result (λ reply. (key : String Global) × (string_bytes key ≡ path.now) × Came ⟦<MultiCall<(), FileCall> as PartialEq>⟧.eq ⟦<MultiAnswer<(), String> as PartialEq>⟧.eq ⟦<(String, ()) as PartialEq>⟧.eq ⟦<u64 as Clone>⟧.is_clone (key, tt) (with_key (answer_of files.now.texts files.now.missing)) true reply.output cache.old cache.old reply.how cache.new) }
+    ensures gave { IfOk result (λ reply. (key : String Global) × (string_bytes key ≡ path.now) × Gave ⟦<JoinedCall as PartialEq>⟧.eq ⟦<JoinedAnswer as PartialEq>⟧.eq ⟦<FileSize as Memo>⟧.def S.took (key, tt) (with_key (answer_of files.now.texts files.now.missing)) sink.old reply.output sink.new) }
+    ensures came { IfOk result (λ reply. (key : String Global) × (string_bytes key ≡ path.now) × Came ⟦<JoinedCall as PartialEq>⟧.eq ⟦<JoinedAnswer as PartialEq>⟧.eq ⟦<(String, ()) as PartialEq>⟧.eq ⟦<u64 as Clone>⟧.is_clone (key, tt) (with_key (answer_of files.now.texts files.now.missing)) true reply.output cache.old cache.old reply.how cache.new) }
     ensures fault { IfErr result (λ fault. fault ≡ Fault.Memory) }
     ensures err { OnErr result ((cache.new ≡ cache.old) × S.spoils sink.old sink.new) }
 {
