@@ -7,12 +7,9 @@ use Rattle.interpreter.specs.declared.files.FileCall.{FileCall}
 use Rattle.interpreter.specs.declared.files.FileCall.TheVariants.{Read}
 use Rattle.interpreter.specs.contracts.files.FileCallPartialEq.TheImpl.{ghosts}
 
-same_bytes : (a b : String Global) → IsTrue (string_eq a b) → string_bytes a ≡ string_bytes b
-same_bytes a b h = search rules
-
-same_path : (a b : String Global) → IsTrue (string_eq a b && true) → IsTrue (string_eq a b)
-same_path a b h = search rules
-
--- the test of two keys is that of their paths, and of nothing more
+-- a key is a path and nothing more
 pub size_alike : (a b : String Global) (m : FileCall → String Global) (out : ℕ) → Respects ghosts.eq string_eq m → IsTrue (string_eq a b && true) → IsSize a m out → IsSize b m out
-size_alike a b m out respects same is = is ∙ ap length (same_bytes (m (Read a)) (m (Read b)) (respects (Read a) (Read b) (same_path a b same)))
+size_alike a b m out respects same is =
+    let told : IsTrue (string_eq (m (Read a)) (m (Read b))) = respects (Read a) (Read b) (search (rules, same)) in
+    let bytes : string_bytes (m (Read a)) ≡ string_bytes (m (Read b)) = search (rules, told) in
+    is ∙ ap length bytes

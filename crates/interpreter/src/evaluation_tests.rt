@@ -92,7 +92,7 @@ fn a_hit_obeys_the_limit(rt: HostRuntime) -> Result<(), Fail> {
 
 /// Sends a recording the text that was read at a path.
 fn emit(
-    sink: &mut Constraint<MultiCall<(), FileCall>, MultiAnswer<(), String>>,
+    sink: &mut Constraint<JoinedCall, JoinedAnswer>,
     path: String,
     text: String,
 ) -> Result<bool, AllocError> {

@@ -10,7 +10,7 @@ pub mod state;
 
 pub use commands::{Answer, Command};
 pub use evaluation::{Eval, EvalFault, evaluate};
-pub use files::{FileCall, Files};
+pub use files::{FileCall, Files, JoinedAnswer, JoinedCall};
 pub use lines::RunFault;
 pub use measure::{FileSize, size};
 pub use program::{run, start};

@@ -1,5 +1,5 @@
 //! The memoized size of a file.
-ghost use Rattle.std.specs.Prelude.{◌≡◌, ℕ, List, [], refl, true, string_bytes, string_eq, String, length, IsTrue, IfOk, IfErr, OnErr};
+ghost use Rattle.std.specs.Prelude.{◌≡◌, ℕ, List, [], refl, true, string_bytes, string_eq, String, length, IfOk, IfErr, OnErr};
 ghost use Rattle.std.proofs.Common.{rules};
 ghost use Rattle.std.specs.Global.{Global};
 ghost use Rattle.comemo.specs.Called.{Gave, Came};
