@@ -28,8 +28,8 @@ view_answers same a b = same (second_answer a) (second_answer b)
 abbrev pub with_key : {C R : Type 0} → (C → R) → MultiCall ⊤ C → MultiAnswer ⊤ R
 with_key n = part_answers (λ _. tt) n
 
--- tests of all calls and of all answers: they never take those of one part for those of the other, nor the key's one call and
--- its answer for another, and those of the view are equivalences
+-- tests of all calls and of all answers: they never take one of the key's part for one of the view's, they know the key's one
+-- call and its answer, and at the view they are equivalences
 pub record KeyedTests {C R : Type 0} (eq : MultiCall ⊤ C → MultiCall ⊤ C → Bool) (same : MultiAnswer ⊤ R → MultiAnswer ⊤ R → Bool) : Type 0 where
   pub tells_calls : TellsCalls eq
   pub tells_answers : TellsAnswers same
@@ -38,8 +38,8 @@ pub record KeyedTests {C R : Type 0} (eq : MultiCall ⊤ C → MultiCall ⊤ C �
   pub calls : IsEquivalence (view_calls eq)
   pub answers : IsEquivalence (view_answers same)
 
--- t is s with one read of the view more, which all answers agree with m; whichever answers of the view agree with t agree with
--- s, and have this answer to the read
+-- t is s with a read of the view and its answer more, and m agrees with it; whichever answers of the view agree with t agree
+-- with s, and answer the read alike
 pub record ToldRead {C R : Type 0} (eq : MultiCall ⊤ C → MultiCall ⊤ C → Bool) (same : MultiAnswer ⊤ R → MultiAnswer ⊤ R → Bool) (m : C → R) (s : List (MultiCall ⊤ C × MultiAnswer ⊤ R)) (c : C) (a : R) (t : List (MultiCall ⊤ C × MultiAnswer ⊤ R)) : Type 0 where
   pub agrees : Agrees same (with_key m) t
   pub before : (n : C → R) → Respects (view_calls eq) (view_answers same) n → Agrees same (with_key n) t → Agrees same (with_key n) s
