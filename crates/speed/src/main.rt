@@ -3,14 +3,17 @@
 
 mod cells;
 mod hashing;
+mod inputs;
 mod lengths;
+mod player;
 mod report;
 mod runs;
+mod scatter;
 mod stopwatch;
 mod sums;
 mod workload;
 
-use report::{Failure, write_sums, write_times};
+use report::{Failure, write_large, write_sums, write_times};
 use std::alloc::AllocError;
 use std::env::Env;
 use std::io::Write;
@@ -24,6 +27,8 @@ enum Request {
     Times,
     /// Their sums alone.
     Sums,
+    /// The times of the large inputs of `calc`, in full.
+    Large,
     /// Nothing that it knows.
     Unknown,
 }
@@ -37,6 +42,7 @@ fn request_of<R: Env + Alloc>(rt: &R) -> Result<Request, AllocError> {
     for word in words.skip(1) {
         request = match request {
             Request::Times if word.as_str() == "sums" => Request::Sums,
+            Request::Times if word.as_str() == "large" => Request::Large,
             _ => Request::Unknown,
         };
     }
@@ -50,8 +56,9 @@ fn main(rt: HostRuntime) -> ExitCode {
     let written = match request_of(&rt) {
         Ok(Request::Times) => write_times(&rt, alloc, &mut writer),
         Ok(Request::Sums) => write_sums(&rt, alloc, &mut writer),
+        Ok(Request::Large) => write_large(&rt, alloc, &mut writer),
         Ok(Request::Unknown) => {
-            let _ = errors.write_all(b"usage: speed [sums]\n");
+            let _ = errors.write_all(b"usage: speed [sums | large]\n");
             return ExitCode::from(2);
         }
         Err(_) => Err(Failure::Memory),

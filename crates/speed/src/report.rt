@@ -1,5 +1,6 @@
 //! The lines that are printed.
 
+use crate::inputs::INPUTS;
 use crate::runs::run;
 use crate::workload::{WORKLOADS, Workload};
 use comemo::Fault;
@@ -97,6 +98,29 @@ pub fn write_times<R: Clock, W: Write>(
     Ok(())
 }
 
+/// Writes the name, the time and the sum of each large input of `calc`: all its rounds, once, without repetition.
+///
+/// Each line is written as soon as its input was carried out, since some take minutes.
+pub fn write_large<R: Clock, W: Write>(
+    rt: &R,
+    alloc: Global,
+    writer: &mut W,
+) -> Result<(), Failure> {
+    for input in INPUTS {
+        let rounds = input.all();
+        let workload = Workload::Calc { input };
+        let seen = run(rt, alloc, workload, rounds)?;
+        match seen.nanoseconds {
+            Some(nanoseconds) => {
+                let each = Each::of(nanoseconds, rounds);
+                write_line(alloc, writer, workload, &[each], seen.sum)?;
+            }
+            None => write_line(alloc, writer, workload, &[], seen.sum)?,
+        }
+    }
+    Ok(())
+}
+
 /// Writes the line of a workload; `times` are sorted.
 fn write_line<W: Write>(
     alloc: Global,
@@ -107,6 +131,7 @@ fn write_line<W: Write>(
 ) -> Result<(), Failure> {
     let name = workload.name(alloc)?;
     let line = match times {
+        [only] => format!(in alloc; "{name:<34} {only:>12} ns {sum:016x}\n")?,
         [least, .., greatest] => {
             let median = times[times.len() / 2];
             format!(in alloc; "{name:<34} {median:>12} ns ({least} .. {greatest}) {sum:016x}\n")?

@@ -1,7 +1,9 @@
 //! How the workloads are done. Each makes what it works on, then reads the clock, does its operations, and reads it again.
+//! Of a large input of `calc` all is timed: there the commands are made as they are carried out.
 
 use crate::cells::Cells;
 use crate::hashing::{bytes, fold_numbers, text};
+use crate::inputs::Input;
 use crate::lengths::{length_by_kept_number, length_by_number, length_of};
 use crate::stopwatch::Stopwatch;
 use crate::sums::{SumKey, SumMemo, sum};
@@ -43,6 +45,7 @@ pub fn run<R: Clock>(
         Workload::TextItself => text_itself(rt, alloc, operations),
         Workload::TextByNumber => text_by_number(rt, alloc, operations),
         Workload::TextByKeptNumber => text_by_kept_number(rt, alloc, operations),
+        Workload::Calc { input } => calc(rt, alloc, input, operations),
     }
 }
 
@@ -226,5 +229,19 @@ fn text_by_kept_number<R: Clock>(rt: &R, alloc: Global, operations: u64) -> Resu
     Ok(Seen {
         nanoseconds: watch.nanoseconds(rt),
         sum: all,
+    })
+}
+
+/// Carries out so many rounds of a large input in a session that begins with nothing.
+///
+/// What is timed is the whole session: that each command is made, carried out and answered, that the answer's line is made
+/// and folded, and that the session is let go. The writes before the first round, and the first round, which finds nothing
+/// kept, are part of it.
+fn calc<R: Clock>(rt: &R, alloc: Global, input: Input, rounds: u64) -> Result<Seen, Fault> {
+    let watch = Stopwatch::start(rt);
+    let sum = made(input.play(alloc, rounds))?;
+    Ok(Seen {
+        nanoseconds: watch.nanoseconds(rt),
+        sum,
     })
 }

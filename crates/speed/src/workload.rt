@@ -1,5 +1,6 @@
 //! The workloads: what each is called, and how often it is done.
 
+use crate::inputs::Input;
 use std::alloc::{AllocError, Global};
 
 /// A kind of work, whose operations are timed.
@@ -23,10 +24,12 @@ pub enum Workload {
     TextByNumber,
     /// The kept length of a text, under the number that it keeps.
     TextByKeptNumber,
+    /// A large input of the program `calc`, whose rounds are the operations.
+    Calc { input: Input },
 }
 
 /// All workloads, in the order in which they are done.
-pub const WORKLOADS: [Workload; 22] = [
+pub const WORKLOADS: [Workload; 27] = [
     Workload::Sip { bytes: 16 },
     Workload::Sip { bytes: 64 },
     Workload::Sip { bytes: 1024 },
@@ -49,6 +52,15 @@ pub const WORKLOADS: [Workload; 22] = [
     Workload::TextItself,
     Workload::TextByNumber,
     Workload::TextByKeptNumber,
+    Workload::Calc { input: Input::Deep },
+    Workload::Calc { input: Input::Wide },
+    Workload::Calc { input: Input::Many },
+    Workload::Calc {
+        input: Input::Diamond,
+    },
+    Workload::Calc {
+        input: Input::Project,
+    },
 ];
 
 // How many misses are timed. For now a cache is a plain list, so a miss takes time in proportion to what is kept, and all
@@ -73,6 +85,7 @@ impl Workload {
             Workload::TextItself => String::from_str(alloc, "text 1 MiB as a key, kept itself"),
             Workload::TextByNumber => String::from_str(alloc, "text 1 MiB by its number"),
             Workload::TextByKeptNumber => String::from_str(alloc, "text 1 MiB by a number kept"),
+            Workload::Calc { input } => format!(in alloc; "calc, {}", input.name()),
         }
     }
 
@@ -94,6 +107,7 @@ impl Workload {
             Workload::HitAmong { .. } => HITS_AMONG_MANY,
             Workload::TextItself | Workload::TextByNumber => 20,
             Workload::TextByKeptNumber => 500_000,
+            Workload::Calc { input } => input.moderate(),
         }
     }
 
@@ -103,6 +117,7 @@ impl Workload {
             Workload::Sip { bytes: 0..=64 } => 100,
             Workload::Sip { bytes: 65..=1024 } => 10,
             Workload::Sip { .. } | Workload::TextItself | Workload::TextByNumber => 2,
+            Workload::Calc { input } => input.few(),
             _ => 10,
         }
     }

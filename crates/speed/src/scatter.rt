@@ -1,0 +1,23 @@
+//! Numbers in a scattered order, the same in each run.
+
+/// A linear congruence in 64 bits.
+#[derive(Clone, Copy, Debug, PartialEq, Eq)]
+pub struct Scatter {
+    state: u64,
+}
+
+impl Scatter {
+    /// The numbers that follow from this one.
+    pub fn new(start: u64) -> Scatter {
+        Scatter { state: start }
+    }
+
+    /// The next number, below a count. It is made of the upper 31 bits, since the lower ones soon repeat.
+    pub fn below(&mut self, count: u64) -> u64 {
+        self.state = self
+            .state
+            .wrapping_mul(6_364_136_223_846_793_005)
+            .wrapping_add(1_442_695_040_888_963_407);
+        (self.state >> 33) % count.max(1)
+    }
+}
