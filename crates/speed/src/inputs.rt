@@ -8,43 +8,37 @@ use std::alloc::{AllocError, Global};
 /// A large input.
 #[derive(Clone, Copy, Drop, Debug, PartialEq, Eq)]
 pub enum Input {
+    /// Levels of files, each of which evaluates the level below twice. A round rewrites the lowest and evaluates the
+    /// highest.
+    Diamond,
     /// A chain of files, each of which evaluates the one before. A round rewrites the first and evaluates the last.
     Deep,
     /// A file that sums many files. A round rewrites one of those and evaluates the sum.
     Wide,
+    /// Groups of long files, and a sum of the sums of all groups. A round rewrites one file and evaluates the sum.
+    Project,
     /// Different scripts, each of which adds one of a few files. A round is a script, which is evaluated twice: once
     /// before all scripts were evaluated, and once after.
     Many,
-    /// Levels of files, each of which evaluates the level below twice. A round rewrites the lowest and evaluates the
-    /// highest.
-    Diamond,
-    /// Groups of long files, and a sum of the sums of all groups. A round rewrites one file and evaluates the sum.
-    Project,
 }
 
-/// All large inputs, in the order in which they are carried out.
+/// All large inputs, in the order in which they are carried out: the longest comes last.
 pub const INPUTS: [Input; 5] = [
+    Input::Diamond,
     Input::Deep,
     Input::Wide,
-    Input::Many,
-    Input::Diamond,
     Input::Project,
+    Input::Many,
 ];
+
+/// How many levels stand above the lowest.
+const LEVELS: u64 = 16;
 
 /// How many files the chain has.
 const DEPTH: u64 = 100;
 
 /// How many files are summed by one.
 const WIDTH: u64 = 1_000;
-
-/// How many files the different scripts read.
-const SHARED_FILES: u64 = 16;
-
-/// How often each of the different scripts is evaluated.
-const PASSES: u32 = 2;
-
-/// How many levels stand above the lowest.
-const LEVELS: u64 = 16;
 
 /// How many groups of files the project has.
 const GROUPS: u64 = 40;
@@ -55,46 +49,52 @@ const GROUP_FILES: u64 = 25;
 /// How many numbers a file of the project has.
 const FILE_NUMBERS: u64 = 200;
 
+/// How many files the different scripts read.
+const SHARED_FILES: u64 = 16;
+
+/// How often each of the different scripts is evaluated.
+const PASSES: u32 = 2;
+
 impl Input {
     /// What it is called.
     pub fn name(self) -> &'static str {
         match self {
+            Input::Diamond => "diamond",
             Input::Deep => "deep",
             Input::Wide => "wide",
-            Input::Many => "many",
-            Input::Diamond => "diamond",
             Input::Project => "project",
+            Input::Many => "many",
         }
     }
 
-    /// How many rounds the whole input has: so many that comemo's own interpreter takes about a second for most.
-    pub fn all(self) -> u64 {
+    /// How many rounds the whole input has.
+    pub fn whole(self) -> u64 {
         match self {
+            Input::Diamond => 200,
             Input::Deep => 400,
             Input::Wide => 800,
-            Input::Many => 400_000,
-            Input::Diamond => 200,
             Input::Project => 500,
+            Input::Many => 400_000,
         }
     }
 
     /// How many rounds a timed repetition has. For now a cache is a plain list, so that a round takes time for all that is
-    /// kept.
+    /// kept, and all rounds together in proportion to the square.
     pub fn moderate(self) -> u64 {
         match self {
-            Input::Deep => 40,
-            Input::Wide | Input::Project => 5,
-            Input::Many => 2_000,
             Input::Diamond => 200,
+            Input::Deep => 40,
+            Input::Wide | Input::Project => 10,
+            Input::Many => 2_000,
         }
     }
 
     /// How many rounds are carried out where the sum alone is wanted.
     pub fn few(self) -> u64 {
         match self {
-            Input::Deep | Input::Diamond => 3,
-            Input::Wide | Input::Project => 1,
-            Input::Many => 20,
+            Input::Diamond | Input::Deep => 10,
+            Input::Wide | Input::Project => 4,
+            Input::Many => 100,
         }
     }
 
@@ -102,14 +102,37 @@ impl Input {
     pub fn play(self, alloc: Global, rounds: u64) -> Result<u64, AllocError> {
         let mut player = Player::new(alloc);
         match self {
+            Input::Diamond => play_diamond(alloc, &mut player, rounds)?,
             Input::Deep => play_deep(alloc, &mut player, rounds)?,
             Input::Wide => play_wide(alloc, &mut player, rounds)?,
-            Input::Many => play_many(alloc, &mut player, rounds)?,
-            Input::Diamond => play_diamond(alloc, &mut player, rounds)?,
             Input::Project => play_project(alloc, &mut player, rounds)?,
+            Input::Many => play_many(alloc, &mut player, rounds)?,
         }
         Ok(player.fold())
     }
+}
+
+/// Levels that each evaluate the one below twice: without kept values, a round would evaluate the lowest 2^16 times.
+fn play_diamond(alloc: Global, player: &mut Player, rounds: u64) -> Result<(), AllocError> {
+    player.write(
+        String::from_str(alloc, "d0")?,
+        String::from_str(alloc, "0")?,
+    )?;
+    for level in 1..LEVELS + 1 {
+        let path = format!(in alloc; "d{level}")?;
+        let below = level - 1;
+        player.write(path, format!(in alloc; "eval d{below} + eval d{below}")?)?;
+    }
+    for round in 0..rounds {
+        // Small enough that the highest level has a value in 32 bits.
+        let number = round % 1_000;
+        player.write(
+            String::from_str(alloc, "d0")?,
+            format!(in alloc; "{number}")?,
+        )?;
+        player.eval(format!(in alloc; "eval d{LEVELS}")?)?;
+    }
+    Ok(())
 }
 
 /// A chain of files, whose first one has another number in each round.
@@ -153,45 +176,6 @@ fn play_wide(alloc: Global, player: &mut Player, rounds: u64) -> Result<(), Allo
         let number = round.saturating_add(WIDTH);
         player.write(path, format!(in alloc; "{number}")?)?;
         player.eval(String::from_str(alloc, "eval all")?)?;
-    }
-    Ok(())
-}
-
-/// Different scripts, each with one of a few files.
-fn play_many(alloc: Global, player: &mut Player, rounds: u64) -> Result<(), AllocError> {
-    for file in 0..SHARED_FILES {
-        let path = format!(in alloc; "m{file}")?;
-        player.write(path, format!(in alloc; "{file} + {file}")?)?;
-    }
-    for _ in 0..PASSES {
-        for round in 0..rounds {
-            let file = round % SHARED_FILES;
-            let last = round % 7;
-            player.eval(format!(in alloc; "{round} + eval m{file} + {last}")?)?;
-        }
-    }
-    Ok(())
-}
-
-/// Levels that each evaluate the one below twice: without kept values, a round would evaluate the lowest 2^16 times.
-fn play_diamond(alloc: Global, player: &mut Player, rounds: u64) -> Result<(), AllocError> {
-    player.write(
-        String::from_str(alloc, "d0")?,
-        String::from_str(alloc, "0")?,
-    )?;
-    for level in 1..LEVELS + 1 {
-        let path = format!(in alloc; "d{level}")?;
-        let below = level - 1;
-        player.write(path, format!(in alloc; "eval d{below} + eval d{below}")?)?;
-    }
-    for round in 0..rounds {
-        // Small enough that the highest level has a value in 32 bits.
-        let number = round % 1_000;
-        player.write(
-            String::from_str(alloc, "d0")?,
-            format!(in alloc; "{number}")?,
-        )?;
-        player.eval(format!(in alloc; "eval d{LEVELS}")?)?;
     }
     Ok(())
 }
@@ -247,6 +231,22 @@ fn digit_at(group: u64, file: u64, place: u64) -> u8
         .wrapping_add(file)
         .wrapping_add(place);
     (number % 10) as u8
+}
+
+/// Different scripts, each with one of a few files.
+fn play_many(alloc: Global, player: &mut Player, rounds: u64) -> Result<(), AllocError> {
+    for file in 0..SHARED_FILES {
+        let path = format!(in alloc; "m{file}")?;
+        player.write(path, format!(in alloc; "{file} + {file}")?)?;
+    }
+    for _ in 0..PASSES {
+        for round in 0..rounds {
+            let file = round % SHARED_FILES;
+            let last = round % 7;
+            player.eval(format!(in alloc; "{round} + eval m{file} + {last}")?)?;
+        }
+    }
+    Ok(())
 }
 
 /// A script that sums so many files: their paths are this front and the numbers from 0 on.

@@ -107,7 +107,7 @@ pub fn write_large<R: Clock, W: Write>(
     writer: &mut W,
 ) -> Result<(), Failure> {
     for input in INPUTS {
-        let rounds = input.all();
+        let rounds = input.whole();
         let workload = Workload::Calc { input };
         let seen = run(rt, alloc, workload, rounds)?;
         match seen.nanoseconds {

@@ -52,15 +52,15 @@ pub const WORKLOADS: [Workload; 27] = [
     Workload::TextItself,
     Workload::TextByNumber,
     Workload::TextByKeptNumber,
-    Workload::Calc { input: Input::Deep },
-    Workload::Calc { input: Input::Wide },
-    Workload::Calc { input: Input::Many },
     Workload::Calc {
         input: Input::Diamond,
     },
+    Workload::Calc { input: Input::Deep },
+    Workload::Calc { input: Input::Wide },
     Workload::Calc {
         input: Input::Project,
     },
+    Workload::Calc { input: Input::Many },
 ];
 
 // How many misses are timed. For now a cache is a plain list, so a miss takes time in proportion to what is kept, and all
