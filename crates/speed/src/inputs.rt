@@ -84,7 +84,8 @@ impl Input {
         match self {
             Input::Diamond => 200,
             Input::Deep => 40,
-            Input::Wide | Input::Project => 10,
+            Input::Wide => 10,
+            Input::Project => 8,
             Input::Many => 2_000,
         }
     }
