@@ -3,9 +3,8 @@ ghost use Rattle.std.specs.Prelude.{◌≡◌, ℕ, ◌||◌, false, nat_eq, ref
 ghost use Rattle.std.proofs.Common.{rules};
 ghost use Rattle.guide.specs.Chains.{has};
 
-use comemo::{Call, Fault, Function, Recorder, Track};
+use comemo::{Call, Fault, FunctionOf, Memo, Recorder, Track};
 use std::alloc::AllocError;
-use std::marker::PhantomData;
 
 /// What can be asked of a chain.
 #[derive(Clone, Copy, Drop, Debug, PartialEq, Eq, Hash)]
@@ -86,24 +85,34 @@ impl<'a> Track for Chain<'a> {
 }
 
 /// Whether a number is in a chain.
-pub struct IsInChain<'a> {
-    chain: PhantomData<&'a ()>,
-}
+pub struct IsInChain;
 
-impl<'a> Function for IsInChain<'a> {
+impl Memo for IsInChain {
+    type Call = ChainCall;
+
     type Key = u32;
 
-    type Of = Chain<'a>;
+    type Answer = bool;
 
     type Out = bool;
 
-    type Needs = ();
-
     ghost use Rattle.guide.specs.declared.chains.ChainCall.TheVariants.{Contains};
 
-    ghost means = { λ n m out. out ≡ m (Contains n) };
+    ghost def = { λ n m out _. out ≡ m (Contains n) };
 
-    ghost laws = { Prim.search rules };
+    ghost output_clones = { Prim.search rules };
+
+    ghost key_alike = { Prim.search rules };
+
+    ghost key_clones = { Prim.search rules };
+
+    ghost answer_clones = { Prim.search rules };
+}
+
+impl<'a> FunctionOf<Chain<'a>> for IsInChain {
+    type Needs = ();
+
+    ghost reads = { λ n m out V W right. right };
 
     fn run(n: &u32, chain: &mut Recorder<'_, Chain<'a>>, _needs: &mut ()) -> Result<bool, Fault> {
         let is = chain.ask(ChainCall::Contains(*n))?;

@@ -520,7 +520,7 @@ fn stay(alloc: Global, chain: Chain<'static>) -> Result<&'static Chain<'static>,
 #[test]
 fn chains_that_answer_alike_share_what_is_kept(rt: HostRuntime) -> Result<(), Fail> {
     let alloc = rt.alloc();
-    let mut cache: CacheData<MemoOf<IsInChain<'static>>> = CacheData::new(alloc);
+    let mut cache: CacheData<IsInChain> = CacheData::new(alloc);
     let one = stay(alloc, Chain::new(1))?;
     let three = stay(alloc, Chain::new(3))?;
     let to_two = stay(alloc, Chain::insert(one, 2))?;
@@ -538,7 +538,8 @@ fn chains_that_answer_alike_share_what_is_kept(rt: HostRuntime) -> Result<(), Fa
         (three, 2, false, How::Hit),
     ];
     for (chain, n, is, how) in asked {
-        let reply = call(alloc, &mut cache, n, chain)?;
+        let view = chain.track();
+        let reply = memoized(alloc, &mut cache, &mut (), n, &view, &mut Top::new(), true)?;
         assert_eq!(rt; reply.output, is);
         assert_eq!(rt; reply.how, how);
     }
