@@ -512,37 +512,46 @@ fn a_function_of_two_towns_calls_one_of_each(rt: HostRuntime) -> Result<(), Fail
     Ok(())
 }
 
-/// A chain that stays for good, so that others can refer to it.
-fn stay(alloc: Global, chain: Chain<'static>) -> Result<&'static Chain<'static>, AllocError> {
-    Ok(Box::leak(Box::new(alloc, chain)?))
+/// Asks whether a number is in a chain.
+fn contains(
+    alloc: Global,
+    cache: &mut CacheData<IsInChain>,
+    chain: &Chain<'_>,
+    n: u32,
+) -> Result<(bool, How), Fault> {
+    let reply = memoized(
+        alloc,
+        cache,
+        &mut (),
+        n,
+        &chain.track(),
+        &mut Top::new(),
+        true,
+    )?;
+    Ok((reply.output, reply.how))
 }
 
 #[test]
 fn chains_that_answer_alike_share_what_is_kept(rt: HostRuntime) -> Result<(), Fail> {
     let alloc = rt.alloc();
     let mut cache: CacheData<IsInChain> = CacheData::new(alloc);
-    let one = stay(alloc, Chain::new(1))?;
-    let three = stay(alloc, Chain::new(3))?;
-    let to_two = stay(alloc, Chain::insert(one, 2))?;
-    let to_three = stay(alloc, Chain::insert(to_two, 3))?;
-    let to_four = stay(alloc, Chain::insert(to_two, 4))?;
-    let to_five = stay(alloc, Chain::insert(to_four, 5))?;
-    let asked = [
-        (one, 0, false, How::Stored),
-        (one, 1, true, How::Stored),
-        (to_three, 2, true, How::Stored),
-        (to_four, 2, true, How::Hit),
-        (to_two, 2, true, How::Hit),
-        (to_five, 2, true, How::Hit),
-        (one, 2, false, How::Stored),
-        (three, 2, false, How::Hit),
-    ];
-    for (chain, n, is, how) in asked {
-        let view = chain.track();
-        let reply = memoized(alloc, &mut cache, &mut (), n, &view, &mut Top::new(), true)?;
-        assert_eq!(rt; reply.output, is);
-        assert_eq!(rt; reply.how, how);
-    }
+    let one = Chain::new(1);
+    let three = Chain::new(3);
+    let to_two = Chain::insert(&one, 2);
+    let to_three = Chain::insert(&to_two, 3);
+    let to_four = Chain::insert(&to_two, 4);
+    let to_five = Chain::insert(&to_four, 5);
+    assert_eq!(rt; contains(alloc, &mut cache, &one, 0)?, (false, How::Stored));
+    assert_eq!(rt; contains(alloc, &mut cache, &one, 1)?, (true, How::Stored));
+    assert_eq!(rt;
+        contains(alloc, &mut cache, &to_three, 2)?,
+        (true, How::Stored)
+    );
+    assert_eq!(rt; contains(alloc, &mut cache, &to_four, 2)?, (true, How::Hit));
+    assert_eq!(rt; contains(alloc, &mut cache, &to_two, 2)?, (true, How::Hit));
+    assert_eq!(rt; contains(alloc, &mut cache, &to_five, 2)?, (true, How::Hit));
+    assert_eq!(rt; contains(alloc, &mut cache, &one, 2)?, (false, How::Stored));
+    assert_eq!(rt; contains(alloc, &mut cache, &three, 2)?, (false, How::Hit));
     Ok(())
 }
 
