@@ -1,10 +1,10 @@
 //! A fault of a run is the one that its caller is told.
 
 use crate::cells::{Context, ContextCall};
-use crate::faults::{Calling, Failing, closed_fault};
+use crate::faults::{Calling, CallingOfPart, Failing, closed_fault};
 use crate::functions::LocationMemo;
 use comemo::function::memoized;
-use comemo::{CacheData, Constraint, Fault, Function, MemoOf, Track};
+use comemo::{Both, CacheData, Constraint, Fault, Function, MemoOf, Top, Track};
 use std::alloc::Global;
 use std::test::Fail;
 
@@ -84,5 +84,35 @@ fn a_fault_of_a_called_function_is_handed_on(rt: HostRuntime) -> Result<(), Fail
         told_of::<Calling>(alloc, &mut kept, false),
         (Some(Fault::Incomplete), false)
     );
+    Ok(())
+}
+
+#[test]
+fn a_fault_of_a_function_of_a_part_is_handed_on(rt: HostRuntime) -> Result<(), Fail> {
+    let alloc = rt.alloc();
+    let (one, other) = (context(), context());
+    let both = Both {
+        first: one.track(),
+        second: other.track(),
+    };
+    for (key, fault) in [
+        ((true, true), Fault::Memory),
+        ((true, false), Fault::Incomplete),
+        ((false, true), Fault::Memory),
+        ((false, false), Fault::Incomplete),
+    ] {
+        let mut cache: CacheData<CallingOfPart> = CacheData::new(alloc);
+        let mut kept = (CacheData::new(alloc), CacheData::new(alloc));
+        let reply = memoized(
+            alloc,
+            &mut cache,
+            &mut kept,
+            key,
+            &both.track(),
+            &mut Top::new(),
+            true,
+        );
+        assert_eq!(rt; reply.err(), Some(fault));
+    }
     Ok(())
 }

@@ -1,11 +1,14 @@
 //! Memoized functions whose runs end in a fault, and what a caller is told of it.
-ghost use Rattle.std.specs.Prelude.{◌≡◌, OnErr};
+ghost use Rattle.std.specs.Prelude.{◌≡◌, OnErr, ⊤};
 ghost use Rattle.std.proofs.Common.{rules};
 
 use crate::cells::{Context, ContextCall};
 use crate::functions::LocationMemo;
 use comemo::closure::memoize;
-use comemo::{CacheData, Constraint, Fault, Function, MemoOf, Recorder, Reply, Sink, Tracked};
+use comemo::{
+    Both, CacheData, Constraint, Fault, Function, FunctionOf, Memo, MemoOf, MultiAnswer, MultiCall,
+    Recorder, Reply, Sink, Tracked,
+};
 use std::alloc::Global;
 
 /// A function whose runs all end for want of memory.
@@ -81,6 +84,48 @@ impl Function for Calling {
         kept: &mut (CacheData<MemoOf<Failing>>, CacheData<MemoOf<Refused>>),
     ) -> Result<u64, Fault> {
         of.call(&mut kept.0, &mut kept.1, *hands_on)
+    }
+}
+
+/// A function of two values that calls one that fails: of the first where the first part of its key is true, else of the
+/// second. Whatever it gave would be right.
+pub struct CallingOfPart;
+
+impl Memo for CallingOfPart {
+    type Call = MultiCall<ContextCall, ContextCall>;
+
+    type Key = (bool, bool);
+
+    type Answer = MultiAnswer<u64, u64>;
+
+    type Out = u64;
+
+    ghost def = { λ _ _ _ _. ⊤ };
+
+    ghost output_clones = { Prim.search rules };
+
+    ghost key_alike = { Prim.search rules };
+
+    ghost key_clones = { Prim.search rules };
+
+    ghost answer_clones = { Prim.search rules };
+}
+
+impl<'a> FunctionOf<Both<'a, Context, Context>> for CallingOfPart {
+    type Needs = (CacheData<MemoOf<Failing>>, CacheData<MemoOf<Refused>>);
+
+    ghost reads = { λ key m out V W right. right };
+
+    fn run(
+        key: &(bool, bool),
+        of: &mut Recorder<'_, Both<'a, Context, Context>>,
+        kept: &mut (CacheData<MemoOf<Failing>>, CacheData<MemoOf<Refused>>),
+    ) -> Result<u64, Fault> {
+        if key.0 {
+            of.call_first(&mut kept.0, &mut kept.1, key.1)
+        } else {
+            of.call_second(&mut kept.0, &mut kept.1, key.1)
+        }
     }
 }
 
