@@ -45,8 +45,6 @@ impl<'a, T: Track> Recorder<'a, T> {
 }
 
 /// What a run asks of two values that are one.
-///
-/// A part that is two values itself is asked by a `MultiCall`, and answers by a `MultiAnswer`.
 impl<'a, 'b, A: Track, B: Track> Recorder<'a, Both<'b, A, B>> {
     ghost use Rattle.tracking.specs.Multi.{first_call, second_call, first_answer, second_answer};
     ghost use Rattle.tracking.specs.declared.multi.MultiCall.{MultiCall};

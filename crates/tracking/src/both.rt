@@ -6,10 +6,11 @@ use crate::multi::{MultiAnswer, MultiCall};
 use crate::track::{Track, Tracked};
 use std::alloc::AllocError;
 
-/// Views joined: two tracked values as one, each of which may be two itself.
+/// Views joined: two tracked values as one.
 ///
 /// Each call and its answer are a part's, as those of `Multi` are. What is joined is tracked itself, so that a run can be
-/// handed it by one view. It takes no memory. This project's own: comemo's functions take their tracked arguments side by
+/// handed it by one view. It takes no memory. A part may be two values itself, but the checker does not cover a run of a
+/// function of such parts yet: more than two are a struct of a user's own, with its calls and its `Track`. This project's own: comemo's functions take their tracked arguments side by
 /// side.
 #[derive(Drop)]
 pub struct Both<'a, A, B> {
