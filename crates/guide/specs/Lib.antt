@@ -5,3 +5,5 @@ pub mod KindLaws
 pub mod Chains
 pub mod Loads
 pub mod LoadLaws
+pub mod Regions
+pub mod RegionLaws

@@ -10,6 +10,7 @@ pub mod loader;
 pub mod numbers;
 pub mod orders;
 pub mod passes;
+pub mod region;
 pub mod report;
 pub mod several;
 #[cfg(test)]

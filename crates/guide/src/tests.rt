@@ -8,6 +8,7 @@ use crate::loader::{Contents, Library, Loader};
 use crate::numbers::{DoubleFlat, Flat, Identity, Sum, SumBelow};
 use crate::orders::{Both, Either, Exceeds, Turn};
 use crate::passes::Passes;
+use crate::region::{Region, Warmest};
 use crate::report::{Kept, Report};
 use crate::several::{IsWarmer, Lead};
 use crate::texts::Same;
@@ -509,6 +510,50 @@ fn a_function_of_two_towns_calls_one_of_each(rt: HostRuntime) -> Result<(), Fail
     assert_eq!(rt; cooled.output, 4);
     assert_eq!(rt; cooled.how, How::Stored);
     assert_eq!(rt; kept.len(), 3);
+    Ok(())
+}
+
+/// Asks how warm the warmest of three towns is.
+fn warmest(
+    alloc: Global,
+    cache: &mut CacheData<Warmest>,
+    coast: &Town,
+    river: &Town,
+    hill: &Town,
+) -> Result<(u64, How), Fault> {
+    let region = Region { coast, river, hill };
+    let reply = memoized(
+        alloc,
+        cache,
+        &mut (),
+        (),
+        &region.track(),
+        &mut Top::new(),
+        true,
+    )?;
+    Ok((reply.output, reply.how))
+}
+
+#[test]
+fn three_towns_are_asked_as_one(rt: HostRuntime) -> Result<(), Fail> {
+    let alloc = rt.alloc();
+    let mut cache: CacheData<Warmest> = CacheData::new(alloc);
+    let coast = town(900, 21);
+    let river = town(50, 24);
+    let mut hill = town(10, 15);
+    let first = warmest(alloc, &mut cache, &coast, &river, &hill)?;
+    assert_eq!(rt; first, (24, How::Stored));
+    hill.people = 20;
+    let grown = warmest(alloc, &mut cache, &coast, &river, &hill)?;
+    assert_eq!(rt; grown, (24, How::Hit));
+    hill.degrees = 30;
+    let warmed = warmest(alloc, &mut cache, &coast, &river, &hill)?;
+    assert_eq!(rt; warmed, (30, How::Stored));
+    let turned = warmest(alloc, &mut cache, &river, &coast, &hill)?;
+    assert_eq!(rt; turned, (30, How::Stored));
+    hill.degrees = 15;
+    let again = warmest(alloc, &mut cache, &coast, &river, &hill)?;
+    assert_eq!(rt; again, (24, How::Hit));
     Ok(())
 }
 

@@ -1,0 +1,5 @@
+use Rattle.std.proofs.Common.{rules}
+use Rattle.guide.proofs.region.WarmestFunctionOfRegion.run.Goals as goal
+
+pub returns-clause-right : goal.returns-clause-right
+returns-clause-right c = λ m f. search (rules, c.in_ok-hill.ensures.told m f, c.in_ok-river.ensures.told m (c.in_ok-hill.ensures.before m f), c.in_ok-coast.ensures.told m (c.in_ok-river.ensures.before m (c.in_ok-hill.ensures.before m f)))
