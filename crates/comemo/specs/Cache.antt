@@ -14,6 +14,14 @@ abbrev pub output_code : {O C : Type 0} → Coded O → Coded C → Coded (Outpu
 output_code {O} {C} o c = code_by (O × List C) (coded× o (coded_list c)) (λ x. (x.output, x.writes)) (λ p. record { output = p.0; writes = p.1 }) (λ _. refl)
 
 module _ {K C R O : Type 0} (eq : C → C → Bool) (same : R → R → Bool) where
+  -- clones of keys and of answers are equal, and the definition of a memoized function tells apart, at answers that tell no
+  -- equal calls apart, neither equal keys nor an output from its clone
+  pub record MemoLaws (eqk : K → K → Bool) (key_clone : K → K → Type 0) (answer_clone : R → R → Type 0) (cloned : O → O → Type 0) (def : K → (C → R) → O → List C → Type 0) : Type 0 where
+    pub outputs : (key : K) (m : C → R) (a b : O) (writes : List C) → Respects eq same m → cloned a b → def key m a writes → def key m b writes
+    pub keys : (j k : K) (m : C → R) (output : O) (writes : List C) → Respects eq same m → IsTrue (eqk j k) → def j m output writes → def k m output writes
+    pub key_clones : (x y : K) → key_clone x y → IsTrue (eqk x y)
+    pub answer_clones : (x y : R) → answer_clone x y → IsTrue (same x y)
+
   -- whichever answers agree with the path, the output and the writes stand in the definition
   abbrev pub Stands : (K → (C → R) → O → List C → Type 0) → K → List (C × R) → O → List C → Type 0
   Stands def key path output writes = (m : C → R) → Respects eq same m → Agrees same m path → def key m output writes

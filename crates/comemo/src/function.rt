@@ -140,13 +140,7 @@ impl<F: Function> Memo for MemoOf<F> {
 
     ghost def = { λ key m output _. F.means key m output };
 
-    ghost output_clones = { λ key m a b _. F.laws.outputs key m a b };
-
-    ghost key_alike = { λ j k m output _. F.laws.keys j k m output };
-
-    ghost key_clones = { F.laws.clones };
-
-    ghost answer_clones = { F.Of.clones };
+    ghost laws = { record { outputs = λ key m a b _. F.laws.outputs key m a b; keys = λ j k m output _. F.laws.keys j k m output; key_clones = F.laws.clones; answer_clones = F.Of.clones } };
 }
 
 /// A memoized function of a key and `T`, where `T` may borrow: several tracked values as one, by `Both`, or a view of a

@@ -1,11 +1,10 @@
 //! Memoized functions, and the cache of what their runs gave.
-ghost use Rattle.std.specs.Prelude.{◌≡◌, [], ◌∷◌, List, Bool, true, false, IsTrue, IfOk, IfErr, OnOk, OnErr, IfSome, MatchOption, length};
+ghost use Rattle.std.specs.Prelude.{◌≡◌, [], ◌∷◌, List, false, IfOk, IfErr, OnOk, OnErr, IfSome, MatchOption, length};
 ghost use Rattle.std.specs.List.{All};
 ghost use Rattle.std.specs.List.Sorted.{IsPermutation};
-ghost use Rattle.comemo_base.specs.Answers.{Respects};
 ghost use Rattle.comemo_base.specs.Tree.{stored};
 ghost use Rattle.comemo_base.specs.Insertion.{Exists, Misses, IsNewPath, IsReason};
-ghost use Rattle.comemo.specs.Cache.{Output, Stands, HasNone, Has};
+ghost use Rattle.comemo.specs.Cache.{MemoLaws, Output, Stands, HasNone, Has};
 
 use comemo_base::{CallSequence, CallTree, InsertError};
 use std::alloc::{AllocError, Global};
@@ -30,17 +29,8 @@ pub trait Memo {
     // at this key and these answers, this output and these writes are right
     ghost def: { Self.Key → (Self.Call → Self.Answer) → Self.Out → List Self.Call → Type 0 };
 
-    // a clone of a right output is right
-    ghost output_clones: { (key : Self.Key) (m : Self.Call → Self.Answer) (a b : Self.Out) (writes : List Self.Call) → Respects Self.Call.eq Self.Answer.eq m → Self.Out.is_clone a b → def key m a writes → def key m b writes };
-
-    // what is right at a key is right at an equal one
-    ghost key_alike: { (j k : Self.Key) (m : Self.Call → Self.Answer) (output : Self.Out) (writes : List Self.Call) → Respects Self.Call.eq Self.Answer.eq m → IsTrue (Self.Key.eq j k) → def j m output writes → def k m output writes };
-
-    // a clone of a key is equal
-    ghost key_clones: { (x y : Self.Key) → Self.Key.is_clone x y → IsTrue (Self.Key.eq x y) };
-
-    // a clone of an answer is equal
-    ghost answer_clones: { (x y : Self.Answer) → Self.Answer.is_clone x y → IsTrue (Self.Answer.eq x y) };
+    // clones of keys and of answers are equal, and the definition tells apart neither equal keys nor an output from its clone
+    ghost laws: { MemoLaws Self.Call.eq Self.Answer.eq Self.Key.eq Self.Key.is_clone Self.Answer.is_clone Self.Out.is_clone def };
 }
 
 /// What a run gave, as the cache keeps it.

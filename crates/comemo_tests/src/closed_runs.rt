@@ -2,6 +2,7 @@
 
 use crate::cells::Context;
 use crate::closures::{closed_square, closed_sum};
+use crate::expected::expect;
 use crate::functions::SumMemo;
 use crate::inputs::SquareMemo;
 use comemo::{CacheData, Fault, How, Reply, Top, Track};
@@ -26,14 +27,11 @@ fn a_closure_runs_where_no_entry_agrees(rt: HostRuntime) -> Result<(), Fail> {
     let alloc = rt.alloc();
     let mut cache = CacheData::new(alloc);
     let first = sum_of(alloc, &mut cache, 4, true)?;
-    assert_eq!(rt; first.output, 7);
-    assert_eq!(rt; first.how, How::Stored);
+    expect(&rt, first, 7, How::Stored);
     let again = sum_of(alloc, &mut cache, 4, true)?;
-    assert_eq!(rt; again.output, 7);
-    assert_eq!(rt; again.how, How::Hit);
+    expect(&rt, again, 7, How::Hit);
     let other = sum_of(alloc, &mut cache, 5, true)?;
-    assert_eq!(rt; other.output, 8);
-    assert_eq!(rt; other.how, How::Stored);
+    expect(&rt, other, 8, How::Stored);
     assert_eq!(rt; cache.len(), 2);
     Ok(())
 }
@@ -43,11 +41,9 @@ fn a_closure_that_is_not_enabled_runs_each_time(rt: HostRuntime) -> Result<(), F
     let alloc = rt.alloc();
     let mut cache = CacheData::new(alloc);
     let first = sum_of(alloc, &mut cache, 4, false)?;
-    assert_eq!(rt; first.output, 7);
-    assert_eq!(rt; first.how, How::Disabled);
+    expect(&rt, first, 7, How::Disabled);
     let again = sum_of(alloc, &mut cache, 4, false)?;
-    assert_eq!(rt; again.output, 7);
-    assert_eq!(rt; again.how, How::Disabled);
+    expect(&rt, again, 7, How::Disabled);
     assert_eq!(rt; cache.len(), 0);
     Ok(())
 }
@@ -57,10 +53,8 @@ fn a_closure_that_asks_nothing_is_kept_under_its_key(rt: HostRuntime) -> Result<
     let alloc = rt.alloc();
     let mut cache: CacheData<SquareMemo> = CacheData::new(alloc);
     let first = closed_square(alloc, &mut cache, 12, &mut Top::new(), true)?;
-    assert_eq!(rt; first.output, 144);
-    assert_eq!(rt; first.how, How::Stored);
+    expect(&rt, first, 144, How::Stored);
     let again = closed_square(alloc, &mut cache, 12, &mut Top::new(), true)?;
-    assert_eq!(rt; again.output, 144);
-    assert_eq!(rt; again.how, How::Hit);
+    expect(&rt, again, 144, How::Hit);
     Ok(())
 }

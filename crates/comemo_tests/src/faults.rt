@@ -102,13 +102,7 @@ impl Memo for CallingOfPart {
 
     ghost def = { λ _ _ _ _. ⊤ };
 
-    ghost output_clones = { Prim.search rules };
-
-    ghost key_alike = { Prim.search rules };
-
-    ghost key_clones = { Prim.search rules };
-
-    ghost answer_clones = { Prim.search rules };
+    ghost laws = { Prim.search rules };
 }
 
 impl<'a> FunctionOf<Both<'a, Context, Context>> for CallingOfPart {

@@ -21,13 +21,7 @@ impl Memo for FibMemo {
 
     ghost def = { λ n _ out _. out ≡ fib n % 2 ^ 64 };
 
-    ghost output_clones = { λ key m a b writes h d. Prim.search rules };
-
-    ghost key_alike = { λ j k m output writes h d. Prim.search rules };
-
-    ghost key_clones = { λ x y h. Prim.search rules };
-
-    ghost answer_clones = { λ x y h. Prim.search rules };
+    ghost laws = { Prim.search rules };
 }
 
 /// The number at a place from those before it, which are kept.

@@ -24,13 +24,7 @@ impl Memo for LocationMemo {
 
     ghost def = { λ _ m out _. out ≡ m Location };
 
-    ghost output_clones = { λ key m a b writes h d. Prim.search rules };
-
-    ghost key_alike = { λ j k m output writes h d. Prim.search rules };
-
-    ghost key_clones = { λ x y h. Prim.search rules };
-
-    ghost answer_clones = { λ x y h. Prim.search rules };
+    ghost laws = { Prim.search rules };
 }
 
 /// The location of a context, kept.
@@ -81,13 +75,7 @@ impl Memo for SumMemo {
 
     ghost def = { λ _ m out _. out ≡ (m Location + m Styles) % 2 ^ 64 };
 
-    ghost output_clones = { λ key m a b writes h d. Prim.search rules };
-
-    ghost key_alike = { λ j k m output writes h d. Prim.search rules };
-
-    ghost key_clones = { λ x y h. Prim.search rules };
-
-    ghost answer_clones = { λ x y h. Prim.search rules };
+    ghost laws = { Prim.search rules };
 }
 
 /// The sum of the location and the styles of a context, kept.
@@ -139,13 +127,7 @@ impl Memo for DoubleMemo {
 
     ghost def = { λ n _ out _. out ≡ (n + n) % 2 ^ 64 };
 
-    ghost output_clones = { λ key m a b writes h d. Prim.search rules };
-
-    ghost key_alike = { λ j k m output writes h d. Prim.search rules };
-
-    ghost key_clones = { λ x y h. Prim.search rules };
-
-    ghost answer_clones = { λ x y h. Prim.search rules };
+    ghost laws = { Prim.search rules };
 }
 
 /// The double of a number, kept under it.
@@ -187,13 +169,7 @@ impl Memo for ShownMemo {
 
     ghost def = { λ _ m out _. string_bytes out ≡ string_bytes (m tt) };
 
-    ghost output_clones = { λ key m a b writes h d. Prim.search rules };
-
-    ghost key_alike = { λ j k m output writes h d. Prim.search rules };
-
-    ghost key_clones = { λ x y h. Prim.search rules };
-
-    ghost answer_clones = { λ x y h. Prim.search rules };
+    ghost laws = { Prim.search rules };
 }
 
 /// The text of a page, kept under a name.

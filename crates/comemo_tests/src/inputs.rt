@@ -62,13 +62,7 @@ impl Memo for SquareMemo {
 
     ghost def = { λ n _ out _. out ≡ (n * n) % 2 ^ 64 };
 
-    ghost output_clones = { Prim.search rules };
-
-    ghost key_alike = { Prim.search rules };
-
-    ghost key_clones = { Prim.search rules };
-
-    ghost answer_clones = { Prim.search rules };
+    ghost laws = { Prim.search rules };
 }
 
 /// The square of a number, kept under it.

@@ -42,13 +42,7 @@ impl Memo for ContainsMemo {
 
     ghost def = { λ key answers out _. OnParts answers (λ _ m. out ≡ (nat_eq (m Location) key.0 || nat_eq (m Styles) key.0)) };
 
-    ghost output_clones = { λ key m a b writes r d h x y p q. Prim.search (rules, h x y p q) };
-
-    ghost key_alike = { λ j k m output writes r e h x y p q. Prim.search (rules, h x y p q) };
-
-    ghost key_clones = { λ x y h. Prim.search rules };
-
-    ghost answer_clones = { λ x y h. Prim.search rules };
+    ghost laws = { record { outputs = λ key m a b writes r d h x y p q. Prim.search (rules, h x y p q); keys = λ j k m output writes r e h x y p q. Prim.search (rules, h x y p q); key_clones = Prim.search rules; answer_clones = Prim.search rules } };
 }
 
 /// Whether a number is one of a context's, kept. It asks the second one only where the first is another.
@@ -102,13 +96,7 @@ impl Memo for SumOfTwoMemo {
 
     ghost def = { λ key _ out _. out ≡ (key.0 + key.1) % 2 ^ 32 };
 
-    ghost output_clones = { λ key m a b writes h d. Prim.search rules };
-
-    ghost key_alike = { λ j k m output writes h d. Prim.search rules };
-
-    ghost key_clones = { λ x y h. Prim.search rules };
-
-    ghost answer_clones = { λ x y h. Prim.search rules };
+    ghost laws = { Prim.search rules };
 }
 
 /// The sum of two numbers, kept under both.
@@ -148,13 +136,7 @@ impl Memo for LocationsMemo {
 
     ghost def = { λ _ answers out _. OnParts answers (λ m n. out ≡ (m Location + n Location) % 2 ^ 64) };
 
-    ghost output_clones = { λ key m a b writes r d h x y p q. Prim.search (rules, h x y p q) };
-
-    ghost key_alike = { λ j k m output writes r e h x y p q. Prim.search (rules, h x y p q) };
-
-    ghost key_clones = { λ x y h. Prim.search rules };
-
-    ghost answer_clones = { λ x y h. Prim.search rules };
+    ghost laws = { record { outputs = λ key m a b writes r d h x y p q. Prim.search (rules, h x y p q); keys = λ j k m output writes r e h x y p q. Prim.search (rules, h x y p q); key_clones = Prim.search rules; answer_clones = Prim.search rules } };
 }
 
 /// The sum of the locations of two contexts, kept. It asks each context once.
@@ -210,13 +192,7 @@ impl Memo for ThreeMemo {
 
     ghost def = { λ key _ out _. out ≡ (key.0 + key.1.0) % 2 ^ 32 };
 
-    ghost output_clones = { λ key m a b writes h d. Prim.search rules };
-
-    ghost key_alike = { λ j k m output writes h d. Prim.search rules };
-
-    ghost key_clones = { λ x y h. Prim.search rules };
-
-    ghost answer_clones = { λ x y h. Prim.search rules };
+    ghost laws = { Prim.search rules };
 }
 
 /// The sum of two numbers, kept under both and nothing.

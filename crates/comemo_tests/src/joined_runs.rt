@@ -1,6 +1,7 @@
 //! Runs of functions of several arguments.
 
 use crate::cells::Context;
+use crate::expected::expect;
 use crate::joined::{
     ContainsMemo, LocationsMemo, SumOfTwoMemo, ThreeMemo, contains, locations, sum_of_three,
     sum_of_two,
@@ -22,17 +23,13 @@ fn a_sum_is_kept_under_both_numbers(rt: HostRuntime) -> Result<(), Fail> {
     let alloc = rt.alloc();
     let mut cache: CacheData<SumOfTwoMemo> = CacheData::new(alloc);
     let first = sum_of_two(alloc, &mut cache, 2, 4, &mut top())?;
-    assert_eq!(rt; first.output, 6);
-    assert_eq!(rt; first.how, How::Stored);
+    expect(&rt, first, 6, How::Stored);
     let second = sum_of_two(alloc, &mut cache, 2, 3, &mut top())?;
-    assert_eq!(rt; second.output, 5);
-    assert_eq!(rt; second.how, How::Stored);
+    expect(&rt, second, 5, How::Stored);
     let third = sum_of_two(alloc, &mut cache, 2, 3, &mut top())?;
-    assert_eq!(rt; third.output, 5);
-    assert_eq!(rt; third.how, How::Hit);
+    expect(&rt, third, 5, How::Hit);
     let fourth = sum_of_two(alloc, &mut cache, 4, 2, &mut top())?;
-    assert_eq!(rt; fourth.output, 6);
-    assert_eq!(rt; fourth.how, How::Stored);
+    expect(&rt, fourth, 6, How::Stored);
     assert_eq!(rt; cache.len(), 3);
     Ok(())
 }
@@ -42,14 +39,11 @@ fn three_inputs_are_joined_by_pairs(rt: HostRuntime) -> Result<(), Fail> {
     let alloc = rt.alloc();
     let mut cache: CacheData<ThreeMemo> = CacheData::new(alloc);
     let first = sum_of_three(alloc, &mut cache, 2, 4, &mut top())?;
-    assert_eq!(rt; first.output, 6);
-    assert_eq!(rt; first.how, How::Stored);
+    expect(&rt, first, 6, How::Stored);
     let second = sum_of_three(alloc, &mut cache, 2, 4, &mut top())?;
-    assert_eq!(rt; second.output, 6);
-    assert_eq!(rt; second.how, How::Hit);
+    expect(&rt, second, 6, How::Hit);
     let third = sum_of_three(alloc, &mut cache, 2, 5, &mut top())?;
-    assert_eq!(rt; third.output, 7);
-    assert_eq!(rt; third.how, How::Stored);
+    expect(&rt, third, 7, How::Stored);
     Ok(())
 }
 
@@ -67,17 +61,13 @@ fn a_number_is_looked_for_in_a_context(rt: HostRuntime) -> Result<(), Fail> {
     let alloc = rt.alloc();
     let mut cache = CacheData::new(alloc);
     let first = ask_contains(alloc, &mut cache, 3, &context(3, 40))?;
-    assert_eq!(rt; first.output, true);
-    assert_eq!(rt; first.how, How::Stored);
+    expect(&rt, first, true, How::Stored);
     let other_styles = ask_contains(alloc, &mut cache, 3, &context(3, 41))?;
-    assert_eq!(rt; other_styles.output, true);
-    assert_eq!(rt; other_styles.how, How::Hit);
+    expect(&rt, other_styles, true, How::Hit);
     let other_number = ask_contains(alloc, &mut cache, 40, &context(3, 40))?;
-    assert_eq!(rt; other_number.output, true);
-    assert_eq!(rt; other_number.how, How::Stored);
+    expect(&rt, other_number, true, How::Stored);
     let in_neither = ask_contains(alloc, &mut cache, 40, &context(3, 41))?;
-    assert_eq!(rt; in_neither.output, false);
-    assert_eq!(rt; in_neither.how, How::Stored);
+    expect(&rt, in_neither, false, How::Stored);
     assert_eq!(rt; cache.len(), 3);
     Ok(())
 }
@@ -96,17 +86,13 @@ fn a_change_of_one_of_two_contexts_is_seen(rt: HostRuntime) -> Result<(), Fail> 
     let alloc = rt.alloc();
     let mut cache = CacheData::new(alloc);
     let first = ask_locations(alloc, &mut cache, &context(3, 1), &context(5, 1))?;
-    assert_eq!(rt; first.output, 8);
-    assert_eq!(rt; first.how, How::Stored);
+    expect(&rt, first, 8, How::Stored);
     let same = ask_locations(alloc, &mut cache, &context(3, 2), &context(5, 2))?;
-    assert_eq!(rt; same.output, 8);
-    assert_eq!(rt; same.how, How::Hit);
+    expect(&rt, same, 8, How::Hit);
     let changed = ask_locations(alloc, &mut cache, &context(4, 1), &context(5, 1))?;
-    assert_eq!(rt; changed.output, 9);
-    assert_eq!(rt; changed.how, How::Stored);
+    expect(&rt, changed, 9, How::Stored);
     let turned = ask_locations(alloc, &mut cache, &context(5, 1), &context(3, 1))?;
-    assert_eq!(rt; turned.output, 8);
-    assert_eq!(rt; turned.how, How::Stored);
+    expect(&rt, turned, 8, How::Stored);
     assert_eq!(rt; cache.len(), 3);
     Ok(())
 }

@@ -8,6 +8,8 @@ pub mod cells;
 mod closed_runs;
 pub mod closures;
 #[cfg(test)]
+mod expected;
+#[cfg(test)]
 mod fault_tests;
 pub mod faults;
 pub mod fibonacci;

@@ -25,13 +25,7 @@ impl Memo for TwiceMemo {
 
     ghost def = { λ _ m out _. out ≡ (m Location + m Location) % 2 ^ 64 };
 
-    ghost output_clones = { Prim.search rules };
-
-    ghost key_alike = { Prim.search rules };
-
-    ghost key_clones = { Prim.search rules };
-
-    ghost answer_clones = { Prim.search rules };
+    ghost laws = { Prim.search rules };
 }
 
 /// Twice the location of a context, kept, by way of the locations that are kept.

@@ -3,13 +3,13 @@ ghost use Rattle.std.proofs.Common.{rules};
 
 use crate::absorbing::absorbed_row;
 use crate::cells::{Context, Place, Row};
+use crate::expected::expect;
 use crate::functions::LocationMemo;
 use crate::inputs::{SquareMemo, lent_location, look_location, square};
 use crate::sinks::{lose_by_reference, send_by_reference};
 use comemo::begin::begin;
-use comemo::{Begun, CacheData, Constraint, Fault, How, Memo, Pending, Reply, Sink, Top, Track};
+use comemo::{Begun, CacheData, Constraint, Fault, How, Memo, Pending, Sink, Top, Track};
 use std::alloc::{AllocError, Global};
-use std::process::Abort;
 use std::test::Fail;
 
 /// A function of a row of which any output is right.
@@ -26,13 +26,7 @@ impl Memo for AnyRowMemo {
 
     ghost def = { λ _ _ _ _. Unit {0} };
 
-    ghost output_clones = { Prim.search rules };
-
-    ghost key_alike = { Prim.search rules };
-
-    ghost key_clones = { λ x y h. Prim.search rules };
-
-    ghost answer_clones = { λ x y h. Prim.search rules };
+    ghost laws = { Prim.search rules };
 }
 
 #[test]
@@ -123,12 +117,6 @@ fn a_sink_by_reference_sends_on(rt: HostRuntime) -> Result<(), Fail> {
     Ok(())
 }
 
-// A reply is this output, and this became of the call.
-fn expect<A: Abort>(rt: &A, reply: &Reply<u64>, output: u64, how: How) {
-    assert_eq!(rt; reply.output, output);
-    assert_eq!(rt; reply.how, how);
-}
-
 #[test]
 fn a_lent_view_is_an_input(rt: HostRuntime) -> Result<(), Fail> {
     let alloc = rt.alloc();
@@ -147,7 +135,7 @@ fn a_lent_view_is_an_input(rt: HostRuntime) -> Result<(), Fail> {
         let before = look_location(&cache, &mut context.track())?;
         assert_eq!(rt; before.is_some(), how == How::Hit);
         let reply = lent_location(alloc, &mut cache, &mut view, &mut Top::new())?;
-        expect(&rt, &reply, at, how);
+        expect(&rt, reply, at, how);
         assert_eq!(rt; look_location(&cache, &mut view)?, Some(at));
         assert_eq!(rt; cache.len(), len);
     }
@@ -166,7 +154,7 @@ fn a_value_alone_is_an_input(rt: HostRuntime) -> Result<(), Fail> {
         (4_294_967_296, 0, How::Stored),
     ] {
         let reply = square(alloc, &mut cache, number, &mut Top::new())?;
-        expect(&rt, &reply, output, how);
+        expect(&rt, reply, output, how);
     }
     assert_eq!(rt; cache.len(), 3);
     Ok(())

@@ -1,27 +1,17 @@
 //! What becomes of calls, in worked order.
 use crate::cells::{Context, ContextCall, Page, Row};
+use crate::expected::expect;
 use crate::fibonacci::{FibMemo, numbered};
 use crate::functions::{
     DoubleMemo, LocationMemo, ShownMemo, SumMemo, double, location, shown, sum,
 };
 use crate::nested::{TwiceMemo, twice};
 use crate::rows::{FirstZeroMemo, first_zero};
-use comemo::{CacheData, Constraint, How, Reply, Sink, Top, Track};
-use std::process::Abort;
+use comemo::{CacheData, Constraint, How, Sink, Top, Track};
 use std::test::Fail;
 
 fn top() -> Top<ContextCall, u64> {
     Top::new()
-}
-
-// A reply is this output, and this became of the call.
-fn expect<A: Abort>(rt: &A, reply: Reply<u64>, output: u64, how: How) {
-    let Reply {
-        output: given,
-        how: became,
-    } = reply;
-    assert_eq!(rt; given, output);
-    assert_eq!(rt; became, how);
 }
 
 #[test]

@@ -23,13 +23,7 @@ impl Memo for FirstZeroMemo {
 
     ghost def = { λ length m out _. IsFirstZero length (by_call m) out };
 
-    ghost output_clones = { Prim.search rules };
-
-    ghost key_alike = { Prim.search rules };
-
-    ghost key_clones = { Prim.search rules };
-
-    ghost answer_clones = { Prim.search rules };
+    ghost laws = { Prim.search rules };
 }
 
 /// Looks for the first 0 of a row. It asks the places before it, and it.

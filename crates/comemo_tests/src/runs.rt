@@ -24,13 +24,7 @@ impl Memo for AnyMemo {
 
     ghost def = { λ _ _ _ _. Unit {0} };
 
-    ghost output_clones = { Prim.search rules };
-
-    ghost key_alike = { Prim.search rules };
-
-    ghost key_clones = { λ x y h. Prim.search rules };
-
-    ghost answer_clones = { λ x y h. Prim.search rules };
+    ghost laws = { Prim.search rules };
 }
 
 fn top() -> Top<ContextCall, u64> {

@@ -100,13 +100,7 @@ impl Memo for IsInChain {
 
     ghost def = { λ n m out _. out ≡ m (Contains n) };
 
-    ghost output_clones = { Prim.search rules };
-
-    ghost key_alike = { Prim.search rules };
-
-    ghost key_clones = { Prim.search rules };
-
-    ghost answer_clones = { Prim.search rules };
+    ghost laws = { Prim.search rules };
 }
 
 impl<'a> FunctionOf<Chain<'a>> for IsInChain {

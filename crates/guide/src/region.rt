@@ -78,13 +78,7 @@ impl Memo for Warmest {
 
     ghost def = { λ _ m out _. out ≡ max (m (Coast Degrees)) (max (m (River Degrees)) (m (Hill Degrees))) };
 
-    ghost output_clones = { Prim.search rules };
-
-    ghost key_alike = { Prim.search rules };
-
-    ghost key_clones = { Prim.search rules };
-
-    ghost answer_clones = { Prim.search rules };
+    ghost laws = { Prim.search rules };
 }
 
 impl<'a> FunctionOf<Region<'a>> for Warmest {

@@ -23,13 +23,7 @@ impl Memo for IsWarmer {
 
     ghost def = { λ _ m out _. OnParts m (λ one other. out ≡ nat_lt (other Degrees) (one Degrees)) };
 
-    ghost output_clones = { Prim.search rules };
-
-    ghost key_alike = { Prim.search rules };
-
-    ghost key_clones = { Prim.search rules };
-
-    ghost answer_clones = { Prim.search rules };
+    ghost laws = { Prim.search rules };
 }
 
 impl<'a> FunctionOf<Both<'a, Town, Town>> for IsWarmer {
@@ -65,13 +59,7 @@ impl Memo for Lead {
 
     ghost def = { λ _ m out _. OnParts m (λ one other. out ≡ one Degrees - other Degrees) };
 
-    ghost output_clones = { Prim.search rules };
-
-    ghost key_alike = { Prim.search rules };
-
-    ghost key_clones = { Prim.search rules };
-
-    ghost answer_clones = { Prim.search rules };
+    ghost laws = { Prim.search rules };
 }
 
 impl<'a> FunctionOf<Both<'a, Town, Town>> for Lead {

@@ -17,10 +17,24 @@ use crate::warmth::Warmth;
 use comemo::function::memoized;
 use comemo::{CacheData, Fault, Function, How, MemoOf, Reply, Top, Track};
 use std::alloc::{AllocError, Global};
+use std::fmt::Debug;
+use std::process::Abort;
 use std::test::Fail;
 
 fn town(people: u64, degrees: u64) -> Town {
     Town { people, degrees }
+}
+
+/// A reply has this output, and this became of the call.
+fn expect<A: Abort, O: Copy + PartialEq + Debug>(rt: &A, reply: Reply<O>, output: O, how: How) {
+    assert_eq!(rt; reply.output, output);
+    assert_eq!(rt; reply.how, how);
+}
+
+/// A reply has this text, and this became of the call.
+fn expect_text<A: Abort>(rt: &A, reply: Reply<String>, text: &str, how: How) {
+    assert_eq!(rt; reply.output.as_str(), text);
+    assert_eq!(rt; reply.how, how);
 }
 
 /// Calls a function that needs nothing, with no run around it.
@@ -64,14 +78,11 @@ fn a_number_is_doubled_once(rt: HostRuntime) -> Result<(), Fail> {
     let alloc = rt.alloc();
     let mut cache: CacheData<MemoOf<Double>> = CacheData::new(alloc);
     let first = call(alloc, &mut cache, 2, &())?;
-    assert_eq!(rt; first.output, 4);
-    assert_eq!(rt; first.how, How::Stored);
+    expect(&rt, first, 4, How::Stored);
     let other = call(alloc, &mut cache, 4, &())?;
-    assert_eq!(rt; other.output, 8);
-    assert_eq!(rt; other.how, How::Stored);
+    expect(&rt, other, 8, How::Stored);
     let again = call(alloc, &mut cache, 2, &())?;
-    assert_eq!(rt; again.output, 4);
-    assert_eq!(rt; again.how, How::Hit);
+    expect(&rt, again, 4, How::Hit);
     Ok(())
 }
 
@@ -81,16 +92,13 @@ fn only_what_was_asked_counts(rt: HostRuntime) -> Result<(), Fail> {
     let mut cache: CacheData<MemoOf<Warmth>> = CacheData::new(alloc);
     let small = town(900, 21);
     let first = call(alloc, &mut cache, (), &small)?;
-    assert_eq!(rt; first.output, 21);
-    assert_eq!(rt; first.how, How::Stored);
+    expect(&rt, first, 21, How::Stored);
     let grown = town(7000, 21);
     let second = call(alloc, &mut cache, (), &grown)?;
-    assert_eq!(rt; second.output, 21);
-    assert_eq!(rt; second.how, How::Hit);
+    expect(&rt, second, 21, How::Hit);
     let colder = town(7000, 4);
     let third = call(alloc, &mut cache, (), &colder)?;
-    assert_eq!(rt; third.output, 4);
-    assert_eq!(rt; third.how, How::Stored);
+    expect(&rt, third, 4, How::Stored);
     Ok(())
 }
 
@@ -107,8 +115,7 @@ fn a_number_is_kept_with_both_answers(rt: HostRuntime) -> Result<(), Fail> {
     ];
     for (people, degrees, passes, how) in asked {
         let reply = call(alloc, &mut cache, 500, &town(people, degrees))?;
-        assert_eq!(rt; reply.output, passes);
-        assert_eq!(rt; reply.how, how);
+        expect(&rt, reply, passes, how);
     }
     Ok(())
 }
@@ -119,16 +126,13 @@ fn a_question_that_was_not_asked_may_change(rt: HostRuntime) -> Result<(), Fail>
     let mut cache: CacheData<MemoOf<Exceeds>> = CacheData::new(alloc);
     let warm = town(900, 21);
     let first = call(alloc, &mut cache, 500, &warm)?;
-    assert_eq!(rt; first.output, true);
-    assert_eq!(rt; first.how, How::Stored);
+    expect(&rt, first, true, How::Stored);
     let cold = town(900, 4);
     let second = call(alloc, &mut cache, 500, &cold)?;
-    assert_eq!(rt; second.output, true);
-    assert_eq!(rt; second.how, How::Hit);
+    expect(&rt, second, true, How::Hit);
     let small = town(90, 4);
     let third = call(alloc, &mut cache, 500, &small)?;
-    assert_eq!(rt; third.output, false);
-    assert_eq!(rt; third.how, How::Stored);
+    expect(&rt, third, false, How::Stored);
     Ok(())
 }
 
@@ -139,21 +143,17 @@ fn what_a_called_function_asked_counts_for_its_caller(rt: HostRuntime) -> Result
     let mut kept = (CacheData::new(alloc), CacheData::new(alloc));
     let warm = town(900, 21);
     let first = report(alloc, &mut cache, &mut kept, &warm)?;
-    assert_eq!(rt; first.output, 21);
-    assert_eq!(rt; first.how, How::Stored);
+    expect(&rt, first, 21, How::Stored);
     let again = report(alloc, &mut cache, &mut kept, &warm)?;
-    assert_eq!(rt; again.output, 21);
-    assert_eq!(rt; again.how, How::Hit);
+    expect(&rt, again, 21, How::Hit);
     let cold = town(900, 4);
     let third = report(alloc, &mut cache, &mut kept, &cold)?;
-    assert_eq!(rt; third.output, 4);
-    assert_eq!(rt; third.how, How::Stored);
+    expect(&rt, third, 4, How::Stored);
     assert_eq!(rt; kept.0.len(), 2);
     assert_eq!(rt; kept.1.len(), 2);
     let small = town(90, 4);
     let fourth = report(alloc, &mut cache, &mut kept, &small)?;
-    assert_eq!(rt; fourth.output, 7);
-    assert_eq!(rt; fourth.how, How::Stored);
+    expect(&rt, fourth, 7, How::Stored);
     Ok(())
 }
 
@@ -172,8 +172,7 @@ fn a_call_that_is_not_enabled_runs_and_keeps_nothing(rt: HostRuntime) -> Result<
             &mut Top::new(),
             false,
         )?;
-        assert_eq!(rt; reply.output, 21);
-        assert_eq!(rt; reply.how, How::Disabled);
+        expect(&rt, reply, 21, How::Disabled);
     }
     assert_eq!(rt; cache.len(), 0);
     Ok(())
@@ -200,8 +199,7 @@ fn only_large_numbers_are_kept(rt: HostRuntime) -> Result<(), Fail> {
             &mut Top::new(),
             n >= 1000,
         )?;
-        assert_eq!(rt; reply.output, n);
-        assert_eq!(rt; reply.how, how);
+        expect(&rt, reply, n, how);
     }
     Ok(())
 }
@@ -218,8 +216,7 @@ fn the_order_of_two_numbers_counts(rt: HostRuntime) -> Result<(), Fail> {
     ];
     for (key, sum, how) in asked {
         let reply = call(alloc, &mut cache, key, &())?;
-        assert_eq!(rt; reply.output, sum);
-        assert_eq!(rt; reply.how, how);
+        expect(&rt, reply, sum, how);
     }
     Ok(())
 }
@@ -230,8 +227,7 @@ fn keys_of_one_hash_are_told_apart(rt: HostRuntime) -> Result<(), Fail> {
     let mut cache: CacheData<MemoOf<DoubleFlat>> = CacheData::new(alloc);
     for (n, how) in [(2, How::Stored), (3, How::Stored), (2, How::Hit)] {
         let reply = call(alloc, &mut cache, Flat(n), &())?;
-        assert_eq!(rt; reply.output, 2 * n);
-        assert_eq!(rt; reply.how, how);
+        expect(&rt, reply, 2 * n, how);
     }
     Ok(())
 }
@@ -243,18 +239,14 @@ fn each_function_has_a_cache_of_its_own(rt: HostRuntime) -> Result<(), Fail> {
     let mut copied: CacheData<MemoOf<Same>> = CacheData::new(alloc);
     let hello = String::from_str(alloc, "Hello")?;
     let first = call(alloc, &mut taken, hello.clone()?, &())?;
-    assert_eq!(rt; first.output.as_str(), "Hello");
-    assert_eq!(rt; first.how, How::Stored);
+    expect_text(&rt, first, "Hello", How::Stored);
     let second = call(alloc, &mut copied, hello.clone()?, &())?;
-    assert_eq!(rt; second.output.as_str(), "Hello");
-    assert_eq!(rt; second.how, How::Stored);
+    expect_text(&rt, second, "Hello", How::Stored);
     let world = String::from_str(alloc, "World")?;
     let third = call(alloc, &mut taken, world, &())?;
-    assert_eq!(rt; third.output.as_str(), "World");
-    assert_eq!(rt; third.how, How::Stored);
+    expect_text(&rt, third, "World", How::Stored);
     let fourth = call(alloc, &mut taken, hello, &())?;
-    assert_eq!(rt; fourth.output.as_str(), "Hello");
-    assert_eq!(rt; fourth.how, How::Hit);
+    expect_text(&rt, fourth, "Hello", How::Hit);
     Ok(())
 }
 
@@ -297,11 +289,9 @@ fn a_run_that_lacks_a_stored_question_is_not_kept(rt: HostRuntime) -> Result<(),
     let alloc = rt.alloc();
     let mut cache = CacheData::new(alloc);
     let first = either(alloc, &mut cache, Turn::People, &town(0, 7))?;
-    assert_eq!(rt; first.output, 0);
-    assert_eq!(rt; first.how, How::Stored);
+    expect(&rt, first, 0, How::Stored);
     let second = either(alloc, &mut cache, Turn::Degrees, &town(1, 7))?;
-    assert_eq!(rt; second.output, 7);
-    assert_eq!(rt; second.how, How::MissingCall);
+    expect(&rt, second, 7, How::MissingCall);
     assert_eq!(rt; cache.len(), 1);
     Ok(())
 }
@@ -311,17 +301,13 @@ fn the_order_of_questions_may_change(rt: HostRuntime) -> Result<(), Fail> {
     let alloc = rt.alloc();
     let mut cache = CacheData::new(alloc);
     let first = both(alloc, &mut cache, Turn::People, &town(0, 7))?;
-    assert_eq!(rt; first.output, (0, 7));
-    assert_eq!(rt; first.how, How::Stored);
+    expect(&rt, first, (0, 7), How::Stored);
     let second = both(alloc, &mut cache, Turn::Degrees, &town(0, 7))?;
-    assert_eq!(rt; second.output, (0, 7));
-    assert_eq!(rt; second.how, How::Hit);
+    expect(&rt, second, (0, 7), How::Hit);
     let third = both(alloc, &mut cache, Turn::Degrees, &town(1, 7))?;
-    assert_eq!(rt; third.output, (1, 7));
-    assert_eq!(rt; third.how, How::Stored);
+    expect(&rt, third, (1, 7), How::Stored);
     let fourth = both(alloc, &mut cache, Turn::Degrees, &town(1, 7))?;
-    assert_eq!(rt; fourth.output, (1, 7));
-    assert_eq!(rt; fourth.how, How::Hit);
+    expect(&rt, fourth, (1, 7), How::Hit);
     Ok(())
 }
 
@@ -339,8 +325,7 @@ fn the_world_is_big_once(rt: HostRuntime) -> Result<(), Fail> {
             &mut Top::new(),
             true,
         )?;
-        assert_eq!(rt; reply.output.as_str(), "The world is big");
-        assert_eq!(rt; reply.how, how);
+        expect_text(&rt, reply, "The world is big", how);
     }
     Ok(())
 }
@@ -360,8 +345,7 @@ fn a_text_is_asked_whether_it_is_hello(rt: HostRuntime) -> Result<(), Fail> {
             text: String::from_str(alloc, text)?,
         };
         let reply = call(alloc, &mut cache, (), &greeting)?;
-        assert_eq!(rt; reply.output, is);
-        assert_eq!(rt; reply.how, how);
+        expect(&rt, reply, is, how);
     }
     Ok(())
 }
@@ -376,27 +360,22 @@ fn a_text_answers_two_kinds_of_questions(rt: HostRuntime) -> Result<(), Fail> {
     };
     for how in [How::Stored, How::Hit] {
         let selfie = call(alloc, &mut selfies, (), &hi)?;
-        assert_eq!(rt; selfie.output.as_str(), "Hi");
-        assert_eq!(rt; selfie.how, how);
+        expect_text(&rt, selfie, "Hi", how);
         let long = call(alloc, &mut lengths, (), &hi)?;
-        assert_eq!(rt; long.output, false);
-        assert_eq!(rt; long.how, how);
+        expect(&rt, long, false, how);
     }
     let loud = Text {
         text: String::from_str(alloc, "Hi!")?,
     };
     let selfie = call(alloc, &mut selfies, (), &loud)?;
-    assert_eq!(rt; selfie.output.as_str(), "Hi!");
-    assert_eq!(rt; selfie.how, How::Stored);
+    expect_text(&rt, selfie, "Hi!", How::Stored);
     let still = call(alloc, &mut lengths, (), &loud)?;
-    assert_eq!(rt; still.output, false);
-    assert_eq!(rt; still.how, How::Stored);
+    expect(&rt, still, false, How::Stored);
     let longer = Text {
         text: String::from_str(alloc, "Hi! Let's go.")?,
     };
     let long = call(alloc, &mut lengths, (), &longer)?;
-    assert_eq!(rt; long.output, true);
-    assert_eq!(rt; long.how, How::Stored);
+    expect(&rt, long, true, How::Stored);
     Ok(())
 }
 
@@ -406,8 +385,7 @@ fn numbers_are_added_up_once(rt: HostRuntime) -> Result<(), Fail> {
     let mut cache: CacheData<MemoOf<SumBelow>> = CacheData::new(alloc);
     for how in [How::Stored, How::Hit] {
         let reply = call(alloc, &mut cache, 1000, &())?;
-        assert_eq!(rt; reply.output, 499500);
-        assert_eq!(rt; reply.how, how);
+        expect(&rt, reply, 499500, how);
     }
     Ok(())
 }
@@ -441,24 +419,19 @@ fn two_towns_are_asked_of_what_was_asked_of_each(rt: HostRuntime) -> Result<(), 
     let mut one = town(900, 21);
     let mut other = town(50, 24);
     let first = is_warmer(alloc, &mut cache, &one, &other)?;
-    assert_eq!(rt; first.output, false);
-    assert_eq!(rt; first.how, How::Stored);
+    expect(&rt, first, false, How::Stored);
     one.people = 1000;
     other.people = 2000;
     let grown = is_warmer(alloc, &mut cache, &one, &other)?;
-    assert_eq!(rt; grown.output, false);
-    assert_eq!(rt; grown.how, How::Hit);
+    expect(&rt, grown, false, How::Hit);
     other.degrees = 20;
     let cooled = is_warmer(alloc, &mut cache, &one, &other)?;
-    assert_eq!(rt; cooled.output, true);
-    assert_eq!(rt; cooled.how, How::Stored);
+    expect(&rt, cooled, true, How::Stored);
     let turned = is_warmer(alloc, &mut cache, &other, &one)?;
-    assert_eq!(rt; turned.output, false);
-    assert_eq!(rt; turned.how, How::Stored);
+    expect(&rt, turned, false, How::Stored);
     one.degrees = 21;
     let again = is_warmer(alloc, &mut cache, &one, &other)?;
-    assert_eq!(rt; again.output, true);
-    assert_eq!(rt; again.how, How::Hit);
+    expect(&rt, again, true, How::Hit);
     Ok(())
 }
 
@@ -493,22 +466,18 @@ fn a_function_of_two_towns_calls_one_of_each(rt: HostRuntime) -> Result<(), Fail
     let mut one = town(900, 24);
     let mut other = town(50, 21);
     let first = lead(alloc, &mut cache, &mut kept, &one, &other)?;
-    assert_eq!(rt; first.output, 3);
-    assert_eq!(rt; first.how, How::Stored);
+    expect(&rt, first, 3, How::Stored);
     assert_eq!(rt; kept.len(), 2);
     one.people = 1000;
     other.people = 2000;
     let grown = lead(alloc, &mut cache, &mut kept, &one, &other)?;
-    assert_eq!(rt; grown.output, 3);
-    assert_eq!(rt; grown.how, How::Hit);
+    expect(&rt, grown, 3, How::Hit);
     let turned = lead(alloc, &mut cache, &mut kept, &other, &one)?;
-    assert_eq!(rt; turned.output, 0);
-    assert_eq!(rt; turned.how, How::Stored);
+    expect(&rt, turned, 0, How::Stored);
     assert_eq!(rt; kept.len(), 2);
     other.degrees = 20;
     let cooled = lead(alloc, &mut cache, &mut kept, &one, &other)?;
-    assert_eq!(rt; cooled.output, 4);
-    assert_eq!(rt; cooled.how, How::Stored);
+    expect(&rt, cooled, 4, How::Stored);
     assert_eq!(rt; kept.len(), 3);
     Ok(())
 }

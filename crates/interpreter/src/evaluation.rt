@@ -37,13 +37,7 @@ impl Memo for Eval {
 
     ghost def = { λ key answers outcome _. OnParts answers (λ _ m. ComesTo m (string_bytes key.0) outcome) };
 
-    ghost output_clones = { λ key m a b writes r c h x y p q. Prim.search (rules, h x y p q) };
-
-    ghost key_alike = { λ j k m output writes r e h x y p q. Prim.search (rules, h x y p q) };
-
-    ghost key_clones = { λ x y h. Prim.search rules };
-
-    ghost answer_clones = { λ x y h. Prim.search rules };
+    ghost laws = { record { outputs = λ key m a b writes r c h x y p q. Prim.search (rules, h x y p q); keys = λ j k m output writes r e h x y p q. Prim.search (rules, h x y p q); key_clones = Prim.search rules; answer_clones = Prim.search rules } };
 }
 
 /// Why a script was not evaluated.

@@ -36,13 +36,7 @@ impl Memo for FileSize {
 
     ghost def = { λ key answers out _. OnParts answers (λ _ m. IsSize key.0 m out) };
 
-    ghost output_clones = { λ key m a b writes r d h x y p q. Prim.search (rules, h x y p q) };
-
-    ghost key_alike = { λ j k answers output writes r e h x m p q. size_alike j.0 k.0 m output (second_respects _ ⟦<JoinedAnswer as PartialEq>⟧.eq answers m r q) e (h x m p q) };
-
-    ghost key_clones = { λ x y h. Prim.search rules };
-
-    ghost answer_clones = { λ x y h. Prim.search rules };
+    ghost laws = { record { outputs = λ key m a b writes r d h x y p q. Prim.search (rules, h x y p q); keys = λ j k answers output writes r e h x m p q. size_alike j.0 k.0 m output (second_respects _ ⟦<JoinedAnswer as PartialEq>⟧.eq answers m r q) e (h x m p q); key_clones = Prim.search rules; answer_clones = Prim.search rules } };
 }
 
 /// Asks the files the text at a path, into a recording of a key joined with them.

@@ -1,5 +1,5 @@
 -- What a session answers, seen through a function of its states.
-use Rattle.std.proofs.Common.{ℕ, List, Option, Result, Ok, Err, refl}
+use Rattle.std.proofs.Common.{ℕ, List, Option, Result, Ok, Err}
 use Rattle.lines.specs.Answers.{Answered, no_line, empty_line, answered, refused}
 use Rattle.lines.specs.Runs.{Ran}
 use Rattle.lines.specs.Started.{RanAs}

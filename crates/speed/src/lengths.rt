@@ -23,13 +23,7 @@ impl Memo for LengthMemo {
 
     ghost def = { λ text _ out _. out ≡ length (string_bytes text) };
 
-    ghost output_clones = { Prim.search rules };
-
-    ghost key_alike = { Prim.search rules };
-
-    ghost key_clones = { Prim.search rules };
-
-    ghost answer_clones = { Prim.search rules };
+    ghost laws = { Prim.search rules };
 }
 
 /// The length of a text in bytes, kept under the text.
@@ -69,13 +63,7 @@ impl Memo for NumberedMemo {
 
     ghost def = { λ number _ out _. IsLengthOf text_number number out };
 
-    ghost output_clones = { Prim.search rules };
-
-    ghost key_alike = { Prim.search rules };
-
-    ghost key_clones = { Prim.search rules };
-
-    ghost answer_clones = { Prim.search rules };
+    ghost laws = { Prim.search rules };
 }
 
 /// The length of a text in bytes, kept under the number that is computed of the text: that of some text with this number.
@@ -111,13 +99,7 @@ impl Memo for KeptNumberMemo {
 
     ghost def = { λ number _ out _. IsLengthOf kept_number number out };
 
-    ghost output_clones = { Prim.search rules };
-
-    ghost key_alike = { Prim.search rules };
-
-    ghost key_clones = { Prim.search rules };
-
-    ghost answer_clones = { Prim.search rules };
+    ghost laws = { Prim.search rules };
 }
 
 /// The length of a text in bytes, kept under the number that the text keeps: that of some text with this number.

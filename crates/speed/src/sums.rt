@@ -31,13 +31,7 @@ impl Memo for SumMemo {
 
     ghost def = { λ key m out _. out ≡ sum_of key.start key.count (by_call m) };
 
-    ghost output_clones = { Prim.search rules };
-
-    ghost key_alike = { Prim.search rules };
-
-    ghost key_clones = { Prim.search rules };
-
-    ghost answer_clones = { Prim.search rules };
+    ghost laws = { Prim.search rules };
 }
 
 /// Adds the first cells to a number, each asked by a call.

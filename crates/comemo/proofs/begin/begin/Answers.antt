@@ -18,10 +18,10 @@ returns-in-Some-clause-begun g c =
       is_enabled = c.if-enabled.true;
       kept = Has-alike g.M.Call.PartialEq.eq g.M.Answer.PartialEq.eq g.met.M.Key.Eq.laws c.args.cache.now c.in-Ok.key _ alike g.M.Out.Clone.is_clone m c.in-Some.found.pairs.items c.in-Some.found.output [] found;
       agrees = agrees;
-      stands = λ n r a. g.met.M.Memo.key_alike c.in-Ok.key _ n c.in-Some.found.output [] r alike (stands n r a);
+      stands = λ n r a. g.met.M.Memo.laws.keys c.in-Ok.key _ n c.in-Some.found.output [] r alike (stands n r a);
       done = c.look.ensures.same;
       sent = c.in_ok-give_pairs.ensures.ok;
-      right = g.met.M.Memo.key_alike c.in-Ok.key _ m c.in-Some.found.output [] respects alike (stands m respects agrees);
+      right = g.met.M.Memo.laws.keys c.in-Ok.key _ m c.in-Some.found.output [] respects alike (stands m respects agrees);
     }
 
 pub returns-clause-begun : goal.returns-clause-begun
@@ -35,7 +35,7 @@ returns-clause-begun g c =
     ] in (
       record {
         has_key = c.in-Ok.ensures;
-        right = λ n output writes r d. g.met.M.Memo.key_alike c.in-Ok.key _ n output writes r alike d;
+        right = λ n output writes r d. g.met.M.Memo.laws.keys c.in-Ok.key _ n output writes r alike d;
         is_enabled = refl;
         pairs = c.new.ensures.pairs;
         writes = c.new.ensures.writes;

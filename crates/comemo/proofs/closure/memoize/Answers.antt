@@ -7,7 +7,7 @@ pub finish-requires : goal.finish-requires
 finish-requires g c =
     let run = rw c.in-Run.is at c.in_ok-output.ensures.begun in
     let is = subst (λ p. IsRun g.M.Call.PartialEq.eq g.M.Answer.PartialEq.eq g.M.Key.PartialEq.eq c.args.cache.now (g.In.Input.key_of c.args.input) (g.In.Input.answers c.args.input) c.args.enabled g.M.Memo.def p) (sym c.pending.view_is) run.0 in
-    λ w m r a. g.met.M.Memo.key_alike _ _ m c.in-Ok.output _ r is.has_key (c.requires.right c.in-Ok.output c.into_constraint.result (ran_from g.M.Call.PartialEq.eq g.M.Answer.PartialEq.eq g.M.Key.PartialEq.eq c.args.cache.now (g.In.Input.key_of c.args.input) (g.In.Input.answers c.args.input) c.args.enabled g.In.Input.did g.P.Record.recorded _ c.args.input c.into_constraint.result (Ok c.in-Ok.output) run.0.none run.1 c.empty-recording.ensures.pairs c.empty-recording.ensures.writes c.empty-recording.ensures.whole c.in-Ok.ensures c.into_constraint.ensures) w m r a)
+    λ w m r a. g.met.M.Memo.laws.keys _ _ m c.in-Ok.output _ r is.has_key (c.requires.right c.in-Ok.output c.into_constraint.result (ran_from g.M.Call.PartialEq.eq g.M.Answer.PartialEq.eq g.M.Key.PartialEq.eq c.args.cache.now (g.In.Input.key_of c.args.input) (g.In.Input.answers c.args.input) c.args.enabled g.In.Input.did g.P.Record.recorded _ c.args.input c.into_constraint.result (Ok c.in-Ok.output) run.0.none run.1 c.empty-recording.ensures.pairs c.empty-recording.ensures.writes c.empty-recording.ensures.whole c.in-Ok.ensures c.into_constraint.ensures) w m r a)
 
 pub returns-in-Ok-clause-hit : goal.returns-in-Ok-clause-hit
 returns-in-Ok-clause-hit g c = no_hit g.M.Call.PartialEq.eq g.M.Answer.PartialEq.eq g.M.Key.PartialEq.eq c.args.cache.now g.M.Out.Clone.is_clone c.finish.new.cache c.pending.inside.key c.into_constraint.result.pairs c.in-Ok.output _ c.finish.result (rw c.in_ok-output.ensures.unchanged at c.finish.ensures.ends)

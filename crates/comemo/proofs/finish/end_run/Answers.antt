@@ -13,7 +13,7 @@ pub give_pairs-requires : goal.give_pairs-requires
 give_pairs-requires g c = reads_same g.M.Call.PartialEq.eq g.M.Answer.PartialEq.eq g.M.Call.Call.is_write g.met.M.Call.Call.same_kind _ c.args.reads.pairs c.in-Ok.ensures.pairs c.requires.reads
 
 pub keep-requires-clause-stands : goal.keep-requires-clause-stands
-keep-requires-clause-stands g c = λ m r a. g.met.M.Memo.output_clones c.args.key m c.args.output.now c.in-Ok.kept [] r c.in-Ok.ensures.output (c.requires.stands m r a)
+keep-requires-clause-stands g c = λ m r a. g.met.M.Memo.laws.outputs c.args.key m c.args.output.now c.in-Ok.kept [] r c.in-Ok.ensures.output (c.requires.stands m r a)
 
 pub returns-clause-ends : goal.returns-clause-ends
 returns-clause-ends g c = Ends-cloned g.M.Call.PartialEq.eq g.M.Answer.PartialEq.eq g.M.Key.PartialEq.eq g.M.Out.Clone.is_clone c.args.cache.now c.args.key c.args.reads.pairs c.args.output.now c.in-Ok.kept c.in-Ok.ensures.output c.keep.result c.keep.new.cache c.keep.ensures.ends

@@ -19,7 +19,7 @@ pub finish-requires : goal.finish-requires
 finish-requires g c =
     let run = rw c.in-Run.is at c.in_ok-output.ensures.begun in
     let is = subst (λ p. IsRun g.T.Call.PartialEq.eq g.T.Answer.PartialEq.eq g.M.Key.PartialEq.eq c.args.cache.now c.args.key (g.T.Track.answers c.fork.result) c.args.enabled g.M.Memo.def p) (sym c.pending.view_is) run.0 in
-    λ w m r a. g.met.M.Memo.key_alike c.args.key c.pending.inside.key m c.in-Ok.output c.run-ran.new.of.recording.writes r is.has_key (g.met.M.FunctionOf.reads c.args.key m c.in-Ok.output [] c.run-ran.new.of.recording.writes (subst (λ k. g.M.Memo.def k m c.in-Ok.output []) run.1.0 (c.in-Ok.ensures.right m (record { whole = w; respects = r; agrees = a }))))
+    λ w m r a. g.met.M.Memo.laws.keys c.args.key c.pending.inside.key m c.in-Ok.output c.run-ran.new.of.recording.writes r is.has_key (g.met.M.FunctionOf.reads c.args.key m c.in-Ok.output [] c.run-ran.new.of.recording.writes (subst (λ k. g.M.Memo.def k m c.in-Ok.output []) run.1.0 (c.in-Ok.ensures.right m (record { whole = w; respects = r; agrees = a }))))
 
 pub returns-in-Ok-clause-right : goal.returns-in-Ok-clause-right
 returns-in-Ok-clause-right g c =

@@ -18,7 +18,7 @@ returns-clause-stands g c =
     let output = subst (λ (v : Output _ _). g.M.Out.Clone.is_clone v.output c.in_ok-output.output) value c.in_ok-output.ensures.cases in
     let writes = ap (λ (v : Output _ _). v.writes) (sym value) in
     let legal = subst (λ e. IsLegal g.M.Call.PartialEq.eq g.M.Answer.PartialEq.eq g.M.Call.Call.is_write g.M.Memo.def e) h.3 (c.self.invariant h.0 h.1 h.2) in
-    Stands-found g.met.M.Call.Eq.laws g.met.M.Answer.Eq.laws g.M.Call.Call.is_write g.M.Memo.def g.M.Key.PartialEq.eq g.M.Out.Clone.is_clone g.met.M.Memo.key_alike g.met.M.Memo.output_clones h.1 c.args.key.now c.in-Some.pairs.items c.in_ok-output.output legal h.4.0 h.4.2 output writes
+    Stands-found g.met.M.Call.Eq.laws g.met.M.Answer.Eq.laws g.M.Call.Call.is_write g.M.Memo.def g.M.Key.PartialEq.eq g.M.Out.Clone.is_clone g.met.M.Memo.laws.keys g.met.M.Memo.laws.outputs h.1 c.args.key.now c.in-Some.pairs.items c.in_ok-output.output legal h.4.0 h.4.2 output writes
 
 pub returns-clause-reads : goal.returns-clause-reads
 returns-clause-reads g c =
