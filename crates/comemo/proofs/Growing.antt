@@ -1,9 +1,10 @@
 -- Entries that come, and none that goes.
-use Rattle.std.proofs.Common.{◌≡◌, ◌++◌, ◌∷◌, [], append_assoc, Bool, List, sym, subst}
+use Rattle.std.proofs.Common.{◌≡◌, ◌++◌, ◌∷◌, [], append_assoc, List, sym, subst}
 use Rattle.std.specs.List.Sorted.{IsPermutation}
 use Rattle.std.proofs.lemmas.List.Sorted.{IsPermutation-refl, IsPermutation-trans, IsPermutation-append_right}
 use Rattle.comemo_base.specs.Tree.{Stored, stored}
-use Rattle.comemo.specs.Cache.{Output}
+use Rattle.comemo.specs.Meaning.{Meaning}
+use Rattle.comemo.specs.Cache.{Kept, Touches}
 use Rattle.comemo.specs.Called.{Grows}
 use Rattle.comemo.specs.Finish.{Ends}
 use Rattle.comemo.specs.declared.finish.How.{How}
@@ -12,15 +13,18 @@ use Rattle.comemo.specs.declared.finish.How.TheVariants as how
 pub grows_not : {E : Type 0} (es es' : List E) → es' ≡ es → Grows es es'
 grows_not es es' e = ([], subst (λ x. IsPermutation es x) (sym e) (IsPermutation-refl es))
 
+pub grows_by_touch : {E : Type 0} (es es' : List E) → Touches es es' → Grows es es'
+grows_by_touch es es' touched = grows_not es es' touched.same
+
 pub grows_on : {E : Type 0} (es mid es' : List E) → Grows es mid → Grows mid es' → Grows es es'
 grows_on es mid es' a b =
     (b.0 ++ a.0, IsPermutation-trans _ (b.0 ++ mid) _ (subst (λ x. IsPermutation x (b.0 ++ mid)) (sym (append_assoc b.0 a.0 es)) (IsPermutation-append_right b.0 _ _ a.1)) b.1)
 
 -- a run that ended lost no entry
-pub grows_by_ends : {K C R O : Type 0} (eq : C → C → Bool) (same : R → R → Bool) (eqk : K → K → Bool) (cloned : O → O → Type 0) (es : List (Stored K C R (Output O C))) (key : K) (pairs : List (C × R)) (output : O) (reply : How) (es' : List (Stored K C R (Output O C))) → Ends eq same eqk cloned es key pairs output reply es' → Grows es es'
-grows_by_ends eq same eqk cloned es key pairs output how.Hit es' e = absurd e
-grows_by_ends eq same eqk cloned es key pairs output how.Stored es' e = (stored key e.2.path (record { output = e.2.kept; writes = [] }) ∷ [], e.2.entries)
-grows_by_ends eq same eqk cloned es key pairs output how.AlreadyExists es' e = grows_not es es' e.1
-grows_by_ends eq same eqk cloned es key pairs output how.MissingCall es' e = grows_not es es' e.1
-grows_by_ends eq same eqk cloned es key pairs output how.NotStored es' e = grows_not es es' e
-grows_by_ends eq same eqk cloned es key pairs output how.Disabled es' e = grows_not es es' e
+pub grows_by_ends : {K C R O : Type 0} (M : Meaning K C R O) (es : List (Stored K C R (Kept O C))) (key : K) (pairs : List (C × R)) (output : O) (reply : How) (es' : List (Stored K C R (Kept O C))) → Ends M es key pairs output reply es' → Grows es es'
+grows_by_ends M es key pairs output how.Hit es' e = absurd e
+grows_by_ends M es key pairs output how.Stored es' e = (stored key e.2.path (record { output = e.2.kept; writes = [] }) ∷ [], e.2.entries)
+grows_by_ends M es key pairs output how.AlreadyExists es' e = grows_not es es' e.1
+grows_by_ends M es key pairs output how.MissingCall es' e = grows_not es es' e.1
+grows_by_ends M es key pairs output how.NotStored es' e = grows_not es es' e
+grows_by_ends M es key pairs output how.Disabled es' e = grows_not es es' e

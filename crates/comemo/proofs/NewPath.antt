@@ -11,7 +11,7 @@ use Rattle.comemo_base.specs.Sequence.{HasDistinctCalls}
 use Rattle.comemo_base.specs.Tree.{Stored, stored}
 use Rattle.comemo_base.specs.Insertion.{Has, AllAmong, IsNewPath, outside}
 use Rattle.comemo_base.proofs.Paths.{turned, joined}
-use Rattle.comemo.specs.Cache.{Output, Stands, IsLegal}
+use Rattle.comemo.specs.Cache.{Kept, Stands, IsLegal}
 use Rattle.comemo.proofs.Entries.{All-cons}
 
 module _ {C R : Type 0} (test : C → Bool) where
@@ -78,7 +78,7 @@ module _ {C R : Type 0} {eq : C → C → Bool} {same : R → R → Bool} (calls
             | inr k ↦ let b' = rw k at b in (b'.0, covered front d h a (xs ++ p ∷ []) t more b'.1)
           ]
 
-module _ {K C R O : Type 0} {eq : C → C → Bool} {same : R → R → Bool} (calls : IsEquivalence eq) (answers : IsEquivalence same) (eqk : K → K → Bool) (es : List (Stored K C R (Output O C))) (key : K) (s path : List (C × R)) where
+module _ {K C R O : Type 0} {eq : C → C → Bool} {same : R → R → Bool} (calls : IsEquivalence eq) (answers : IsEquivalence same) (eqk : K → K → Bool) (es : List (Stored K C R (Kept O C))) (key : K) (s path : List (C × R)) where
   -- answers that agree with the path agree with the sequence
   pub agrees_new_path : HasDistinctCalls eq s → IsNewPath eq same eqk es key s path → (m : C → R) → Respects eq same m → Agrees same m path → Agrees same m s
   agrees_new_path d n m r a =

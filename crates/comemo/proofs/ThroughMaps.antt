@@ -3,6 +3,7 @@ use Rattle.std.proofs.Common.{◌≡◌, Bool, List, [], ◌∷◌}
 use Rattle.std.specs.Prelude.{map}
 use Rattle.comemo_base.specs.Answers.{Respects, Agrees}
 use Rattle.tracking.specs.Mapped.{mapped_pairs}
+use Rattle.comemo.specs.Meaning.{Meaning}
 use Rattle.comemo.specs.Called.{Gave}
 
 -- right at the answers of a part, whichever they are
@@ -24,12 +25,16 @@ module _ {C D R Q : Type 0} (eq : C → C → Bool) (same : R → R → Bool) (e
     agrees_part [] a = tt
     agrees_part (p ∷ P) a = (rw (answers_apart (m p.0) p.1) at (rw (each p.0) at a.0), agrees_part P a.1)
 
-  module _ {K O : Type 0} (def : K → (C → R) → O → List C → Type 0) (reads : (key : K) (m : C → R) (output : O) (V W : List C) → def key m output V → def key m output W) where
-    pub gave_through : {S T : Type 0} {took : S → List (C × R) → List C → S → Type 0} (takes : T → List (D × Q) → List D → T → Type 0) {s s' : S} (t t' : T) → ((P : List (C × R)) (W : List C) → took s P W s' → takes t (mapped_pairs f g P) (map f W) t') → (key : K) (n : D → Q) {m : C → R} → ((c : C) → n (f c) ≡ g (m c)) → (output : O) → Gave eq same def took key m s output s' → Gave eqd like (OfPart f g def) takes key n t output t'
-    gave_through takes t t' sent key n {m = m} each output k = record {
+  module _ {K O : Type 0} (eqk : K → K → Bool) (cloned : O → O → Type 0) (def : K → (C → R) → O → List C → Type 0) (reads : (key : K) (m : C → R) (output : O) (V W : List C) → def key m output V → def key m output W) where
+    -- what a function of a part means, told as one of the whole
+    abbrev pub of_whole : Meaning K D Q O
+    of_whole = record { eq = eqd; same = like; eqk = eqk; cloned = cloned; def = OfPart f g def }
+
+    pub gave_through : {sent : List (C × R) → List C → Type 0} (sends : List (D × Q) → List D → Type 0) → ((P : List (C × R)) (W : List C) → sent P W → sends (mapped_pairs f g P) (map f W)) → (key : K) (n : D → Q) {m : C → R} → ((c : C) → n (f c) ≡ g (m c)) → (output : O) → Gave (record { eq = eq; same = same; eqk = eqk; cloned = cloned; def = def }) key m sent output → Gave of_whole key n sends output
+    gave_through sends are_sent key n {m = m} each output k = record {
       pairs = mapped_pairs f g k.pairs;
       writes = map f k.writes;
       agrees = agrees_mapped n m each k.pairs k.agrees;
       stands = λ o r a part e. reads key part output k.writes [] (k.stands part (part_respects o part e r) (agrees_part o part e k.pairs a));
-      sent = sent k.pairs k.writes k.sent;
+      are_sent = are_sent k.pairs k.writes k.are_sent;
     }

@@ -6,12 +6,12 @@ use Rattle.comemo_base.specs.Answers.{Respects, Agrees}
 use Rattle.comemo_base.specs.Tree.{Stored, IsSamePath}
 
 -- the output of a run, and the writes that it did
-pub record Output (O C : Type 0) : Type 0 where
+pub record Kept (O C : Type 0) : Type 0 where
   pub output : O
   pub writes : List C
 
-abbrev pub output_code : {O C : Type 0} → Coded O → Coded C → Coded (Output O C)
-output_code {O} {C} o c = code_by (O × List C) (coded× o (coded_list c)) (λ x. (x.output, x.writes)) (λ p. record { output = p.0; writes = p.1 }) (λ _. refl)
+abbrev pub kept_code : {O C : Type 0} → Coded O → Coded C → Coded (Kept O C)
+kept_code {O} {C} o c = code_by (O × List C) (coded× o (coded_list c)) (λ x. (x.output, x.writes)) (λ p. record { output = p.0; writes = p.1 }) (λ _. refl)
 
 module _ {K C R O : Type 0} (eq : C → C → Bool) (same : R → R → Bool) where
   -- clones of keys and of answers are equal, and the definition of a memoized function tells apart, at answers that tell no
@@ -27,12 +27,12 @@ module _ {K C R O : Type 0} (eq : C → C → Bool) (same : R → R → Bool) wh
   Stands def key path output writes = (m : C → R) → Respects eq same m → Agrees same m path → def key m output writes
 
   -- the output and the writes of an entry stand in the definition, its path has reads alone, and its writes are writes
-  pub record IsLegal (w : C → Bool) (def : K → (C → R) → O → List C → Type 0) (e : Stored K C R (Output O C)) : Type 0 where
+  pub record IsLegal (w : C → Bool) (def : K → (C → R) → O → List C → Type 0) (e : Stored K C R (Kept O C)) : Type 0 where
     pub stands : Stands def e.key e.path e.value.output e.value.writes
     pub reads : All (λ p. w p.0 ≡ false) e.path
     pub written : All (λ c. w c ≡ true) e.value.writes
 
-  module _ (eqk : K → K → Bool) (es : List (Stored K C R (Output O C))) (key : K) where
+  module _ (eqk : K → K → Bool) (es : List (Stored K C R (Kept O C))) (key : K) where
     -- no entry has the key and agrees with the answers
     abbrev pub HasNone : (C → R) → Type 0
     HasNone m = All (λ e. IsTrue (eqk e.key key) → ¬ Agrees same m e.path) es
@@ -41,3 +41,7 @@ module _ {K C R O : Type 0} (eq : C → C → Bool) (same : R → R → Bool) wh
     abbrev pub Has : (O → O → Type 0) → (C → R) → List (C × R) → O → List C → Type 0
     Has cloned m path output writes =
         Any (λ e. IsTrue (eqk e.key key) × Agrees same m e.path × IsSamePath eq same path e.path × cloned e.value.output output × AllZip (λ a b. IsTrue (eq a b)) e.value.writes writes) es
+
+-- the entries after a hit: none came and none went
+pub record Touches {E : Type 0} (es es' : List E) : Type 0 where
+  pub same : es' ≡ es

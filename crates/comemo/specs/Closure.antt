@@ -1,10 +1,11 @@
 -- A call of a memoized function whose run is a closure.
-use Rattle.std.specs.Prelude.{◌≡◌, ◌↔◌, ◌⊎◌, Bool, true, false, List, [], IsTrue, Result, Ok, Err}
+use Rattle.std.specs.Prelude.{◌≡◌, ◌↔◌, ◌⊎◌, true, false, List, [], IsTrue, Result, Ok, Err}
 use Rattle.std.specs.Borrow.{MutBor}
 use Rattle.comemo_base.specs.Answers.{Respects, Agrees}
 use Rattle.comemo_base.specs.Tree.{Stored}
 use Rattle.tracking.specs.Recording.{Recording}
-use Rattle.comemo.specs.Cache.{Output, HasNone}
+use Rattle.comemo.specs.Meaning.{Meaning, Asked}
+use Rattle.comemo.specs.Cache.{Kept, HasNone}
 use Rattle.comemo.specs.Called.{Gave}
 use Rattle.comemo.specs.Finish.{Ends, Gives}
 use Rattle.comemo.specs.declared.begin.Fault.{Fault}
@@ -12,11 +13,11 @@ use Rattle.comemo.specs.declared.begin.Fault.TheVariants as fault
 use Rattle.comemo.specs.declared.finish.How.{How}
 use Rattle.comemo.specs.declared.finish.How.TheVariants as how
 
-module _ {K C R O : Type 0} (eq : C → C → Bool) (same : R → R → Bool) (eqk : K → K → Bool) (es : List (Stored K C R (Output O C))) (key : K) (m : C → R) (enabled : Bool) where
+module _ {K C R O : Type 0} (M : Meaning K C R O) (es : List (Stored K C R (Kept O C))) (call : Asked K C R) where
   module _ {I P : Type 0} (did : I → List C → I → Type 0) (recorded : P → Recording C R) where
     -- what a run is handed, where no kept entry has the key and agrees: the input, unchanged, and an empty recording that is whole
     pub record Starts (input : I) (i : MutBor I) (p : MutBor P) : Type 0 where
-      pub none : enabled ≡ true → HasNone eq same eqk es key m
+      pub none : call.enabled ≡ true → HasNone M.eq M.same M.eqk es call.key call.answers
       pub unchanged : did input [] i.now
       pub pairs : (recorded p.now).pairs ≡ []
       pub writes : (recorded p.now).writes ≡ []
@@ -33,20 +34,20 @@ module _ {K C R O : Type 0} (eq : C → C → Bool) (same : R → R → Bool) (e
         pub gave : post i p r j q
         pub left : recorded q.now ≡ t
 
-      -- the closure ran and gave the output; its recording, which is whole, went to the sink, and became of the entries what the
-      -- reply says
-      pub record Ended {S : Type 0} (cloned : O → O → Type 0) (def : K → (C → R) → O → List C → Type 0) (took : S → List (C × R) → List C → S → Type 0) (s : S) (output : O) (reply : How) (es' : List (Stored K C R (Output O C))) (t : S) : Type 0 where
-        pub recording : Recording C R
-        pub ran : Ran (Ok output) recording
-        pub whole : recording.whole ≡ true
-        pub own : K
-        pub has_key : IsTrue (eqk key own)
-        pub ends : Ends eq same eqk cloned es own recording.pairs output reply es'
-        pub disabled : (reply ≡ how.Disabled) ↔ (enabled ≡ false)
-        pub gives : Gives eq same took s recording.pairs recording.writes t
-        pub gave : (n : C → R) → Respects eq same n → Agrees same n recording.pairs → Gave eq same def took key n s output t
-
       -- why the call failed: for want of memory, or the run's recording is spoiled, or the closure gave that fault
       abbrev pub IsFault : Fault → Type 0
       IsFault f =
           (f ≡ fault.Memory) ⊎ ((f ≡ fault.Incomplete) × (output : O) × (t : Recording C R) × Ran (Ok output) t × (t.whole ≡ false)) ⊎ ((t : Recording C R) × Ran (Err f) t)
+
+  -- the closure, whose runs are these, ran and gave the output; its recording, which is whole, went to the sink, and became of
+  -- the entries what the reply says
+  pub record Ended (ran : Result O Fault → Recording C R → Type 0) (sent : List (C × R) → List C → Type 0) (output : O) (reply : How) (es' : List (Stored K C R (Kept O C))) : Type 0 where
+    pub recording : Recording C R
+    pub has_run : ran (Ok output) recording
+    pub whole : recording.whole ≡ true
+    pub own : K
+    pub has_key : IsTrue (M.eqk call.key own)
+    pub ends : Ends M es own recording.pairs output reply es'
+    pub disabled : (reply ≡ how.Disabled) ↔ (call.enabled ≡ false)
+    pub gives : Gives M sent recording.pairs recording.writes
+    pub gave : (n : C → R) → Respects M.eq M.same n → Agrees M.same n recording.pairs → Gave M call.key n sent output

@@ -1,3 +1,4 @@
+pub mod Meaning
 pub mod Cache
 pub mod Begin
 pub mod Begun

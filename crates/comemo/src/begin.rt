@@ -1,10 +1,12 @@
 //! How a call of a memoized function begins: with a hit, or with a run.
 ghost use Rattle.std.specs.Prelude.{◌≡◌, [], ◌∷◌, ◌++◌, List, Bool, true, false, IsTrue, IfOk, IfErr, OnOk, OnErr};
 ghost use Rattle.std.specs.List.{All};
+ghost use Rattle.comemo.specs.Meaning.{asked, done, sent};
+ghost use Rattle.comemo.specs.Cache.{Touches};
 ghost use Rattle.comemo.specs.Begin.{IsHit, IsRun};
 ghost use Rattle.comemo.specs.Begun.{OnBegun};
 
-use crate::memoize::{CacheData, Found, Memo};
+use crate::memoize::{CacheData, Found, Meant, Memo};
 use std::alloc::{AllocError, Global};
 use std::marker::Model;
 use tracking::constraint::Constraint;
@@ -121,10 +123,15 @@ pub fn begin<
     enabled: bool,
 ) -> Result<Begun<M>, Fault>
     ensures begun { IfOk result (λ b. OnBegun b
-        (λ output. IsHit M.Call.eq M.Answer.eq M.Key.eq cache.old (In.key_of input.old) (In.answers input.old) enabled M.def M.Out.is_clone In.did S.took input.old input.new sink.old sink.new output)
-        (λ run. IsRun M.Call.eq M.Answer.eq M.Key.eq cache.old (In.key_of input.old) (In.answers input.old) enabled M.def run × In.did input.old [] input.new × (sink.new ≡ sink.old))) }
-    ensures unchanged { cache.new ≡ cache.old }
-    ensures err { IfErr result (λ fault. (fault ≡ Fault.Memory) × S.spoils sink.old sink.new × In.did input.old [] input.new) }
+        (λ output. IsHit ⟦<M as Meant>⟧.meaning cache.old
+        (asked (In.key_of input.old) (In.answers input.old) enabled)
+        (done In.did input.old input.new) (sent S.took sink.old sink.new) output)
+        (λ run. IsRun ⟦<M as Meant>⟧.meaning cache.old
+        (asked (In.key_of input.old) (In.answers input.old) enabled) run
+        × In.did input.old [] input.new × (sink.new ≡ sink.old))) }
+    ensures kept { IfOk result (λ b. OnBegun b (λ _. Touches cache.old cache.new) (λ _. cache.new ≡ cache.old)) }
+    ensures err { IfErr result (λ fault. (fault ≡ Fault.Memory) × S.spoils sink.old sink.new
+        × In.did input.old [] input.new × (cache.new ≡ cache.old)) }
 {
     let Ok(key) = input.key() else {
         sink.spoil();

@@ -3,12 +3,13 @@ ghost use Rattle.std.specs.Prelude.{◌≡◌, [], true, IfOk, IfErr, OnErr, Ok}
 ghost use Rattle.std.specs.Borrow.{MutBor};
 ghost use Rattle.comemo.specs.Begin.{IsHit};
 ghost use Rattle.tracking.specs.Recording.{Recording};
-ghost use Rattle.comemo.specs.Cache.{Stands};
+ghost use Rattle.comemo.specs.Meaning.{asked, done, sent};
+ghost use Rattle.comemo.specs.Cache.{Stands, Touches};
 ghost use Rattle.comemo.specs.Closure.{Starts, Ran, Ended, IsFault};
 
 use crate::begin::{Begun, Fault, begin};
 use crate::finish::{How, Reply};
-use crate::memoize::{CacheData, Memo};
+use crate::memoize::{CacheData, Meant, Memo};
 use std::alloc::Global;
 use tracking::constraint::Constraint;
 use tracking::input::Input;
@@ -74,11 +75,27 @@ pub fn memoize<
     enabled: bool,
     run: F,
 ) -> Result<Reply<M::Out>, Fault>
-    requires callable { (i : MutBor In) (p : MutBor P) → Starts M.Call.eq M.Answer.eq M.Key.eq cache.now (In.key_of input) (In.answers input) enabled In.did P.recorded input i p → F.pre run i p }
-    requires right { (output : M.Out) (t : Recording M.Call M.Answer) → Ran M.Call.eq M.Answer.eq M.Key.eq cache.now (In.key_of input) (In.answers input) enabled In.did P.recorded (F.post run) input (Ok output) t → t.whole ≡ true → Stands M.Call.eq M.Answer.eq M.def (In.key_of input) t.pairs output t.writes }
-    ensures hit { IfOk result (λ reply. reply.how ≡ How.Hit → ((j : In) × IsHit M.Call.eq M.Answer.eq M.Key.eq cache.old (In.key_of input) (In.answers input) enabled M.def M.Out.is_clone In.did S.took input j sink.old sink.new reply.output) × (cache.new ≡ cache.old)) }
-    ensures run { IfOk result (λ reply. (reply.how ≡ How.Hit → ⊥) → Ended M.Call.eq M.Answer.eq M.Key.eq cache.old (In.key_of input) (In.answers input) enabled In.did P.recorded (F.post run) input M.Out.is_clone M.def S.took sink.old reply.output reply.how cache.new sink.new) }
-    ensures fault { IfErr result (λ fault. IsFault M.Call.eq M.Answer.eq M.Key.eq cache.old (In.key_of input) (In.answers input) enabled In.did P.recorded (F.post run) input fault) }
+    requires callable { (i : MutBor In) (p : MutBor P)
+        → Starts ⟦<M as Meant>⟧.meaning cache.now (asked (In.key_of input) (In.answers input) enabled)
+        In.did P.recorded input i p
+        → F.pre run i p }
+    requires right { (output : M.Out) (t : Recording M.Call M.Answer)
+        → Ran ⟦<M as Meant>⟧.meaning cache.now (asked (In.key_of input) (In.answers input) enabled)
+        In.did P.recorded (F.post run) input (Ok output) t
+        → t.whole ≡ true
+        → Stands M.Call.eq M.Answer.eq M.def (In.key_of input) t.pairs output t.writes }
+    ensures hit { IfOk result (λ reply. reply.how ≡ How.Hit → ((j : In)
+        × IsHit ⟦<M as Meant>⟧.meaning cache.old (asked (In.key_of input) (In.answers input) enabled)
+        (done In.did input j) (sent S.took sink.old sink.new) reply.output)
+        × Touches cache.old cache.new) }
+    ensures run { IfOk result (λ reply. (reply.how ≡ How.Hit → ⊥)
+        → Ended ⟦<M as Meant>⟧.meaning cache.old (asked (In.key_of input) (In.answers input) enabled)
+        (Ran ⟦<M as Meant>⟧.meaning cache.old (asked (In.key_of input) (In.answers input) enabled)
+        In.did P.recorded (F.post run) input)
+        (sent S.took sink.old sink.new) reply.output reply.how cache.new) }
+    ensures fault { IfErr result (λ fault.
+        IsFault ⟦<M as Meant>⟧.meaning cache.old (asked (In.key_of input) (In.answers input) enabled)
+        In.did P.recorded (F.post run) input fault) }
     ensures err { OnErr result ((cache.new ≡ cache.old) × S.spoils sink.old sink.new) }
 {
     match begin(alloc, cache, &mut input, sink, enabled)? {
@@ -90,13 +107,7 @@ pub fn memoize<
             let mut recording = P::empty(alloc);
             let ran = run(&mut input, &mut recording);
             pending.recording = recording.into_constraint();
-            match ran {
-                Ok(output) => pending.finish(cache, sink, output),
-                Err(fault) => {
-                    pending.give_up(sink);
-                    Err(fault)
-                }
-            }
+            pending.end(cache, sink, ran)
         }
     }
 }

@@ -1,14 +1,15 @@
 //! How a run of a memoized function ends: it is finished, and stored where it can be, or given up.
-ghost use Rattle.std.specs.Prelude.{◌≡◌, [], ◌∷◌, ◌++◌, ◌↔◌, List, Bool, true, false, IsTrue, IfOk, IfErr, OnOk, OnErr, Err};
+ghost use Rattle.std.specs.Prelude.{◌≡◌, [], ◌∷◌, ◌++◌, ◌↔◌, List, Bool, true, false, IsTrue, IfOk, IfErr, OnOk, OnErr, Ok, Err};
 ghost use Rattle.std.specs.List.{All};
 ghost use Rattle.comemo_base.specs.Answers.{Respects, Agrees};
 ghost use Rattle.comemo_base.specs.Tree.{IsSamePath};
+ghost use Rattle.comemo.specs.Meaning.{exactly, sent};
 ghost use Rattle.comemo.specs.Cache.{Stands};
-ghost use Rattle.comemo.specs.Called.{Gave, Grows};
+ghost use Rattle.comemo.specs.Called.{Gave, Grows, Finished};
 ghost use Rattle.comemo.specs.Finish.{Ends, Gives};
 
 use crate::begin::{Fault, Pending, give_pairs};
-use crate::memoize::{CacheData, Memo};
+use crate::memoize::{CacheData, Meant, Memo};
 use comemo_base::{CallSequence, InsertError};
 use std::alloc::{AllocError, Global};
 use tracking::constraint::Constraint;
@@ -110,7 +111,7 @@ fn keep<M: Memo>(
 ) -> How
     requires reads { All (λ p. M.Call.is_write p.0 ≡ false) reads.pairs }
     requires stands { Stands M.Call.eq M.Answer.eq M.def key reads.pairs output [] }
-    ensures ends { Ends M.Call.eq M.Answer.eq M.Key.eq (λ a b. b ≡ a) cache.old key reads.pairs output result cache.new }
+    ensures ends { Ends (exactly ⟦<M as Meant>⟧.meaning) cache.old key reads.pairs output result cache.new }
     ensures enabled { result ≡ How.Disabled → ⊥ }
 {
     match cache.store(key, reads, output) {
@@ -132,9 +133,9 @@ fn end_run<M: Memo, S: Sink<Call = M::Call, Answer = M::Answer>>(
 ) -> Result<How, Fault>
     requires reads { All (λ p. M.Call.is_write p.0 ≡ false) reads.pairs }
     requires stands { Stands M.Call.eq M.Answer.eq M.def key reads.pairs output.now [] }
-    ensures ends { IfOk result (λ how. Ends M.Call.eq M.Answer.eq M.Key.eq M.Out.is_clone cache.old key reads.pairs output.now how cache.new) }
+    ensures ends { IfOk result (λ how. Ends ⟦<M as Meant>⟧.meaning cache.old key reads.pairs output.now how cache.new) }
     ensures enabled { IfOk result (λ how. how ≡ How.Disabled → ⊥) }
-    ensures gives { OnOk result (Gives M.Call.eq M.Answer.eq S.took sink.old reads.pairs [] sink.new) }
+    ensures gives { OnOk result (Gives ⟦<M as Meant>⟧.meaning (sent S.took sink.old sink.new) reads.pairs []) }
     ensures err { IfErr result (λ fault. (fault ≡ Fault.Memory) × (cache.new ≡ cache.old) × S.spoils sink.old sink.new) }
 {
     let Ok((pairs, kept)) = copy_run::<M>(alloc, &reads, output) else {
@@ -160,10 +161,14 @@ impl<M: Memo> Pending<M> {
     ) -> Result<Reply<M::Out>, Fault>
         requires { self.recording.whole ≡ true → Stands M.Call.eq M.Answer.eq M.def self.key self.recording.pairs output self.recording.writes }
         ensures output { IfOk result (λ reply. reply.output ≡ output) }
-        ensures ends { IfOk result (λ reply. Ends M.Call.eq M.Answer.eq M.Key.eq M.Out.is_clone cache.old self.key self.recording.pairs output reply.how cache.new) }
+        ensures ends { IfOk result (λ reply. Ends ⟦<M as Meant>⟧.meaning cache.old self.key
+            self.recording.pairs output reply.how cache.new) }
         ensures disabled { IfOk result (λ reply. (reply.how ≡ How.Disabled) ↔ (self.enabled ≡ false)) }
-        ensures gives { OnOk result (Gives M.Call.eq M.Answer.eq S.took sink.old self.recording.pairs self.recording.writes sink.new) }
-        ensures gave { IfOk result (λ reply. (m : M.Call → M.Answer) → Respects M.Call.eq M.Answer.eq m → Agrees M.Answer.eq m self.recording.pairs → Gave M.Call.eq M.Answer.eq M.def S.took self.key m sink.old reply.output sink.new) }
+        ensures gives { OnOk result (Gives ⟦<M as Meant>⟧.meaning (sent S.took sink.old sink.new)
+            self.recording.pairs self.recording.writes) }
+        ensures gave { IfOk result (λ reply. (m : M.Call → M.Answer) → Respects M.Call.eq M.Answer.eq m
+            → Agrees M.Answer.eq m self.recording.pairs
+            → Gave ⟦<M as Meant>⟧.meaning self.key m (sent S.took sink.old sink.new) reply.output) }
         ensures grows { Grows cache.old cache.new }
         ensures incomplete { (result ≡ Err Fault.Incomplete) ↔ (self.recording.whole ≡ false) }
         ensures err { OnErr result ((cache.new ≡ cache.old) × S.spoils sink.old sink.new) }
@@ -186,6 +191,32 @@ impl<M: Memo> Pending<M> {
             How::Disabled
         };
         Ok(Reply { output, how })
+    }
+
+    /// Ends the run as it went: finishes it with its output, or gives it up with its fault.
+    ///
+    /// It is as `finish` on an output, and as `give_up` on a fault, which it hands on.
+    pub fn end<S: Sink<Call = M::Call, Answer = M::Answer>>(
+        self,
+        cache: &mut CacheData<M>,
+        sink: &mut S,
+        ran: Result<M::Out, Fault>,
+    ) -> Result<Reply<M::Out>, Fault>
+        requires { (output : M.Out) → ran ≡ Ok output → self.recording.whole ≡ true
+            → Stands M.Call.eq M.Answer.eq M.def self.key self.recording.pairs output self.recording.writes }
+        ensures finished { IfOk result (λ reply. (output : M.Out) × (ran ≡ Ok output)
+            × Finished ⟦<M as Meant>⟧.meaning cache.old self (sent S.took sink.old sink.new) output reply cache.new) }
+        ensures incomplete { IfOk ran (λ _. (result ≡ Err Fault.Incomplete) ↔ (self.recording.whole ≡ false)) }
+        ensures fault { IfErr ran (λ fault. result ≡ Err fault) }
+        ensures err { OnErr result ((cache.new ≡ cache.old) × S.spoils sink.old sink.new) }
+    {
+        match ran {
+            Ok(output) => self.finish(cache, sink, output),
+            Err(fault) => {
+                self.give_up(sink);
+                Err(fault)
+            }
+        }
     }
 
     /// Gives the run up: nothing is stored, and the sink is spoiled.

@@ -1,19 +1,38 @@
 //! The library's front door: a memoized function of a key and a tracked value, as one trait and one call.
 ghost use Rattle.std.specs.Prelude.{◌≡◌, [], List, true, false, IsTrue, IfOk, IfErr, OnOk, OnErr};
 ghost use Rattle.comemo_base.specs.Answers.{Agrees};
+ghost use Rattle.comemo.specs.Meaning.{asked, sent};
 ghost use Rattle.comemo.specs.Called.{Gave, Came};
-ghost use Rattle.comemo.specs.Function.{Fits, Laws};
+ghost use Rattle.tracking.specs.Recording.{Recording};
+ghost use Rattle.comemo.specs.Function.{Fits, Learns, Laws};
 ghost use Rattle.comemo.specs.FunctionLaws.{agrees_if_prop};
 
 use crate::begin::{Begun, Fault, begin};
 use crate::finish::{How, Reply};
-use crate::memoize::{CacheData, Memo};
+use crate::memoize::{CacheData, Meant, Memo};
 use std::alloc::Global;
 use std::hash::Hash;
 use std::marker::PhantomData;
 use tracking::constraint::Constraint;
 use tracking::input::Keyed;
 use tracking::track::{Call, Sink, Track, Tracked};
+
+/// What a recording tells of a tracked value's answers, for contracts to cite, as `⟦<T as Told>⟧.learns`.
+///
+/// There is nothing to implement. This project's own.
+pub trait Told: Track {
+    // nothing is lost of the recording, and the answers agree with it
+    ghost fits: { Recording Self.Call Self.Answer → (Self.Call → Self.Answer) → Type 0 };
+
+    // answers that fit the second recording fit the first, from which it went on, and this holds of them
+    ghost learns: { Recording Self.Call Self.Answer → Recording Self.Call Self.Answer → ((Self.Call → Self.Answer) → Type 0) → Type 0 };
+}
+
+impl<T: Track> Told for T {
+    ghost fits = { Fits T.Call.eq T.Answer.eq };
+
+    ghost learns = { Learns T.Call.eq T.Answer.eq };
+}
 
 /// A memoized function of a key and a tracked value.
 ///
@@ -43,7 +62,8 @@ pub trait Function {
         needs: &mut Self::Needs,
     ) -> Result<Self::Out, Fault>
         ensures same { of.new.view ≡ of.old.view }
-        ensures right { IfOk result (λ output. (m : Self.Of.Call → Self.Of.Answer) → Fits Self.Of.Call.eq Self.Of.Answer.eq of.new.recording m → means key.now m output) }
+        ensures right { IfOk result (λ output. (m : Self.Of.Call → Self.Of.Answer)
+            → ⟦<Self::Of as Told>⟧.fits of.new.recording m → means key.now m output) }
         ensures fault { IfErr result (λ fault. fault ≡ Fault.Incomplete → of.new.recording.whole ≡ false) };
 
     // clones of keys are equal, and the meaning tells apart neither equal keys nor an output from its clone
@@ -84,8 +104,8 @@ impl<'a, T: Track> Recorder<'a, T> {
     pub fn ask(&mut self, call: T::Call) -> Result<T::Answer, Fault>
         requires { T.Call.is_write call ≡ false }
         ensures same { self.new.view ≡ self.old.view }
-        ensures before { OnOk result ((m : T.Call → T.Answer) → Fits T.Call.eq T.Answer.eq self.new.recording m → Fits T.Call.eq T.Answer.eq self.old.recording m) }
-        ensures told { IfOk result (λ answer. (m : T.Call → T.Answer) → Fits T.Call.eq T.Answer.eq self.new.recording m → IsTrue (T.Answer.eq (m call) answer)) }
+        ensures learns { IfOk result (λ answer. ⟦<T as Told>⟧.learns self.old.recording self.new.recording
+            (λ m. IsTrue (T.Answer.eq (m call) answer))) }
         ensures answer { IfOk result (λ answer. IsTrue (T.Answer.eq (T.answers self.old.view call) answer)) }
         ensures whole { self.new.recording.whole ≡ self.old.recording.whole }
         ensures err { IfErr result (λ fault. (fault ≡ Fault.Memory) × (self.new.recording.pairs ≡ self.old.recording.pairs)) }
@@ -103,10 +123,11 @@ impl<'a, T: Track> Recorder<'a, T> {
         key: G::Key,
     ) -> Result<G::Out, Fault>
         ensures same { self.new.view ≡ self.old.view }
-        ensures before { OnOk result ((m : T.Call → T.Answer) → Fits T.Call.eq T.Answer.eq self.new.recording m → Fits T.Call.eq T.Answer.eq self.old.recording m) }
-        ensures told { IfOk result (λ output. (m : T.Call → T.Answer) → Fits T.Call.eq T.Answer.eq self.new.recording m → G.def key m output []) }
+        ensures learns { IfOk result (λ output. ⟦<T as Told>⟧.learns self.old.recording self.new.recording
+            (λ m. G.def key m output [])) }
         ensures whole { OnOk result (self.new.recording.whole ≡ self.old.recording.whole) }
-        ensures came { IfOk result (λ output. (how : How) × Came T.Call.eq T.Answer.eq G.Key.eq G.Out.is_clone key (T.answers self.old.view) true output cache.old cache.old how cache.new) }
+        ensures came { IfOk result (λ output. (how : How) × Came ⟦<G as Meant>⟧.meaning
+            (asked key (T.answers self.old.view) true) output cache.old cache.old how cache.new) }
         ensures err { OnErr result ((cache.new ≡ cache.old) × (self.new.recording.whole ≡ false)) }
     {
         let reply = memoized(
@@ -158,7 +179,8 @@ pub trait FunctionOf<T: Track>: Memo<Call = T::Call, Answer = T::Answer> {
         needs: &mut Self::Needs,
     ) -> Result<Self::Out, Fault>
         ensures same { of.new.view ≡ of.old.view }
-        ensures right { IfOk result (λ output. (m : T.Call → T.Answer) → Fits T.Call.eq T.Answer.eq of.new.recording m → Self.def key.now m output []) }
+        ensures right { IfOk result (λ output. (m : T.Call → T.Answer)
+            → ⟦<T as Told>⟧.fits of.new.recording m → Self.def key.now m output []) }
         ensures fault { IfErr result (λ fault. fault ≡ Fault.Incomplete → of.new.recording.whole ≡ false) };
 
     // a run reads alone, so that what the function means is the same whatever was written
@@ -196,8 +218,10 @@ pub fn memoized<M: FunctionOf<T>, T: Track, S: Sink<Call = T::Call, Answer = T::
     enabled: bool,
 ) -> Result<Reply<M::Out>, Fault>
     ensures right { IfOk result (λ reply. M.def key (T.answers of.now) reply.output []) }
-    ensures gave { IfOk result (λ reply. Gave T.Call.eq T.Answer.eq M.def S.took key (T.answers of.now) sink.old reply.output sink.new) }
-    ensures came { IfOk result (λ reply. Came T.Call.eq T.Answer.eq M.Key.eq M.Out.is_clone key (T.answers of.now) enabled reply.output cache.old cache.old reply.how cache.new) }
+    ensures gave { IfOk result (λ reply. Gave ⟦<M as Meant>⟧.meaning key (T.answers of.now)
+        (sent S.took sink.old sink.new) reply.output) }
+    ensures came { IfOk result (λ reply. Came ⟦<M as Meant>⟧.meaning (asked key (T.answers of.now) enabled)
+        reply.output cache.old cache.old reply.how cache.new) }
     ensures err { OnErr result ((cache.new ≡ cache.old) × S.spoils sink.old sink.new) }
 {
     let mut input = Keyed {
@@ -218,13 +242,7 @@ pub fn memoized<M: FunctionOf<T>, T: Track, S: Sink<Call = T::Call, Answer = T::
                 recording,
             } = recorder;
             pending.recording = recording;
-            match ran {
-                Ok(output) => pending.finish(cache, sink, output),
-                Err(fault) => {
-                    pending.give_up(sink);
-                    Err(fault)
-                }
-            }
+            pending.end(cache, sink, ran)
         }
     }
 }

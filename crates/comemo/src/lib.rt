@@ -12,8 +12,8 @@ pub mod parts;
 pub use begin::{Begun, Fault, Pending};
 pub use closure::Record;
 pub use finish::{How, Reply};
-pub use function::{Function, FunctionOf, MemoOf, Recorder};
-pub use memoize::{CacheData, Found, Memo};
+pub use function::{Function, FunctionOf, MemoOf, Recorder, Told};
+pub use memoize::{CacheData, Found, Meant, Memo};
 pub use tracking::{
     Both, Call, CallMap, Constraint, First, Hashed, Input, Keyed, MappedSink, Multi, MultiAnswer,
     MultiCall, Second, Sink, Top, Track, Tracked, TrackedWith,

@@ -4,7 +4,8 @@ ghost use Rattle.std.specs.List.{All};
 ghost use Rattle.std.specs.List.Sorted.{IsPermutation};
 ghost use Rattle.comemo_base.specs.Tree.{stored};
 ghost use Rattle.comemo_base.specs.Insertion.{Exists, Misses, IsNewPath, IsReason};
-ghost use Rattle.comemo.specs.Cache.{MemoLaws, Output, Stands, HasNone, Has};
+ghost use Rattle.comemo.specs.Meaning.{Meaning};
+ghost use Rattle.comemo.specs.Cache.{MemoLaws, Kept, Stands, HasNone, Has};
 
 use comemo_base::{CallSequence, CallTree, InsertError};
 use std::alloc::{AllocError, Global};
@@ -33,19 +34,30 @@ pub trait Memo {
     ghost laws: { MemoLaws Self.Call.eq Self.Answer.eq Self.Key.eq Self.Key.is_clone Self.Answer.is_clone Self.Out.is_clone def };
 }
 
+/// What a memoized function means, as one value, for contracts to cite: `⟦<M as Meant>⟧.meaning`.
+///
+/// There is nothing to implement. This project's own.
+pub trait Meant: Memo {
+    ghost meaning: { Meaning Self.Key Self.Call Self.Answer Self.Out };
+}
+
+impl<M: Memo> Meant for M {
+    ghost meaning = { record { eq = M.Call.eq; same = M.Answer.eq; eqk = M.Key.eq; cloned = M.Out.is_clone; def = M.def } };
+}
+
 /// What a run gave, as the cache keeps it.
 #[derive(Drop)]
-struct Kept<M: Memo> {
+struct KeptRun<M: Memo> {
     output: M::Out,
 }
 
-impl<M: Memo> Model for Kept<M> {
+impl<M: Memo> Model for KeptRun<M> {
     ghost use Rattle.std.specs.Prelude.{[]};
-    ghost use Rattle.comemo.specs.Cache.{Output, output_code};
+    ghost use Rattle.comemo.specs.Cache.{Kept, kept_code};
 
-    ghost Value = { Output M.Out M.Call };
+    ghost Value = { Kept M.Out M.Call };
 
-    ghost coded = { output_code M.Out.code M.Call.code };
+    ghost coded = { kept_code M.Out.code M.Call.code };
 
     ghost view = { λ s. record { output = s.output; writes = [] } };
 }
@@ -56,7 +68,7 @@ impl<M: Memo> Model for Kept<M> {
 /// whichever answers agree with its path, its output is right at its key. comemo's `CacheData`.
 #[derive(Drop)]
 pub struct CacheData<M: Memo> {
-    tree: CallTree<M::Key, M::Call, M::Answer, Kept<M>>,
+    tree: CallTree<M::Key, M::Call, M::Answer, KeptRun<M>>,
 }
 
 impl<M: Memo> Model for CacheData<M> {
@@ -64,11 +76,11 @@ impl<M: Memo> Model for CacheData<M> {
     ghost use Rattle.std.specs.List.{All};
     ghost use Rattle.std.specs.Coded.{coded_list};
     ghost use Rattle.comemo_base.specs.Tree.{Stored, stored_code};
-    ghost use Rattle.comemo.specs.Cache.{Output, output_code, IsLegal};
+    ghost use Rattle.comemo.specs.Cache.{Kept, kept_code, IsLegal};
 
-    ghost Value = { List (Stored M.Key M.Call M.Answer (Output M.Out M.Call)) };
+    ghost Value = { List (Stored M.Key M.Call M.Answer (Kept M.Out M.Call)) };
 
-    ghost coded = { coded_list (stored_code M.Key.code M.Call.code M.Answer.code (output_code M.Out.code M.Call.code)) };
+    ghost coded = { coded_list (stored_code M.Key.code M.Call.code M.Answer.code (kept_code M.Out.code M.Call.code)) };
 
     ghost view = { λ s. s.tree };
 
@@ -143,6 +155,6 @@ impl<M: Memo> CacheData<M> {
         ensures err { OnErr result (self.new ≡ self.old) }
     {
         sequence.has_distinct_calls();
-        self.tree.insert(key, sequence, Kept { output })
+        self.tree.insert(key, sequence, KeptRun { output })
     }
 }

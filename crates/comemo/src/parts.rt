@@ -1,12 +1,13 @@
 //! What a run asks of two tracked values that are one.
 ghost use Rattle.std.specs.Prelude.{◌≡◌, [], true, false, IsTrue, IfOk, IfErr, OnOk, OnErr};
+ghost use Rattle.comemo.specs.Meaning.{asked};
 ghost use Rattle.comemo.specs.Called.{Came};
-ghost use Rattle.comemo.specs.Function.{Fits};
+ghost use Rattle.comemo.specs.Function.{OnPart};
 
 use crate::begin::Fault;
 use crate::finish::How;
-use crate::function::{FunctionOf, Recorder, memoized};
-use crate::memoize::CacheData;
+use crate::function::{FunctionOf, Recorder, Told, memoized};
+use crate::memoize::{CacheData, Meant};
 use tracking::both::Both;
 use tracking::mapped::{CallMap, MappedSink};
 use tracking::multi::{First, MultiAnswer, MultiCall, Second};
@@ -31,10 +32,11 @@ impl<'a, T: Track> Recorder<'a, T> {
     ) -> Result<G::Out, Fault>
         requires { (c : A.Call) → T.answers self.old.view (P.maps map c) ≡ P.maps_answer map (A.answers of.now c) }
         ensures same { self.new.view ≡ self.old.view }
-        ensures before { OnOk result ((m : T.Call → T.Answer) → Fits T.Call.eq T.Answer.eq self.new.recording m → Fits T.Call.eq T.Answer.eq self.old.recording m) }
-        ensures told { IfOk result (λ output. (m : T.Call → T.Answer) → Fits T.Call.eq T.Answer.eq self.new.recording m → (part : A.Call → A.Answer) → ((c : A.Call) → m (P.maps map c) ≡ P.maps_answer map (part c)) → G.def key part output []) }
+        ensures learns { IfOk result (λ output. ⟦<T as Told>⟧.learns self.old.recording self.new.recording
+            (λ m. OnPart (P.maps map) (P.maps_answer map) m (λ part. G.def key part output []))) }
         ensures whole { OnOk result (self.new.recording.whole ≡ self.old.recording.whole) }
-        ensures came { IfOk result (λ output. (how : How) × Came A.Call.eq A.Answer.eq G.Key.eq G.Out.is_clone key (A.answers of.now) true output cache.old cache.old how cache.new) }
+        ensures came { IfOk result (λ output. (how : How) × Came ⟦<G as Meant>⟧.meaning (asked key (A.answers of.now) true)
+            output cache.old cache.old how cache.new) }
         ensures err { OnErr result ((cache.new ≡ cache.old) × (self.new.recording.whole ≡ false)) }
     {
         let alloc = self.alloc;
@@ -54,8 +56,8 @@ impl<'a, 'b, A: Track, B: Track> Recorder<'a, Both<'b, A, B>> {
     pub fn ask_first(&mut self, call: A::Call) -> Result<A::Answer, Fault>
         requires { A.Call.is_write call ≡ false }
         ensures same { self.new.view ≡ self.old.view }
-        ensures before { OnOk result ((m : MultiCall A.Call B.Call → MultiAnswer A.Answer B.Answer) → Fits ⟦<MultiCall<A::Call, B::Call> as PartialEq>⟧.eq ⟦<MultiAnswer<A::Answer, B::Answer> as PartialEq>⟧.eq self.new.recording m → Fits ⟦<MultiCall<A::Call, B::Call> as PartialEq>⟧.eq ⟦<MultiAnswer<A::Answer, B::Answer> as PartialEq>⟧.eq self.old.recording m) }
-        ensures told { IfOk result (λ answer. (m : MultiCall A.Call B.Call → MultiAnswer A.Answer B.Answer) → Fits ⟦<MultiCall<A::Call, B::Call> as PartialEq>⟧.eq ⟦<MultiAnswer<A::Answer, B::Answer> as PartialEq>⟧.eq self.new.recording m → (part : A.Call → A.Answer) → ((c : A.Call) → m (first_call c) ≡ first_answer (part c)) → IsTrue (A.Answer.eq (part call) answer)) }
+        ensures learns { IfOk result (λ answer. ⟦<Both<'b, A, B> as Told>⟧.learns self.old.recording self.new.recording
+            (λ m. OnPart first_call first_answer m (λ part. IsTrue (A.Answer.eq (part call) answer)))) }
         ensures answer { IfOk result (λ answer. IsTrue (A.Answer.eq (A.answers self.old.view.first call) answer)) }
         ensures whole { self.new.recording.whole ≡ self.old.recording.whole }
         ensures err { IfErr result (λ fault. (fault ≡ Fault.Memory) × (self.new.recording.pairs ≡ self.old.recording.pairs)) }
@@ -70,8 +72,8 @@ impl<'a, 'b, A: Track, B: Track> Recorder<'a, Both<'b, A, B>> {
     pub fn ask_second(&mut self, call: B::Call) -> Result<B::Answer, Fault>
         requires { B.Call.is_write call ≡ false }
         ensures same { self.new.view ≡ self.old.view }
-        ensures before { OnOk result ((m : MultiCall A.Call B.Call → MultiAnswer A.Answer B.Answer) → Fits ⟦<MultiCall<A::Call, B::Call> as PartialEq>⟧.eq ⟦<MultiAnswer<A::Answer, B::Answer> as PartialEq>⟧.eq self.new.recording m → Fits ⟦<MultiCall<A::Call, B::Call> as PartialEq>⟧.eq ⟦<MultiAnswer<A::Answer, B::Answer> as PartialEq>⟧.eq self.old.recording m) }
-        ensures told { IfOk result (λ answer. (m : MultiCall A.Call B.Call → MultiAnswer A.Answer B.Answer) → Fits ⟦<MultiCall<A::Call, B::Call> as PartialEq>⟧.eq ⟦<MultiAnswer<A::Answer, B::Answer> as PartialEq>⟧.eq self.new.recording m → (part : B.Call → B.Answer) → ((c : B.Call) → m (second_call c) ≡ second_answer (part c)) → IsTrue (B.Answer.eq (part call) answer)) }
+        ensures learns { IfOk result (λ answer. ⟦<Both<'b, A, B> as Told>⟧.learns self.old.recording self.new.recording
+            (λ m. OnPart second_call second_answer m (λ part. IsTrue (B.Answer.eq (part call) answer)))) }
         ensures answer { IfOk result (λ answer. IsTrue (B.Answer.eq (B.answers self.old.view.second call) answer)) }
         ensures whole { self.new.recording.whole ≡ self.old.recording.whole }
         ensures err { IfErr result (λ fault. (fault ≡ Fault.Memory) × (self.new.recording.pairs ≡ self.old.recording.pairs)) }
@@ -90,10 +92,11 @@ impl<'a, 'b, A: Track, B: Track> Recorder<'a, Both<'b, A, B>> {
         key: G::Key,
     ) -> Result<G::Out, Fault>
         ensures same { self.new.view ≡ self.old.view }
-        ensures before { OnOk result ((m : MultiCall A.Call B.Call → MultiAnswer A.Answer B.Answer) → Fits ⟦<MultiCall<A::Call, B::Call> as PartialEq>⟧.eq ⟦<MultiAnswer<A::Answer, B::Answer> as PartialEq>⟧.eq self.new.recording m → Fits ⟦<MultiCall<A::Call, B::Call> as PartialEq>⟧.eq ⟦<MultiAnswer<A::Answer, B::Answer> as PartialEq>⟧.eq self.old.recording m) }
-        ensures told { IfOk result (λ output. (m : MultiCall A.Call B.Call → MultiAnswer A.Answer B.Answer) → Fits ⟦<MultiCall<A::Call, B::Call> as PartialEq>⟧.eq ⟦<MultiAnswer<A::Answer, B::Answer> as PartialEq>⟧.eq self.new.recording m → (part : A.Call → A.Answer) → ((c : A.Call) → m (first_call c) ≡ first_answer (part c)) → G.def key part output []) }
+        ensures learns { IfOk result (λ output. ⟦<Both<'b, A, B> as Told>⟧.learns self.old.recording self.new.recording
+            (λ m. OnPart first_call first_answer m (λ part. G.def key part output []))) }
         ensures whole { OnOk result (self.new.recording.whole ≡ self.old.recording.whole) }
-        ensures came { IfOk result (λ output. (how : How) × Came A.Call.eq A.Answer.eq G.Key.eq G.Out.is_clone key (A.answers self.old.view.first) true output cache.old cache.old how cache.new) }
+        ensures came { IfOk result (λ output. (how : How) × Came ⟦<G as Meant>⟧.meaning
+            (asked key (A.answers self.old.view.first) true) output cache.old cache.old how cache.new) }
         ensures err { OnErr result ((cache.new ≡ cache.old) × (self.new.recording.whole ≡ false)) }
     {
         let first = self.view.first();
@@ -108,10 +111,11 @@ impl<'a, 'b, A: Track, B: Track> Recorder<'a, Both<'b, A, B>> {
         key: G::Key,
     ) -> Result<G::Out, Fault>
         ensures same { self.new.view ≡ self.old.view }
-        ensures before { OnOk result ((m : MultiCall A.Call B.Call → MultiAnswer A.Answer B.Answer) → Fits ⟦<MultiCall<A::Call, B::Call> as PartialEq>⟧.eq ⟦<MultiAnswer<A::Answer, B::Answer> as PartialEq>⟧.eq self.new.recording m → Fits ⟦<MultiCall<A::Call, B::Call> as PartialEq>⟧.eq ⟦<MultiAnswer<A::Answer, B::Answer> as PartialEq>⟧.eq self.old.recording m) }
-        ensures told { IfOk result (λ output. (m : MultiCall A.Call B.Call → MultiAnswer A.Answer B.Answer) → Fits ⟦<MultiCall<A::Call, B::Call> as PartialEq>⟧.eq ⟦<MultiAnswer<A::Answer, B::Answer> as PartialEq>⟧.eq self.new.recording m → (part : B.Call → B.Answer) → ((c : B.Call) → m (second_call c) ≡ second_answer (part c)) → G.def key part output []) }
+        ensures learns { IfOk result (λ output. ⟦<Both<'b, A, B> as Told>⟧.learns self.old.recording self.new.recording
+            (λ m. OnPart second_call second_answer m (λ part. G.def key part output []))) }
         ensures whole { OnOk result (self.new.recording.whole ≡ self.old.recording.whole) }
-        ensures came { IfOk result (λ output. (how : How) × Came B.Call.eq B.Answer.eq G.Key.eq G.Out.is_clone key (B.answers self.old.view.second) true output cache.old cache.old how cache.new) }
+        ensures came { IfOk result (λ output. (how : How) × Came ⟦<G as Meant>⟧.meaning
+            (asked key (B.answers self.old.view.second) true) output cache.old cache.old how cache.new) }
         ensures err { OnErr result ((cache.new ≡ cache.old) × (self.new.recording.whole ≡ false)) }
     {
         let second = self.view.second();

@@ -1,11 +1,12 @@
 //! Memoized functions.
-ghost use Rattle.std.specs.Prelude.{◌≡◌, ℕ, List, [], refl, IfOk, OnErr, string_bytes, nat_eq, ◌+◌, ◌%◌, ◌^◌};
+ghost use Rattle.std.specs.Prelude.{◌≡◌, ℕ, List, [], refl, IfOk, OnErr, string_bytes, ◌+◌, ◌%◌, ◌^◌};
 ghost use Rattle.std.proofs.Common.{rules};
+ghost use Rattle.comemo.specs.Meaning.{sent};
 ghost use Rattle.comemo.specs.Called.{Gave};
 
 use crate::cells::{Context, ContextCall, Page};
 use comemo::begin::begin;
-use comemo::{Begun, CacheData, Fault, How, Keyed, Memo, Reply, Sink, Track, Tracked};
+use comemo::{Begun, CacheData, Fault, How, Keyed, Meant, Memo, Reply, Sink, Track, Tracked};
 use std::alloc::Global;
 
 /// The location of a context.
@@ -36,7 +37,8 @@ pub fn location<S: Sink<Call = ContextCall, Answer = u64>>(
     enabled: bool,
 ) -> Result<Reply<u64>, Fault>
     ensures output { IfOk result (λ reply. reply.output ≡ context.now.location) }
-    ensures gave { IfOk result (λ reply. Gave ⟦<ContextCall as PartialEq>⟧.eq nat_eq ⟦<LocationMemo as Memo>⟧.def S.took tt (⟦<Context as Track>⟧.answers context.now) sink.old reply.output sink.new) }
+    ensures gave { IfOk result (λ reply. Gave ⟦<LocationMemo as Meant>⟧.meaning tt
+        (⟦<Context as Track>⟧.answers context.now) (sent S.took sink.old sink.new) reply.output) }
     ensures err { OnErr result ((cache.new ≡ cache.old) × S.spoils sink.old sink.new) }
 {
     let mut input = Keyed {

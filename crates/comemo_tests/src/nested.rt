@@ -1,14 +1,15 @@
 //! A memoized function that calls another one, whose reads go to its own recording.
-ghost use Rattle.std.specs.Prelude.{◌≡◌, IfOk, OnErr, ◌+◌, ◌%◌, ◌^◌, nat_eq};
+ghost use Rattle.std.specs.Prelude.{◌≡◌, IfOk, OnErr, ◌+◌, ◌%◌, ◌^◌};
 ghost use Rattle.std.proofs.Common.{rules};
 ghost use Rattle.comemo_tests.specs.Cells.{field};
+ghost use Rattle.comemo.specs.Meaning.{sent};
 ghost use Rattle.comemo.specs.Called.{Gave};
 ghost use Rattle.comemo_tests.specs.declared.cells.ContextCall.TheVariants.{Location};
 
 use crate::cells::{Context, ContextCall};
 use crate::functions::{LocationMemo, location};
 use comemo::begin::begin;
-use comemo::{Begun, CacheData, Fault, How, Keyed, Memo, Reply, Sink, Track, Tracked};
+use comemo::{Begun, CacheData, Fault, How, Keyed, Meant, Memo, Reply, Sink, Track, Tracked};
 use std::alloc::Global;
 
 /// Twice the location of a context, which wraps.
@@ -38,7 +39,8 @@ pub fn twice<S: Sink<Call = ContextCall, Answer = u64>>(
     enabled: bool,
 ) -> Result<Reply<u64>, Fault>
     ensures output { IfOk result (λ reply. reply.output ≡ (context.now.location + context.now.location) % 2 ^ 64) }
-    ensures gave { IfOk result (λ reply. Gave ⟦<ContextCall as PartialEq>⟧.eq nat_eq ⟦<TwiceMemo as Memo>⟧.def S.took tt (⟦<Context as Track>⟧.answers context.now) sink.old reply.output sink.new) }
+    ensures gave { IfOk result (λ reply. Gave ⟦<TwiceMemo as Meant>⟧.meaning tt
+        (⟦<Context as Track>⟧.answers context.now) (sent S.took sink.old sink.new) reply.output) }
     ensures err { OnErr result ((cache.new ≡ cache.old) × S.spoils sink.old sink.new) }
 {
     let mut input = Keyed {

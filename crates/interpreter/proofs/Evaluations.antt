@@ -3,6 +3,7 @@ use Rattle.std.proofs.Common.{◌≡◌, ◌&&◌, true, IsTrue, ℕ, List, Resu
 use Rattle.std.specs.Bool.{⊤}
 use Rattle.std.specs.Global.{Global}
 use Rattle.comemo_base.specs.Answers.{Respects, Agrees}
+use Rattle.comemo.specs.Meaning.{sent}
 use Rattle.comemo.specs.Called.{Gave}
 use Rattle.comemo.specs.Mapped.{Through}
 use Rattle.comemo.specs.Multi.{OnParts, second_call, second_answer}
@@ -13,31 +14,28 @@ use Rattle.tracking.proofs.Told.{told_pairs}
 use Rattle.scripts.specs.Meaning.{Means, Deep, is_eval}
 use Rattle.scripts.specs.Parts.{IsEval}
 use Rattle.scripts.specs.declared.outcome.Outcome.{Outcome}
-use Rattle.std.specs.HashMap.{HashMap}
-use Rattle.interpreter.specs.Files.{JoinedCall, JoinedAnswer, with_key, text_of, answer_of}
+use Rattle.interpreter.specs.declared.files.Files.{Files}
+use Rattle.interpreter.specs.Files.{JoinedCall, JoinedAnswer, with_key, text_at, answers_of}
 use Rattle.interpreter.specs.Sessions.{Reads, texts_of}
 use Rattle.interpreter.specs.declared.evaluation.EvalFault.{EvalFault}
-use Rattle.interpreter.specs.Evaluations.{At, ComesTo, PartComesTo, CallsDeep, Learnt}
+use Rattle.interpreter.specs.Evaluations.{At, ComesTo, PartComesTo, CallsDeep, Learnt, evaluating}
 use Rattle.interpreter.specs.declared.files.FileCall.{FileCall}
 use Rattle.interpreter.specs.declared.files.FileCall.TheVariants.{Read}
 use Rattle.interpreter.specs.contracts.files.FileCallPartialEq.TheImpl.{ghosts}
 use Rattle.interpreter.proofs.FileCalls.{same_bytes, same_key}
-use Rattle.interpreter.proofs.JoinedCalls.{same_call, same_answer, tests}
-
--- what the memoized function means
-abbrev IsOutcome : String Global × ⊤ → (JoinedCall → JoinedAnswer) → Outcome → List JoinedCall → Type 0
-IsOutcome key answers outcome writes = OnParts answers (λ _ n. ComesTo n (string_bytes key.0) outcome)
+use Rattle.interpreter.specs.Joined.{same_call, same_answer}
+use Rattle.interpreter.proofs.JoinedCalls.{tests}
 
 -- nothing was recorded, and P holds whatever is answered
-pub learnt_nothing : (m : FileCall → String Global) (s : Recording JoinedCall JoinedAnswer) (P : (FileCall → String Global) → Type 0) → Agrees same_answer (with_key m) s.pairs → ((n : FileCall → String Global) → P n) → Learnt ghosts.eq same_answer m s s P
+pub learnt_nothing : (m : FileCall → String Global) (s : Recording JoinedCall JoinedAnswer) (P : (FileCall → String Global) → Type 0) → Agrees same_answer (with_key m) s.pairs → ((n : FileCall → String Global) → P n) → Learnt m s s P
 learnt_nothing m s P a p = (a, λ n r b. (b, p n))
 
 module _ (m : FileCall → String Global) (respects : Respects ghosts.eq string_eq m) {s t : Recording JoinedCall JoinedAnswer} {part path : List ℕ} {own text : String Global} (is : IsEval part path) (named : string_bytes own ≡ path) (asks : Asks string_eq (Through (Took same_call) second_call second_answer) m s (Read own) text t) where
   -- a script was read and came to this, so the part does
-  pub learnt_by_call : {u : Recording JoinedCall JoinedAnswer} {key : String Global} {outcome : Outcome} → Agrees same_answer (with_key m) s.pairs → string_bytes key ≡ string_bytes text → Gave same_call same_answer IsOutcome (Took same_call) (key, tt) (with_key m) t outcome u → Learnt ghosts.eq same_answer m s u (λ n. PartComesTo n part outcome)
+  pub learnt_by_call : {u : Recording JoinedCall JoinedAnswer} {key : String Global} {outcome : Outcome} → Agrees same_answer (with_key m) s.pairs → string_bytes key ≡ string_bytes text → Gave evaluating (key, tt) (with_key m) (sent (Took same_call) t u) outcome → Learnt m s u (λ n. PartComesTo n part outcome)
   learnt_by_call {u = u} {outcome = outcome} agrees same gave =
       let read = told_read tests m respects s t (Read own) text agrees asks in
-      let ran = told_pairs (keyed_calls tests) (keyed_answers tests) (with_key m) (respects_with_key tests m respects) t u gave.pairs gave.writes read.agrees gave.agrees gave.sent in (
+      let ran = told_pairs (keyed_calls tests) (keyed_answers tests) (with_key m) (respects_with_key tests m respects) t u gave.pairs gave.writes read.agrees gave.agrees gave.are_sent in (
         ran.agrees,
         λ n r a.
             let both = respects_with_key tests n r in
@@ -51,7 +49,7 @@ module _ (m : FileCall → String Global) (respects : Respects ghosts.eq string_
   calls_deep d = (path, string_bytes text, is, (own, named, same_bytes (m (Read own)) text asks.gives), d)
 
 -- what a call gave its sink stands for what it gave its caller
-pub script_given : {S : Type 0} {took : S → List (JoinedCall × JoinedAnswer) → List JoinedCall → S → Type 0} (m : FileCall → String Global) → Respects ghosts.eq string_eq m → {s t : S} {key : String Global} {script : List ℕ} {outcome : Outcome} → string_bytes key ≡ script → Gave same_call same_answer IsOutcome took (key, tt) (with_key m) s outcome t → ComesTo m script outcome
+pub script_given : {sent : List (JoinedCall × JoinedAnswer) → List JoinedCall → Type 0} (m : FileCall → String Global) → Respects ghosts.eq string_eq m → {key : String Global} {script : List ℕ} {outcome : Outcome} → string_bytes key ≡ script → Gave evaluating (key, tt) (with_key m) sent outcome → ComesTo m script outcome
 script_given m respects {outcome = outcome} same gave = subst (λ script. ComesTo m script outcome) same (gave.stands (with_key m) (respects_with_key tests m respects) gave.agrees (λ _. tt) m (λ c. refl) (λ c. refl))
 
 -- what was learnt of a script, which is the run's key, stands where the run is finished
@@ -68,5 +66,5 @@ handed_on (Ok x) f g h e = absurd h
 handed_on (Err x) f g h e = sym h ∙ ap (fault_or f) e
 
 -- what is answered when a path is read is the text there
-pub reads : {H : Type 0} (texts : HashMap (String Global) (String Global) H) (missing : String Global) (path text : List ℕ) → At (answer_of texts missing) path text → Reads (texts_of texts missing) path text
-reads texts missing path text (own, named, gives) = subst (λ p. string_bytes (text_of texts missing p) ≡ text) named gives
+pub reads : (files : Files) (path text : List ℕ) → At (answers_of files) path text → Reads (texts_of files) path text
+reads files path text (own, named, gives) = subst (λ p. string_bytes (text_at files p) ≡ text) named gives

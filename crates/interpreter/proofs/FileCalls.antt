@@ -2,9 +2,9 @@
 use Rattle.std.proofs.Common.{◌≡◌, ◌&&◌, true, IsTrue, String, string_bytes, string_eq, rules}
 use Rattle.std.specs.Cmp.{IsEquivalence}
 use Rattle.std.specs.Global.{Global}
-use Rattle.std.specs.HashMap.{HashMap}
 use Rattle.comemo_base.specs.Answers.{Respects}
-use Rattle.interpreter.specs.Files.{answer_of}
+use Rattle.interpreter.specs.declared.files.Files.{Files}
+use Rattle.interpreter.specs.Files.{answers_of}
 use Rattle.interpreter.specs.declared.files.FileCall.TheVariants.{Read}
 use Rattle.interpreter.specs.contracts.files.FileCallPartialEq.TheImpl.{ghosts}
 
@@ -24,5 +24,5 @@ same_texts = search rules
 pub same_calls : IsEquivalence ghosts.eq
 same_calls = search rules
 
-pub answers_alike : {H : Type 0} (texts : HashMap (String Global) (String Global) H) (missing : String Global) → Respects ghosts.eq string_eq (answer_of texts missing)
-answers_alike texts missing (Read p) (Read q) h = search rules
+pub answers_alike : (files : Files) → Respects ghosts.eq string_eq (answers_of files)
+answers_alike files (Read p) (Read q) h = search rules

@@ -15,7 +15,8 @@ use Rattle.interpreter.specs.declared.files.FileCall.{FileCall}
 use Rattle.interpreter.specs.declared.files.FileCall.TheVariants.{Read}
 use Rattle.interpreter.specs.contracts.files.FileCallPartialEq.TheImpl.{ghosts}
 use Rattle.interpreter.proofs.FileCalls.{same_bytes, same_text}
-use Rattle.interpreter.proofs.JoinedCalls.{same_call, same_answer, tests}
+use Rattle.interpreter.specs.Joined.{same_call, same_answer}
+use Rattle.interpreter.proofs.JoinedCalls.{tests}
 
 module _ (m : FileCall → String Global) (respects : Respects ghosts.eq string_eq m) (own text : String Global) (s t : Recording JoinedCall JoinedAnswer) (empty : s.pairs ≡ []) (asked : Asks string_eq (Through (Took same_call) second_call second_answer) m s (Read own) text t) where
   read : ToldRead same_call same_answer m s.pairs (Read own) text t.pairs

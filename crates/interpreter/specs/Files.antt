@@ -1,20 +1,21 @@
 -- Files in memory, and what they answer.
 use Rattle.std.specs.Prelude.{⊤, ℕ, List, String, string_bytes, unwrap_or}
 use Rattle.std.specs.Global.{Global}
-use Rattle.std.specs.HashMap.{HashMap, get_by_text}
+use Rattle.std.specs.HashMap.{get_by_text}
 use Rattle.comemo.specs.Multi.{part_answers}
 use Rattle.tracking.specs.declared.multi.MultiCall.{MultiCall}
 use Rattle.tracking.specs.declared.multi.MultiAnswer.{MultiAnswer}
+use Rattle.interpreter.specs.declared.files.Files.{Files}
 use Rattle.interpreter.specs.declared.files.FileCall.{FileCall}
 use Rattle.interpreter.specs.declared.files.FileCall.TheVariants.{Read}
 
 -- the text of the file at a path; a file that was never written has the text of a missing one
-abbrev pub text_of : {H : Type 0} → HashMap (String Global) (String Global) H → String Global → List ℕ → String Global
-text_of texts missing path = unwrap_or (get_by_text texts path) missing
+abbrev pub text_at : Files → List ℕ → String Global
+text_at files path = unwrap_or (get_by_text files.texts path) files.missing
 
 -- what files answer to a call
-abbrev pub answer_of : {H : Type 0} → HashMap (String Global) (String Global) H → String Global → FileCall → String Global
-answer_of texts missing (Read path) = text_of texts missing (string_bytes path)
+abbrev pub answers_of : Files → FileCall → String Global
+answers_of files (Read path) = text_at files (string_bytes path)
 
 -- the calls of a key joined with files, and their answers
 abbrev pub JoinedCall : Type 0

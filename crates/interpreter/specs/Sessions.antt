@@ -3,20 +3,20 @@ use Rattle.comemo.specs.declared.finish.How.{How}
 use Rattle.comemo.specs.declared.finish.How.TheVariants as how
 use Rattle.std.specs.Prelude.{Bool, true, false, ◌≡◌, ◌≤◌, ◌⊎◌, ℕ, List, [], ◌∷◌, bytes_eq, length, string_bytes, String, if◌then◌else◌}
 use Rattle.std.specs.Global.{Global}
-use Rattle.std.specs.HashMap.{HashMap}
 use Rattle.commands.specs.Requests.{Request, write, eval, size, IsLineOf, IsNoCommand}
 use Rattle.commands.specs.Printed.{printed, bad_command}
 use Rattle.commands.specs.declared.answer.Answer.{Answer}
 use Rattle.commands.specs.declared.answer.Answer.TheVariants as answer
 use Rattle.scripts.specs.Meaning.{Means, Deep}
-use Rattle.interpreter.specs.Files.{text_of}
+use Rattle.interpreter.specs.declared.files.Files.{Files}
+use Rattle.interpreter.specs.Files.{text_at}
 
 -- the text at each path, as bytes
 abbrev pub Texts : Type 0
 Texts = List ℕ → List ℕ
 
-abbrev pub texts_of : {H : Type 0} → HashMap (String Global) (String Global) H → String Global → Texts
-texts_of texts missing path = string_bytes (text_of texts missing path)
+abbrev pub texts_of : Files → Texts
+texts_of files path = string_bytes (text_at files path)
 
 abbrev pub Same : Texts → Texts → Type 0
 Same before after = (path : List ℕ) → after path ≡ before path

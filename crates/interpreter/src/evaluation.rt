@@ -2,14 +2,17 @@
 ghost use Rattle.std.specs.Prelude.{◌≡◌, ◌<◌, ◌≤◌, ℕ, List, [], true, refl, String, string_bytes, string_eq, IfOk, OnErr, Err};
 ghost use Rattle.std.proofs.Common.{rules};
 ghost use Rattle.std.specs.Global.{Global};
-ghost use Rattle.comemo_base.specs.Answers.{Agrees};
+ghost use Rattle.comemo.specs.Meaning.{sent};
+ghost use Rattle.comemo.specs.Recording.{Took};
+ghost use Rattle.comemo.specs.Cache.{Touches};
 ghost use Rattle.comemo.specs.Begin.{IsRun};
 ghost use Rattle.comemo.specs.Begun.{OnBegun};
 ghost use Rattle.comemo.specs.Called.{Gave, Came, Grows};
+ghost use Rattle.interpreter.specs.Joined.{same_call, with_files};
 ghost use Rattle.scripts.specs.Kinds.{IsPart};
 ghost use Rattle.scripts.specs.Meaning.{Deep};
-ghost use Rattle.interpreter.specs.Files.{answer_of, with_key};
-ghost use Rattle.interpreter.specs.Evaluations.{At, ComesTo, PartComesTo, CallsDeep, Learnt, OutcomeCame};
+ghost use Rattle.interpreter.specs.Files.{answers_of, with_key};
+ghost use Rattle.interpreter.specs.Evaluations.{At, ComesTo, PartComesTo, CallsDeep, FilesAgree, Learnt, IsOutcome, evaluating, EvalGave, EvalCame};
 
 use crate::files::{FileCall, Files, JoinedAnswer, JoinedCall};
 use crate::measure::read_text;
@@ -33,9 +36,7 @@ impl Memo for Eval {
 
     type Out = Outcome;
 
-    ghost use Rattle.comemo.specs.Multi.{OnParts};
-
-    ghost def = { λ key answers outcome _. OnParts answers (λ _ m. ComesTo m (string_bytes key.0) outcome) };
+    ghost def = { IsOutcome };
 
     ghost laws = { record { outputs = λ key m a b writes r c h x y p q. Prim.search (rules, h x y p q); keys = λ j k m output writes r e h x y p q. Prim.search (rules, h x y p q); key_clones = Prim.search rules; answer_clones = Prim.search rules } };
 }
@@ -60,12 +61,13 @@ fn begin_script<S: Sink<Call = JoinedCall, Answer = JoinedAnswer>>(
 ) -> Result<Begun<Eval>, EvalFault>
     ensures begun { IfOk result (λ b. (key : String Global) × (string_bytes key ≡ script.now) × OnBegun b
         (λ outcome. (outcome.height ≤ limit)
-        × Gave ⟦<JoinedCall as PartialEq>⟧.eq ⟦<JoinedAnswer as PartialEq>⟧.eq ⟦<Eval as Memo>⟧.def S.took (key, tt) (with_key (answer_of files.now.texts files.now.missing)) sink.old outcome sink.new
-        × Came ⟦<JoinedCall as PartialEq>⟧.eq ⟦<JoinedAnswer as PartialEq>⟧.eq ⟦<(String, ()) as PartialEq>⟧.eq ⟦<Outcome as Clone>⟧.is_clone (key, tt) (with_key (answer_of files.now.texts files.now.missing)) true outcome cache.old cache.old How.Hit cache.new)
+        × Gave evaluating (key, tt) (with_key (answers_of files.now)) (sent S.took sink.old sink.new) outcome
+        × Came evaluating (with_files key files.now) outcome cache.old cache.old How.Hit cache.new)
         (λ run. (0 < limit) × (sink.new ≡ sink.old)
-        × IsRun ⟦<JoinedCall as PartialEq>⟧.eq ⟦<JoinedAnswer as PartialEq>⟧.eq ⟦<(String, ()) as PartialEq>⟧.eq cache.old (key, tt) (with_key (answer_of files.now.texts files.now.missing)) true ⟦<Eval as Memo>⟧.def run)) }
-    ensures unchanged { cache.new ≡ cache.old }
-    ensures deep { result ≡ Err EvalFault.TooDeep → Deep (At (answer_of files.now.texts files.now.missing)) script.now limit }
+        × IsRun evaluating cache.old (with_files key files.now) run)) }
+    ensures kept { IfOk result (λ b. OnBegun b (λ _. Touches cache.old cache.new) (λ _. cache.new ≡ cache.old)) }
+    ensures err_keeps { OnErr result (Touches cache.old cache.new) }
+    ensures deep { result ≡ Err EvalFault.TooDeep → Deep (At (answers_of files.now)) script.now limit }
     ensures err { OnErr result (S.spoils sink.old sink.new) }
 {
     if limit == 0 {
@@ -127,10 +129,10 @@ fn evaluate_part(
     limit: u64,
     recording: &mut Constraint<JoinedCall, JoinedAnswer>,
 ) -> Result<Outcome, EvalFault>
-    requires { Agrees ⟦<JoinedAnswer as PartialEq>⟧.eq (with_key (answer_of files.now.texts files.now.missing)) recording.now.pairs }
+    requires { FilesAgree files.now recording.now }
     ensures ok { (bytes : List ℕ) → IsPart bytes part.entry → IfOk result (λ outcome. (outcome.height ≤ limit)
-        × Learnt ⟦<FileCall as PartialEq>⟧.eq ⟦<JoinedAnswer as PartialEq>⟧.eq (answer_of files.now.texts files.now.missing) recording.old recording.new (λ n. PartComesTo n bytes outcome)) }
-    ensures deep { (bytes : List ℕ) → IsPart bytes part.entry → result ≡ Err EvalFault.TooDeep → CallsDeep (answer_of files.now.texts files.now.missing) bytes limit }
+        × Learnt (answers_of files.now) recording.old recording.new (λ n. PartComesTo n bytes outcome)) }
+    ensures deep { (bytes : List ℕ) → IsPart bytes part.entry → result ≡ Err EvalFault.TooDeep → CallsDeep (answers_of files.now) bytes limit }
     ensures grows { Grows cache.old cache.new }
 {
     match part {
@@ -165,8 +167,8 @@ fn run_script(
     requires room { 0 < limit }
     requires fresh { recording.now.pairs ≡ [] }
     ensures ok { IfOk result (λ outcome. (outcome.height ≤ limit)
-        × Learnt ⟦<FileCall as PartialEq>⟧.eq ⟦<JoinedAnswer as PartialEq>⟧.eq (answer_of files.now.texts files.now.missing) recording.old recording.new (λ n. ComesTo n script.now outcome)) }
-    ensures deep { result ≡ Err EvalFault.TooDeep → Deep (At (answer_of files.now.texts files.now.missing)) script.now limit }
+        × Learnt (answers_of files.now) recording.old recording.new (λ n. ComesTo n script.now outcome)) }
+    ensures deep { result ≡ Err EvalFault.TooDeep → Deep (At (answers_of files.now)) script.now limit }
     ensures grows { Grows cache.old cache.new }
 {
     let mut parts = Parts::new(script);
@@ -190,10 +192,10 @@ fn evaluate_within(
     limit: u64,
     sink: &mut Constraint<JoinedCall, JoinedAnswer>,
 ) -> Result<Reply<Outcome>, EvalFault>
-    ensures outcome { IfOk result (λ reply. ComesTo (answer_of files.now.texts files.now.missing) script.now reply.output × (reply.output.height ≤ limit)) }
-    ensures gave { IfOk result (λ reply. (key : String Global) × (string_bytes key ≡ script.now)
-        × Gave ⟦<JoinedCall as PartialEq>⟧.eq ⟦<JoinedAnswer as PartialEq>⟧.eq ⟦<Eval as Memo>⟧.def ⟦<Constraint<JoinedCall, JoinedAnswer> as Sink>⟧.took (key, tt) (with_key (answer_of files.now.texts files.now.missing)) sink.old reply.output sink.new) }
-    ensures deep { result ≡ Err EvalFault.TooDeep → Deep (At (answer_of files.now.texts files.now.missing)) script.now limit }
+    ensures outcome { IfOk result (λ reply. ComesTo (answers_of files.now) script.now reply.output × (reply.output.height ≤ limit)) }
+    ensures gave { IfOk result (λ reply. EvalGave files.now script.now
+        (sent (Took same_call) sink.old sink.new) reply.output) }
+    ensures deep { result ≡ Err EvalFault.TooDeep → Deep (At (answers_of files.now)) script.now limit }
     ensures grows { Grows cache.old cache.new }
 {
     evaluate_script!(alloc, cache, files, script, limit, sink)
@@ -211,11 +213,11 @@ pub fn evaluate<S: Sink<Call = JoinedCall, Answer = JoinedAnswer>>(
     limit: u64,
     sink: &mut S,
 ) -> Result<Reply<Outcome>, EvalFault>
-    ensures outcome { IfOk result (λ reply. ComesTo (answer_of files.now.texts files.now.missing) script.now reply.output × (reply.output.height ≤ limit)) }
-    ensures gave { IfOk result (λ reply. (key : String Global) × (string_bytes key ≡ script.now)
-        × Gave ⟦<JoinedCall as PartialEq>⟧.eq ⟦<JoinedAnswer as PartialEq>⟧.eq ⟦<Eval as Memo>⟧.def S.took (key, tt) (with_key (answer_of files.now.texts files.now.missing)) sink.old reply.output sink.new) }
-    ensures came { IfOk result (λ reply. OutcomeCame ⟦<JoinedCall as PartialEq>⟧.eq ⟦<JoinedAnswer as PartialEq>⟧.eq ⟦<(String, ()) as PartialEq>⟧.eq ⟦<Outcome as Clone>⟧.is_clone (answer_of files.now.texts files.now.missing) script.now cache.old reply.output reply.how cache.new) }
-    ensures deep { result ≡ Err EvalFault.TooDeep → Deep (At (answer_of files.now.texts files.now.missing)) script.now limit }
+    ensures outcome { IfOk result (λ reply. ComesTo (answers_of files.now) script.now reply.output × (reply.output.height ≤ limit)) }
+    ensures gave { IfOk result (λ reply. EvalGave files.now script.now
+        (sent S.took sink.old sink.new) reply.output) }
+    ensures came { IfOk result (λ reply. EvalCame files.now script.now cache.old reply.output reply.how cache.new) }
+    ensures deep { result ≡ Err EvalFault.TooDeep → Deep (At (answers_of files.now)) script.now limit }
     ensures grows { Grows cache.old cache.new }
     ensures err { OnErr result (S.spoils sink.old sink.new) }
 {

@@ -1,7 +1,6 @@
 //! Files in memory, as a tracked value.
 ghost use Rattle.std.specs.Prelude.{◌≡◌, ℕ, List, [], false, refl, string_bytes, bytes_eq, if◌then◌else◌, OnOk, OnErr, length};
 ghost use Rattle.std.proofs.Common.{rules};
-ghost use Rattle.interpreter.specs.Files.{text_of};
 
 use comemo::{Call, MultiAnswer, MultiCall, Track};
 use std::alloc::{AllocError, Global};
@@ -42,9 +41,11 @@ pub struct Files {
 }
 
 impl Files {
+    ghost use Rattle.interpreter.specs.Files.{text_at};
+
     /// No files. It takes no memory.
     pub fn new(alloc: Global) -> Self
-        ensures { (path : List ℕ) → string_bytes (text_of result.texts result.missing path) ≡ [] }
+        ensures { (path : List ℕ) → string_bytes (text_at result path) ≡ [] }
     {
         Files {
             texts: HashMap::new(alloc),
@@ -54,7 +55,7 @@ impl Files {
 
     /// The text of the file at a path.
     fn text(&self, path: &str) -> &String
-        ensures { result.now ≡ text_of self.now.texts self.now.missing path.now }
+        ensures { result.now ≡ text_at self.now path.now }
     {
         match self.texts.get(path) {
             Some(text) => text,
@@ -64,8 +65,8 @@ impl Files {
 
     /// Writes a text to the file at a path. An error says that there was no memory; then the files are as they were.
     pub fn write(&mut self, path: String, text: String) -> Result<(), AllocError>
-        ensures ok { OnOk result ((q : List ℕ) → text_of self.new.texts self.new.missing q ≡ (if bytes_eq q (string_bytes path) then text else text_of self.old.texts self.old.missing q)) }
-        ensures err { OnErr result ((q : List ℕ) → text_of self.new.texts self.new.missing q ≡ text_of self.old.texts self.old.missing q) }
+        ensures ok { OnOk result ((q : List ℕ) → text_at self.new q ≡ (if bytes_eq q (string_bytes path) then text else text_at self.old q)) }
+        ensures err { OnErr result ((q : List ℕ) → text_at self.new q ≡ text_at self.old q) }
     {
         match self.texts.insert(path, text) {
             Ok(_) => Ok(()),
@@ -79,9 +80,9 @@ impl Track for Files {
 
     type Answer = String;
 
-    ghost use Rattle.interpreter.specs.Files.{answer_of};
+    ghost use Rattle.interpreter.specs.Files.{answers_of};
 
-    ghost answers = { λ s call. answer_of s.texts s.missing call };
+    ghost answers = { answers_of };
 
     ghost alike = { λ s x y h. Prim.search rules };
 

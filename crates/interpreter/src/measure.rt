@@ -2,11 +2,12 @@
 ghost use Rattle.std.specs.Prelude.{◌≡◌, ℕ, List, [], refl, true, string_bytes, string_eq, String, length, IfOk, IfErr, OnErr};
 ghost use Rattle.std.proofs.Common.{rules};
 ghost use Rattle.std.specs.Global.{Global};
-ghost use Rattle.comemo.specs.Called.{Gave, Came};
+ghost use Rattle.comemo.specs.Meaning.{sent};
+ghost use Rattle.interpreter.specs.Size.{IsSizeOf, SizeGave, SizeCame};
 ghost use Rattle.comemo.specs.Sending.{Asks};
 ghost use Rattle.comemo.specs.Mapped.{Through};
 ghost use Rattle.comemo.specs.Multi.{second_call, second_answer};
-ghost use Rattle.interpreter.specs.Files.{text_of, answer_of, with_key};
+ghost use Rattle.interpreter.specs.Files.{text_at, answers_of};
 ghost use Rattle.interpreter.specs.declared.files.FileCall.TheVariants.{Read};
 
 use crate::files::{FileCall, Files, JoinedAnswer, JoinedCall};
@@ -29,12 +30,10 @@ impl Memo for FileSize {
 
     type Out = u64;
 
-    ghost use Rattle.comemo.specs.Multi.{OnParts};
     ghost use Rattle.comemo.specs.MultiLaws.{second_respects};
-    ghost use Rattle.interpreter.specs.Size.{IsSize};
     ghost use Rattle.interpreter.specs.SizeLaws.{size_alike};
 
-    ghost def = { λ key answers out _. OnParts answers (λ _ m. IsSize key.0 m out) };
+    ghost def = { IsSizeOf };
 
     ghost laws = { record { outputs = λ key m a b writes r d h x y p q. Prim.search (rules, h x y p q); keys = λ j k answers output writes r e h x m p q. size_alike j.0 k.0 m output (second_respects _ ⟦<JoinedAnswer as PartialEq>⟧.eq answers m r q) e (h x m p q); key_clones = Prim.search rules; answer_clones = Prim.search rules } };
 }
@@ -46,7 +45,9 @@ pub(crate) fn read_text<S: Sink<Call = JoinedCall, Answer = JoinedAnswer>>(
     path: &str,
     sink: &mut S,
 ) -> Result<String, AllocError>
-    ensures { IfOk result (λ text. (own : String Global) × (string_bytes own ≡ path.now) × Asks string_eq (Through S.took second_call second_answer) (answer_of files.now.texts files.now.missing) sink.old (Read own) text sink.new) }
+    ensures { IfOk result (λ text. (own : String Global) × (string_bytes own ≡ path.now)
+        × Asks string_eq (Through S.took second_call second_answer) (answers_of files.now)
+        sink.old (Read own) text sink.new) }
 {
     let own = String::from_str(alloc, path)?;
     let mut view = files.fork();
@@ -64,9 +65,12 @@ pub fn size<S: Sink<Call = JoinedCall, Answer = JoinedAnswer>>(
     path: &str,
     sink: &mut S,
 ) -> Result<Reply<u64>, Fault>
-    ensures output { IfOk result (λ reply. reply.output ≡ length (string_bytes (text_of files.now.texts files.now.missing path.now))) }
-    ensures gave { IfOk result (λ reply. (key : String Global) × (string_bytes key ≡ path.now) × Gave ⟦<JoinedCall as PartialEq>⟧.eq ⟦<JoinedAnswer as PartialEq>⟧.eq ⟦<FileSize as Memo>⟧.def S.took (key, tt) (with_key (answer_of files.now.texts files.now.missing)) sink.old reply.output sink.new) }
-    ensures came { IfOk result (λ reply. (key : String Global) × (string_bytes key ≡ path.now) × Came ⟦<JoinedCall as PartialEq>⟧.eq ⟦<JoinedAnswer as PartialEq>⟧.eq ⟦<(String, ()) as PartialEq>⟧.eq ⟦<u64 as Clone>⟧.is_clone (key, tt) (with_key (answer_of files.now.texts files.now.missing)) true reply.output cache.old cache.old reply.how cache.new) }
+    ensures output { IfOk result (λ reply.
+        reply.output ≡ length (string_bytes (text_at files.now path.now))) }
+    ensures gave { IfOk result (λ reply. SizeGave files.now path.now
+        (sent S.took sink.old sink.new) reply.output) }
+    ensures came { IfOk result (λ reply. SizeCame files.now path.now
+        cache.old reply.output reply.how cache.new) }
     ensures fault { IfErr result (λ fault. fault ≡ Fault.Memory) }
     ensures err { OnErr result ((cache.new ≡ cache.old) × S.spoils sink.old sink.new) }
 {

@@ -11,9 +11,9 @@ use std::alloc::{AllocError, Global};
 use std::io::{BufRead, Write};
 
 impl Session for State {
-    ghost answers = { λ s line text t. Prints (texts_of s.files.texts s.files.missing) line text (texts_of t.files.texts t.files.missing) };
+    ghost answers = { λ s line text t. Prints (texts_of s.files) line text (texts_of t.files) };
 
-    ghost refuses = { λ s line t. Refuses (texts_of s.files.texts s.files.missing) line (texts_of t.files.texts t.files.missing) };
+    ghost refuses = { λ s line t. Refuses (texts_of s.files) line (texts_of t.files) };
 
     fn answer(&mut self, line: &str) -> Result<String, AllocError> {
         match Command::parse(self.alloc, line)? {

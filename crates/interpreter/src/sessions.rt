@@ -9,7 +9,7 @@ use std::alloc::{AllocError, Global};
 
 /// Carries out a clone of a command.
 fn answer_to(state: &mut State, command: &Command) -> Answer
-    ensures { Answers (texts_of state.old.files.texts state.old.files.missing) (request_of command.now) result (texts_of state.new.files.texts state.new.files.missing) }
+    ensures { Answers (texts_of state.old.files) (request_of command.now) result (texts_of state.new.files) }
 {
     match command.clone() {
         Ok(command) => state.carry_out(command),

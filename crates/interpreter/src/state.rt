@@ -32,7 +32,7 @@ fn is_kept(how: How) -> bool
 impl State {
     /// No files, and nothing kept. It takes no memory.
     pub fn new(alloc: Global) -> Self
-        ensures { (path : List ℕ) → texts_of result.files.texts result.files.missing path ≡ [] }
+        ensures { (path : List ℕ) → texts_of result.files path ≡ [] }
     {
         State {
             alloc,
@@ -47,7 +47,7 @@ impl State {
     /// The answer is the one that the files as they are have, whatever was asked before. `Memory` says that there was no
     /// memory for the command; then the files are as they were.
     pub fn carry_out(&mut self, command: Command) -> Answer
-        ensures { Answers (texts_of self.old.files.texts self.old.files.missing) (request_of command) result (texts_of self.new.files.texts self.new.files.missing) }
+        ensures { Answers (texts_of self.old.files) (request_of command) result (texts_of self.new.files) }
     {
         match command {
             Command::Write(path, text) => match self.files.write(path, text) {
@@ -61,7 +61,7 @@ impl State {
 
     /// The value of a script.
     fn value_of(&mut self, script: &str) -> Answer
-        ensures { Answers (texts_of self.old.files.texts self.old.files.missing) (eval_of script.now) result (texts_of self.new.files.texts self.new.files.missing) }
+        ensures { Answers (texts_of self.old.files) (eval_of script.now) result (texts_of self.new.files) }
     {
         let view = self.files.track();
         let cache = &mut self.evaluated;
@@ -85,7 +85,7 @@ impl State {
 
     /// The size of the file at a path.
     fn size_at(&mut self, path: &str) -> Answer
-        ensures { Answers (texts_of self.old.files.texts self.old.files.missing) (size_of path.now) result (texts_of self.new.files.texts self.new.files.missing) }
+        ensures { Answers (texts_of self.old.files) (size_of path.now) result (texts_of self.new.files) }
     {
         let view = self.files.track();
         match size(self.alloc, &mut self.sizes, &view, path, &mut Top::new()) {

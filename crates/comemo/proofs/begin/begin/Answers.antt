@@ -19,8 +19,8 @@ returns-in-Some-clause-begun g c =
       kept = Has-alike g.M.Call.PartialEq.eq g.M.Answer.PartialEq.eq g.met.M.Key.Eq.laws c.args.cache.now c.in-Ok.key _ alike g.M.Out.Clone.is_clone m c.in-Some.found.pairs.items c.in-Some.found.output [] found;
       agrees = agrees;
       stands = λ n r a. g.met.M.Memo.laws.keys c.in-Ok.key _ n c.in-Some.found.output [] r alike (stands n r a);
-      done = c.look.ensures.same;
-      sent = c.in_ok-give_pairs.ensures.ok;
+      are_done = c.look.ensures.same;
+      are_sent = c.in_ok-give_pairs.ensures.ok;
       right = g.met.M.Memo.laws.keys c.in-Ok.key _ m c.in-Some.found.output [] respects alike (stands m respects agrees);
     }
 
@@ -49,3 +49,6 @@ returns-clause-begun g c =
       did,
       refl,
     )
+
+pub returns-in-Some-clause-kept : goal.returns-in-Some-clause-kept
+returns-in-Some-clause-kept g c = record { same = refl }

@@ -15,4 +15,4 @@ returns-in-Ok-clause-gave g c =
     let run = rw (c.in-Run.is, c.fork.ensures) at c.in_ok-output.ensures.begun in
     let asks = rw (c.fork-view.ensures, c.recording.ensures.value) at c.in-Ok.ensures.ok in
     let t = told_answer same_calls same_numbers _ (λ x y h. search rules) _ _ _ _ (rw run.0.pairs tt) asks in
-    gave_by_run run.0 _ _ _ _ c.finish.result (λ x y h. search rules) t.agrees (rw run.2 at c.finish.ensures.gave)
+    gave_by_run run.0 _ _ c.finish.result (λ x y h. search rules) t.agrees (rw run.2 at c.finish.ensures.gave)

@@ -14,12 +14,12 @@ pub finish-requires : goal.finish-requires
 finish-requires g c =
     let run = rw c.in-Run.is at c.in_ok-output.ensures.begun in
     let gave = rw c.recording.ensures.value at c.in-Ok.ensures.gave in
-    let t = told_pairs same_calls same_numbers _ (λ x y h. search rules) _ _ gave.pairs gave.writes (rw run.0.pairs tt) gave.agrees gave.sent in
+    let t = told_pairs same_calls same_numbers _ (λ x y h. search rules) _ _ gave.pairs gave.writes (rw run.0.pairs tt) gave.agrees gave.are_sent in
     λ _ m r a. ap (λ n. (n + n) % 2 ^ 64) (gave.stands m r (t.told m r a))
 
 pub returns-in-Ok-clause-gave : goal.returns-in-Ok-clause-gave
 returns-in-Ok-clause-gave g c =
     let run = rw (c.in-Run.is, c.fork.ensures) at c.in_ok-output.ensures.begun in
     let gave = rw c.recording.ensures.value at c.in-Ok.ensures.gave in
-    let t = told_pairs same_calls same_numbers _ (λ x y h. search rules) _ _ gave.pairs gave.writes (rw run.0.pairs tt) gave.agrees gave.sent in
-    gave_by_run run.0 _ _ _ _ c.finish.result (λ x y h. search rules) t.agrees (rw run.2 at c.finish.ensures.gave)
+    let t = told_pairs same_calls same_numbers _ (λ x y h. search rules) _ _ gave.pairs gave.writes (rw run.0.pairs tt) gave.agrees gave.are_sent in
+    gave_by_run run.0 _ _ c.finish.result (λ x y h. search rules) t.agrees (rw run.2 at c.finish.ensures.gave)

@@ -5,37 +5,38 @@ use Rattle.comemo.proofs.Growing.{grows_on}
 use Rattle.tracking.proofs.KeyedViews.{respects_with_key}
 use Rattle.scripts.specs.Meaning.{is_bad}
 use Rattle.scripts.proofs.Totals.{number_means, leaves_rest, means_at_end, means_at_fault, deep_at_part}
-use Rattle.interpreter.specs.Files.{answer_of, with_key}
+use Rattle.interpreter.specs.Files.{answers_of, with_key}
 use Rattle.interpreter.specs.Evaluations.{At}
 use Rattle.interpreter.proofs.Evaluations.{learnt_nothing, learnt_by_call, calls_deep, handed_on, script_given, script_stands}
 use Rattle.interpreter.proofs.FileCalls.{answers_alike}
-use Rattle.interpreter.proofs.JoinedCalls.{same_answer, tests}
+use Rattle.interpreter.specs.Joined.{same_answer}
+use Rattle.interpreter.proofs.JoinedCalls.{tests}
 use Rattle.interpreter.proofs.evaluation.+evaluating.Goals as goal
 
 pub evaluate_part-returns-in-Number-clause-ok : goal.evaluate_part-returns-in-Number-clause-ok
 evaluate_part-returns-in-Number-clause-ok t c = λ bytes is.
-    (omega arith, learnt_nothing (answer_of c.args.files.now.texts c.args.files.now.missing) c.args.recording.now _ c.requires (λ n. number_means (At n) (rw c.in-Number.is at is)))
+    (omega arith, learnt_nothing (answers_of c.args.files.now) c.args.recording.now _ c.requires (λ n. number_means (At n) (rw c.in-Number.is at is)))
 
 pub evaluate_part-returns-in-Bad-clause-ok : goal.evaluate_part-returns-in-Bad-clause-ok
 evaluate_part-returns-in-Bad-clause-ok t c = λ bytes is.
-    (omega arith, learnt_nothing (answer_of c.args.files.now.texts c.args.files.now.missing) c.args.recording.now _ c.requires (λ n. is_bad (rw c.in-Bad.is at is)))
+    (omega arith, learnt_nothing (answers_of c.args.files.now) c.args.recording.now _ c.requires (λ n. is_bad (rw c.in-Bad.is at is)))
 
 pub evaluate_part-returns-in_ok-reply-in-Eval-clause-ok : goal.evaluate_part-returns-in_ok-reply-in-Eval-clause-ok
 evaluate_part-returns-in_ok-reply-in-Eval-clause-ok t c = λ bytes is.
     let (own, named, asks) = c.in-Ok.ensures in
     let (key, same, gave) = c.in_ok-reply-in-Eval.ensures.gave in
-    (c.in_ok-reply-in-Eval.ensures.outcome.1, learnt_by_call _ (answers_alike c.args.files.now.texts c.args.files.now.missing) (rw c.in-Eval.is at is) named asks c.requires (rw c.as_str.ensures.value at same) gave)
+    (c.in_ok-reply-in-Eval.ensures.outcome.1, learnt_by_call _ (answers_alike c.args.files.now) (rw c.in-Eval.is at is) named asks c.requires (rw c.as_str.ensures.value at same) gave)
 
 pub evaluate_part-returns-in_err-reply-in-Eval-clause-deep : goal.evaluate_part-returns-in_err-reply-in-Eval-clause-deep
 evaluate_part-returns-in_err-reply-in-Eval-clause-deep t c = λ bytes is e.
     let (own, named, asks) = c.in-Ok.ensures in
     let deep = c.in_err-reply-in-Eval.ensures.deep (ap (λ f. Err f) (handed_on c.from_residual.result c.in_err-reply-in-Eval.field-0.0 _ c.from_residual.ensures.1 e)) in
-    calls_deep _ (answers_alike c.args.files.now.texts c.args.files.now.missing) (rw c.in-Eval.is at is) named asks (rw c.as_str.ensures.value at deep)
+    calls_deep _ (answers_alike c.args.files.now) (rw c.in-Eval.is at is) named asks (rw c.as_str.ensures.value at deep)
 
 pub evaluate_within-returns-in-Hit-clause-outcome : goal.evaluate_within-returns-in-Hit-clause-outcome
 evaluate_within-returns-in-Hit-clause-outcome t c =
     let (key, same, hit) = rw c.in-Hit.is at c.in_ok-output.ensures.begun in
-    (script_given _ (answers_alike c.args.files.now.texts c.args.files.now.missing) same hit.1, hit.0)
+    (script_given _ (answers_alike c.args.files.now) same hit.1, hit.0)
 
 pub evaluate_within-returns-in-Hit-clause-gave : goal.evaluate_within-returns-in-Hit-clause-gave
 evaluate_within-returns-in-Hit-clause-gave t c =
@@ -51,18 +52,18 @@ pub evaluate_within-returns-in-Ok-finish-clause-gave : goal.evaluate_within-retu
 evaluate_within-returns-in-Ok-finish-clause-gave t c =
     let (key, same, run) = rw c.in-Run.is at c.in_ok-output.ensures.begun in
     let learnt = c.in-Ok.ensures.ok in
-    (key, same, gave_at_key run.2 ((rw (c.in-Ok-finish.is, run.1) at c.finish.ensures.gave) _ (respects_with_key tests _ (answers_alike c.args.files.now.texts c.args.files.now.missing)) learnt.1.0))
+    (key, same, gave_at_key run.2 ((rw (c.in-Ok-finish.is, run.1) at c.finish.ensures.gave) _ (respects_with_key tests _ (answers_alike c.args.files.now)) learnt.1.0))
 
 pub evaluate_within-returns-in-Ok-finish-clause-grows : goal.evaluate_within-returns-in-Ok-finish-clause-grows
 evaluate_within-returns-in-Ok-finish-clause-grows t c =
-    grows_on _ _ _ (rw c.in_ok-output.ensures.unchanged at c.in-Ok.ensures.grows) c.finish.ensures.grows
+    grows_on _ _ _ (rw (rw c.in-Run.is at c.in_ok-output.ensures.kept) at c.in-Ok.ensures.grows) c.finish.ensures.grows
 
 pub run_script-returns-in_err-outcome-clause-deep : goal.run_script-returns-in_err-outcome-clause-deep
 run_script-returns-in_err-outcome-clause-deep t c = λ e.
     let i = c.loop-part.invariant in
     let (bytes, cut, is) = c.in-Some.ensures in
     let (path, text, calls, at, deep) = c.in_err-outcome.ensures.deep bytes is (ap (λ f. Err f) (handed_on c.from_residual.result c.in_err-outcome.field-0.0 _ c.from_residual.ensures.1 e)) in
-    deep_at_part (At (answer_of c.args.files.now.texts c.args.files.now.missing)) c.args.limit c.requires.1.1.0 (i.leaves (answer_of c.args.files.now.texts c.args.files.now.missing) (answers_alike c.args.files.now.texts c.args.files.now.missing) i.agrees) cut calls at deep
+    deep_at_part (At (answers_of c.args.files.now)) c.args.limit c.requires.1.1.0 (i.leaves (answers_of c.args.files.now) (answers_alike c.args.files.now) i.agrees) cut calls at deep
 
 pub run_script-returns-in_err-outcome-clause-grows : goal.run_script-returns-in_err-outcome-clause-grows
 run_script-returns-in_err-outcome-clause-grows t c = grows_on _ _ _ c.loop-part.invariant.grows c.in_err-outcome.ensures.grows

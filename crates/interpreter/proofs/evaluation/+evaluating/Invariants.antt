@@ -3,11 +3,11 @@ use Rattle.std.specs.Global.{Global}
 use Rattle.comemo_base.specs.Answers.{Respects, Agrees}
 use Rattle.comemo.specs.Called.{Grows}
 use Rattle.scripts.proofs.Totals.{Leaves}
-use Rattle.interpreter.specs.Files.{answer_of, with_key}
+use Rattle.interpreter.specs.Files.{answers_of, with_key}
 use Rattle.interpreter.specs.Evaluations.{At}
 use Rattle.interpreter.specs.declared.files.FileCall.{FileCall}
 use Rattle.interpreter.specs.contracts.files.FileCallPartialEq.TheImpl.{ghosts}
-use Rattle.interpreter.proofs.JoinedCalls.{same_answer}
+use Rattle.interpreter.specs.Joined.{same_answer}
 use Rattle.interpreter.proofs.evaluation.+evaluating.Given as goal
 
 abbrev pub decreases-evaluate_part : goal.decreases-evaluate_part
@@ -24,7 +24,7 @@ decreases-evaluate_within l = 3 * l.limit
 abbrev pub invariant-run_script-loop-part : goal.invariant-run_script-loop-part
 invariant-run_script-loop-part l = record {
   low : l.total.height < l.limit;
-  agrees : Agrees same_answer (with_key (answer_of l.files.texts l.files.missing)) l.recording.pairs;
+  agrees : Agrees same_answer (with_key (answers_of l.files)) l.recording.pairs;
   leaves : (m : FileCall → String Global) → Respects ghosts.eq string_eq m → Agrees same_answer (with_key m) l.recording.pairs → Leaves (At m) l.script l.parts l.total;
   grows : Grows l.fn.cache l.cache;
 }

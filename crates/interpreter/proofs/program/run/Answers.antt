@@ -4,4 +4,4 @@ use Rattle.interpreter.proofs.program.run.Goals as goal
 
 pub returns : goal.returns
 returns g c =
-    (_, _, c.new.ensures, Ran_seen (λ s. texts_of s.files.texts s.files.missing) _ _ Prints Refuses (λ s line text t p. p) (λ s line t p. p) _ _ _ _ _ c.run.result c.run.ensures)
+    (_, _, c.new.ensures, Ran_seen (λ s. texts_of s.files) _ _ Prints Refuses (λ s line text t p. p) (λ s line t p. p) _ _ _ _ _ c.run.result c.run.ensures)

@@ -5,4 +5,4 @@ use Rattle.interpreter.proofs.program.start.Goals as goal
 
 pub returns-clause-ran : goal.returns-clause-ran
 returns-clause-ran g c = λ no_words.
-    (_, _, c.new-state.ensures, RanAs_seen (λ s. texts_of s.files.texts s.files.missing) _ _ Prints Refuses (λ s line text t p. p) (λ s line t p. p) (codes "calc") _ _ _ _ _ _ _ _ (c.start.ensures.ran no_words))
+    (_, _, c.new-state.ensures, RanAs_seen (λ s. texts_of s.files) _ _ Prints Refuses (λ s line text t p. p) (λ s line t p. p) (codes "calc") _ _ _ _ _ _ _ _ (c.start.ensures.ran no_words))

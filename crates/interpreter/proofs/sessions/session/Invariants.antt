@@ -8,5 +8,5 @@ abbrev pub invariant-loop-command : goal.invariant-loop-command
 invariant-loop-command l = record {
   long : vec_len l.answers ≡ l.command-index;
   room : length l.commands ≤ vec_capacity l.answers;
-  each : AnswersEach (texts_of l.initial.state.files.texts l.initial.state.files.missing) (map request_of (take l.command-index l.commands)) l.answers.items (texts_of l.state.files.texts l.state.files.missing);
+  each : AnswersEach (texts_of l.initial.state.files) (map request_of (take l.command-index l.commands)) l.answers.items (texts_of l.state.files);
 }

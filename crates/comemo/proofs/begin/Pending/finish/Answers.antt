@@ -37,7 +37,7 @@ returns-clause-gives g c =
     elim c.if-enabled.branch [
       | then-enabled+in_ok-how w ↦ rw (← c.self.view_is, ← c.into_reads-reads.ensures.pairs, c.into_reads-reads.ensures.writes, w.sink-is) w.in_ok-how.ensures.gives
       | else-enabled+in_ok-give_reads w ↦
-          rw (← c.self.view_is, ← c.into_reads-reads.ensures.pairs, c.into_reads-reads.ensures.writes, w.sink-is) (given g.met.M.Call.Eq.laws g.met.M.Answer.Eq.laws g.S.Sink.took _ _ _ _ [] (IsSamePath-itself g.met.M.Call.Eq.laws g.met.M.Answer.Eq.laws c.into_reads-reads.result.pairs) w.in_ok-give_reads.ensures.ok)
+          rw (← c.self.view_is, ← c.into_reads-reads.ensures.pairs, c.into_reads-reads.ensures.writes, w.sink-is) (given g.met.M.Call.Eq.laws g.met.M.Answer.Eq.laws _ _ [] (IsSamePath-itself g.met.M.Call.Eq.laws g.met.M.Answer.Eq.laws c.into_reads-reads.result.pairs) w.in_ok-give_reads.ensures.ok)
     ]
 
 pub returns-clause-gave : goal.returns-clause-gave
@@ -49,11 +49,11 @@ returns-clause-gave g c =
       writes = c.args.self.recording.writes;
       agrees = (gives.agreeing m r).1 a;
       stands = λ n q b. c.requires whole n q ((gives.agreeing n q).0 b);
-      sent = gives.sent;
+      are_sent = gives.are_sent;
     }
 
 pub returns-clause-grows : goal.returns-clause-grows
-returns-clause-grows g c = grows_by_ends g.M.Call.PartialEq.eq g.M.Answer.PartialEq.eq g.M.Key.PartialEq.eq g.M.Out.Clone.is_clone _ c.args.self.key c.args.self.recording.pairs c.args.output _ _ (returns-clause-ends g c)
+returns-clause-grows g c = grows_by_ends (record { eq = g.M.Call.PartialEq.eq; same = g.M.Answer.PartialEq.eq; eqk = g.M.Key.PartialEq.eq; cloned = g.M.Out.Clone.is_clone; def = g.M.Memo.def }) _ c.args.self.key c.args.self.recording.pairs c.args.output _ _ (returns-clause-ends g c)
 
 pub returns-then-not-is_whole-clause-grows : goal.returns-then-not-is_whole-clause-grows
 returns-then-not-is_whole-clause-grows g c = grows_not _ _ refl

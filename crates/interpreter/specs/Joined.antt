@@ -1,0 +1,32 @@
+-- Calls and answers of a key joined with files, and when two are equal.
+use Rattle.std.specs.Prelude.{◌≡◌, Bool, true, ◌&&◌, ⊤, List, String, string_eq}
+use Rattle.std.specs.Global.{Global}
+use Rattle.std.specs.contracts.prelude.UnitPartialEq.TheImpl as unit
+use Rattle.std.specs.contracts.string.String as string
+use Rattle.std.specs.contracts.alloc.Global as global
+use Rattle.std.specs.contracts.impls.GlobalAllocator.TheImpl as allocator
+use Rattle.tracking.specs.contracts.multi.MultiCallPartialEq.TheImpl as multi_call
+use Rattle.tracking.specs.contracts.multi.MultiAnswerPartialEq.TheImpl as multi_answer
+use Rattle.comemo.specs.Meaning.{Meaning, Asked, asked}
+use Rattle.interpreter.specs.declared.files.Files.{Files}
+use Rattle.interpreter.specs.contracts.files.FileCall as file_call
+use Rattle.interpreter.specs.contracts.files.FileCallPartialEq.TheImpl as call
+use Rattle.interpreter.specs.Files.{JoinedCall, JoinedAnswer, answers_of, with_key}
+
+-- the derived tests of joined calls, of their answers, and of keys
+abbrev pub same_call : JoinedCall → JoinedCall → Bool
+same_call = (multi_call.ghosts denote.Builtin.unit file_call.the_row unit.ghosts unit.dict call.ghosts call.dict).eq
+
+abbrev pub same_answer : JoinedAnswer → JoinedAnswer → Bool
+same_answer = (multi_answer.ghosts denote.Builtin.unit (string.the_row global.the_row allocator.ghosts) unit.ghosts unit.dict (record { eq = string_eq }) unit.dict).eq
+
+abbrev pub same_key : String Global × ⊤ → String Global × ⊤ → Bool
+same_key a b = string_eq a.0 b.0 && true
+
+-- what a function of a text and the files means, where it means this and its outputs are plain values
+abbrev pub joined : {O : Type 0} → (String Global × ⊤ → (JoinedCall → JoinedAnswer) → O → List JoinedCall → Type 0) → Meaning (String Global × ⊤) JoinedCall JoinedAnswer O
+joined def = record { eq = same_call; same = same_answer; eqk = same_key; cloned = λ a b. b ≡ a; def = def }
+
+-- its call at a text and these files
+abbrev pub with_files : String Global → Files → Asked (String Global × ⊤) JoinedCall JoinedAnswer
+with_files key files = asked (key, tt) (with_key (answers_of files)) true
