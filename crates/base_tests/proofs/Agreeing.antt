@@ -1,5 +1,5 @@
 -- What a look-up with the answers of a map tells where its clone found no memory.
-use Rattle.std.proofs.Common.{Bool, List, [], ◌∷◌, IsTrue, Some, Result, Ok, Err, OnErr}
+use Rattle.std.proofs.Common.{Bool, List, [], ◌∷◌, Some, Result, Ok, Err, OnErr}
 use Rattle.std.specs.List.{Any}
 use Rattle.std.specs.Cmp.{IsEquivalence}
 use Rattle.std.specs.Fn.{Mut}
@@ -11,17 +11,17 @@ use Rattle.comemo_base.specs.Lookup.{AnswersAs, LooksUp}
 use Rattle.comemo_base.proofs.Paths.{Agrees-asked, FindsAgreeingPath-from_asked}
 
 module _ {C R : Type 0} {eq : C → C → Bool} {same : R → R → Bool} (calls : IsEquivalence eq) (answers : IsEquivalence same) where
-  IsSamePath-itself : (ps : List (C × R)) → IsSamePath eq same ps ps
+  pub IsSamePath-itself : (ps : List (C × R)) → IsSamePath eq same ps ps
   IsSamePath-itself [] = tt
   IsSamePath-itself (p ∷ ps) = (calls.refl p.0, answers.refl p.1, IsSamePath-itself ps)
 
   -- a look-up that was answered from the map and found a value found a path that agrees with the map
-  Agrees-from_found : {O K T : Type 0} (g : Mut O (Bor C × Unit {0}) (Result R AllocError)) (eqk : K → K → Bool) (es : List (Stored K C R T)) (key : K) (m : C → R) (f f' : O) (v : T) → Respects eq same m → AnswersAs g same m f → LooksUp g eq same eqk es key f f' (Some v) → Any (λ e. IsTrue (eqk e.key key) × Agrees same m e.path) es
-  Agrees-from_found g eqk es key m f f' v respects at h =
-      let found = FindsAgreeingPath-from_asked calls answers m respects eqk es key h.asked h.asked v (Agrees-asked g same m f f' h.asked at h.answered) h.finds (IsSamePath-itself h.asked) in
-      (found.0, found.1, found.2, found.3, (found.4.0, found.4.1))
+  Agrees-from_found : {O K T : Type 0} (g : Mut O (Bor C × Unit {0}) (Result R AllocError)) (us : List (Stored K C R T)) (m : C → R) (f f' : O) (v : T) → Respects eq same m → AnswersAs g same m f → LooksUp g eq same us f f' (Some v) → Any (λ e. Agrees same m e.path) us
+  Agrees-from_found g us m f f' v respects at h =
+      let found = FindsAgreeingPath-from_asked calls answers m respects us h.asked h.asked v (Agrees-asked g same m f f' h.asked at h.answered) h.finds (IsSamePath-itself h.asked) in
+      (found.0, found.1, found.2, found.3, found.4.0)
 
   -- so where `find` gives an error and its oracle refused nothing, there is such a path
-  pub Agrees-from_find_err : {O K T B : Type 0} (g : Mut O (Bor C × Unit {0}) (Result R AllocError)) (eqk : K → K → Bool) (es : List (Stored K C R T)) (key : K) (m : C → R) (f f' : O) (r : Result B AllocError) → Respects eq same m → AnswersAs g same m f → OnErr r ((v : T) × LooksUp g eq same eqk es key f f' (Some v)) → OnErr r (Any (λ e. IsTrue (eqk e.key key) × Agrees same m e.path) es)
-  Agrees-from_find_err g eqk es key m f f' (Ok b) respects at h = tt
-  Agrees-from_find_err g eqk es key m f f' (Err e) respects at h = Agrees-from_found g eqk es key m f f' h.0 respects at h.1
+  pub Agrees-from_find_err : {O K T B : Type 0} (g : Mut O (Bor C × Unit {0}) (Result R AllocError)) (us : List (Stored K C R T)) (m : C → R) (f f' : O) (r : Result B AllocError) → Respects eq same m → AnswersAs g same m f → OnErr r ((v : T) × LooksUp g eq same us f f' (Some v)) → OnErr r (Any (λ e. Agrees same m e.path) us)
+  Agrees-from_find_err g us m f f' (Ok b) respects at h = tt
+  Agrees-from_find_err g us m f f' (Err e) respects at h = Agrees-from_found g us m f f' h.0 respects at h.1

@@ -1,8 +1,8 @@
 -- No definition tells equal keys, calls or answers apart.
 use Rattle.std.proofs.Common.{◌≡◌, ◌∙◌, sym, Bool, true, false, List, [], ◌∷◌, inl, inr, IsTrue, Option, Some, None}
 use Rattle.std.proofs.lemmas.Bool.{cases_Bool}
+use Rattle.std.proofs.lemmas.List.Elements.{All-weaker}
 use Rattle.std.specs.Prelude.{IsSomeAnd}
-use Rattle.std.specs.List.{All, Any}
 use Rattle.std.specs.Map.{lookup}
 use Rattle.std.specs.HashMap.Eq.{lookup_congr}
 use Rattle.std.specs.Cmp.{IsEquivalence}
@@ -11,14 +11,9 @@ use Rattle.comemo_base.specs.Sequence.{HasDistinctCalls}
 use Rattle.comemo_base.specs.Tree.{Stored, IsSamePath, Parts}
 use Rattle.comemo_base.specs.Lookup.{FindsAgreeing}
 use Rattle.comemo_base.specs.Insertion.{Has, AllAmong, LacksNextCall, Exists, Misses}
+use Rattle.comemo_base.proofs.Under.{Any-weaker}
 use Rattle.comemo_base.proofs.Paths.{turned, joined, IsSamePath-turned}
 use Rattle.base_tests.specs.Laws.{AgreesAlike, HasDistinctCallsAlike, PartsAlike, FindsAlike, ExistsAlike, MissesAlike}
-
-All-carried : {X : Type 0} (P Q : X → Type 0) → ((x : X) → P x → Q x) → (xs : List X) → All P xs → All Q xs
-All-carried P Q f xs h = λ i d l. f _ (h i d l)
-
-Any-carried : {X : Type 0} (P Q : X → Type 0) → ((x : X) → P x → Q x) → (xs : List X) → Any P xs → Any Q xs
-Any-carried P Q f xs h = (h.0, h.1, h.2, h.3, f h.1 h.4)
 
 -- both are nothing, or they are equal
 abbrev pub IsSameOption : {R : Type 0} → (R → R → Bool) → Option R → Option R → Type 0
@@ -28,7 +23,7 @@ IsSameOption same (Some a) None = ⊥
 IsSameOption same (Some a) (Some b) = IsTrue (same a b)
 
 module _ {C R : Type 0} {eq : C → C → Bool} {same : R → R → Bool} (calls : IsEquivalence eq) (answers : IsEquivalence same) where
-  lookup-same : (c : C) (ps qs : List (C × R)) → IsSamePath eq same ps qs → IsSameOption same (lookup (eq c) ps) (lookup (eq c) qs)
+  pub lookup-same : (c : C) (ps qs : List (C × R)) → IsSamePath eq same ps qs → IsSameOption same (lookup (eq c) ps) (lookup (eq c) qs)
   lookup-same c [] [] h = tt
   lookup-same c [] (q ∷ qs) h = absurd h
   lookup-same c (p ∷ ps) [] h = absurd h
@@ -51,14 +46,14 @@ module _ {C R : Type 0} {eq : C → C → Bool} {same : R → R → Bool} (calls
   some_same x (Some a) None h k = absurd h
   some_same x (Some a) (Some b) h k = joined answers b a x (turned answers a b h) k
 
-  HasDistinctCalls-same : (ps qs : List (C × R)) → IsSamePath eq same ps qs → HasDistinctCalls eq ps → HasDistinctCalls eq qs
+  pub HasDistinctCalls-same : (ps qs : List (C × R)) → IsSamePath eq same ps qs → HasDistinctCalls eq ps → HasDistinctCalls eq qs
   HasDistinctCalls-same [] [] h k = tt
   HasDistinctCalls-same [] (q ∷ qs) h k = absurd h
   HasDistinctCalls-same (p ∷ ps) [] h k = absurd h
   HasDistinctCalls-same (p ∷ ps) (q ∷ qs) h k =
       (sym (lookup_congr eq calls.congr qs p.0 q.0 h.0) ∙ none_same (lookup (eq p.0) ps) (lookup (eq p.0) qs) (lookup-same p.0 ps qs h.2) k.0, HasDistinctCalls-same ps qs h.2 k.1)
 
-  Parts-same : (ps ps' qs qs' : List (C × R)) → IsSamePath eq same ps ps' → IsSamePath eq same qs qs' → Parts eq same ps qs → Parts eq same ps' qs'
+  pub Parts-same : (ps ps' qs qs' : List (C × R)) → IsSamePath eq same ps ps' → IsSamePath eq same qs qs' → Parts eq same ps qs → Parts eq same ps' qs'
   Parts-same [] ps' qs qs' h h' k = absurd k
   Parts-same (p ∷ ps) [] qs qs' h h' k = absurd h
   Parts-same (p ∷ ps) (p' ∷ ps') [] qs' h h' k = absurd k
@@ -76,14 +71,14 @@ module _ {C R : Type 0} {eq : C → C → Bool} {same : R → R → Bool} (calls
       (joined answers (m q.0) (m p.0) q.1 (turned answers (m p.0) (m q.0) (respects p.0 q.0 h.0)) (joined answers (m p.0) p.1 q.1 k.0 h.1), Agrees-same m ps qs respects h.2 k.1)
 
   -- answers that are equal at each call agree with the same paths
-  Agrees-alike : (m m' : C → R) (ps : List (C × R)) → ((c : C) → IsTrue (same (m c) (m' c))) → Agrees same m ps → Agrees same m' ps
+  pub Agrees-alike : (m m' : C → R) (ps : List (C × R)) → ((c : C) → IsTrue (same (m c) (m' c))) → Agrees same m ps → Agrees same m' ps
   Agrees-alike m m' [] e k = tt
   Agrees-alike m m' (p ∷ ps) e k = (joined answers (m' p.0) (m p.0) p.1 (turned answers (m p.0) (m' p.0) (e p.0)) k.0, Agrees-alike m m' ps e k.1)
 
   Has-same : (s s' : List (C × R)) (p : C × R) → IsSamePath eq same s s' → Has eq same s p → Has eq same s' p
   Has-same s s' p h k = some_same p.1 (lookup (eq p.0) s) (lookup (eq p.0) s') (lookup-same p.0 s s' h) k
 
-  AllAmong-same : (s s' ps : List (C × R)) → IsSamePath eq same s s' → AllAmong eq same s ps → AllAmong eq same s' ps
+  pub AllAmong-same : (s s' ps : List (C × R)) → IsSamePath eq same s s' → AllAmong eq same s ps → AllAmong eq same s' ps
   AllAmong-same s s' [] h k = tt
   AllAmong-same s s' (p ∷ ps) h k = (Has-same s s' p h k.0, AllAmong-same s s' ps h k.1)
 
@@ -102,27 +97,24 @@ module _ {C R : Type 0} {eq : C → C → Bool} {same : R → R → Bool} (calls
   parts_alike ps ps' qs qs' h h' =
       (Parts-same ps ps' qs qs' h h', Parts-same ps' ps qs' qs (IsSamePath-turned calls answers ps ps' h) (IsSamePath-turned calls answers qs qs' h'))
 
-  module _ {K : Type 0} {eqk : K → K → Bool} (keys : IsEquivalence eqk) (T : Type 0) where
-    FindsAgreeing-alike : (es : List (Stored K C R T)) (k k' : K) (m m' : C → R) (r : Option T) → IsTrue (eqk k k') → ((c : C) → IsTrue (same (m c) (m' c))) → FindsAgreeing eq same eqk es k m r → FindsAgreeing eq same eqk es k' m' r
-    FindsAgreeing-alike es k k' m m' None e f h =
-        All-carried (λ (x : Stored K C R T). IsTrue (eqk x.key k) → ¬ Agrees same m x.path) (λ x. IsTrue (eqk x.key k') → ¬ Agrees same m' x.path) (λ x n i a. n (joined keys x.key k' k i (turned keys k k' e)) (Agrees-alike m' m x.path (λ c. turned answers (m c) (m' c) (f c)) a)) es h
-    FindsAgreeing-alike es k k' m m' (Some v) e f h =
-        Any-carried (λ (x : Stored K C R T). IsTrue (eqk x.key k) × Agrees same m x.path × (x.value ≡ v)) (λ x. IsTrue (eqk x.key k') × Agrees same m' x.path × (x.value ≡ v)) (λ x n. (joined keys x.key k k' n.0 e, Agrees-alike m m' x.path f n.1, n.2)) es h
+  module _ (K T : Type 0) where
+    FindsAgreeing-alike : (us : List (Stored K C R T)) (m m' : C → R) (r : Option T) → ((c : C) → IsTrue (same (m c) (m' c))) → FindsAgreeing eq same us m r → FindsAgreeing eq same us m' r
+    FindsAgreeing-alike us m m' None f h =
+        All-weaker (λ (x : Stored K C R T). ¬ Agrees same m x.path) (λ x. ¬ Agrees same m' x.path) (λ x n a. n (Agrees-alike m' m x.path (λ c. turned answers (m c) (m' c) (f c)) a)) us h
+    FindsAgreeing-alike us m m' (Some v) f h =
+        Any-weaker (λ (x : Stored K C R T). Agrees same m x.path × (x.value ≡ v)) (λ x. Agrees same m' x.path × (x.value ≡ v)) (λ x n. (Agrees-alike m m' x.path f n.0, n.1)) us h
 
-    Exists-alike : (es : List (Stored K C R T)) (k k' : K) (s s' : List (C × R)) → IsTrue (eqk k k') → IsSamePath eq same s s' → Exists eq same eqk es k s → Exists eq same eqk es k' s'
-    Exists-alike es k k' s s' e h =
-        Any-carried (λ (x : Stored K C R T). IsTrue (eqk x.key k) × AllAmong eq same s x.path) (λ x. IsTrue (eqk x.key k') × AllAmong eq same s' x.path) (λ x n. (joined keys x.key k k' n.0 e, AllAmong-same s s' x.path h n.1)) es
+    Exists-alike : (us : List (Stored K C R T)) (s s' : List (C × R)) → IsSamePath eq same s s' → Exists eq same us s → Exists eq same us s'
+    Exists-alike us s s' h = Any-weaker (λ (x : Stored K C R T). AllAmong eq same s x.path) (λ x. AllAmong eq same s' x.path) (λ x n. AllAmong-same s s' x.path h n) us
 
-    Misses-alike : (es : List (Stored K C R T)) (k k' : K) (s s' : List (C × R)) → IsTrue (eqk k k') → IsSamePath eq same s s' → Misses eq same eqk es k s → Misses eq same eqk es k' s'
-    Misses-alike es k k' s s' e h =
-        Any-carried (λ (x : Stored K C R T). IsTrue (eqk x.key k) × LacksNextCall eq same s x.path) (λ x. IsTrue (eqk x.key k') × LacksNextCall eq same s' x.path) (λ x n. (joined keys x.key k k' n.0 e, LacksNextCall-same s s' x.path h n.1)) es
+    Misses-alike : (us : List (Stored K C R T)) (s s' : List (C × R)) → IsSamePath eq same s s' → Misses eq same us s → Misses eq same us s'
+    Misses-alike us s s' h = Any-weaker (λ (x : Stored K C R T). LacksNextCall eq same s x.path) (λ x. LacksNextCall eq same s' x.path) (λ x n. LacksNextCall-same s s' x.path h n) us
 
-    pub finds_alike : FindsAlike eq same eqk T
-    finds_alike es k k' m m' r e f =
-        (FindsAgreeing-alike es k k' m m' r e f, FindsAgreeing-alike es k' k m' m r (turned keys k k' e) (λ c. turned answers (m c) (m' c) (f c)))
+    pub finds_alike : FindsAlike eq same K T
+    finds_alike us m m' r f = (FindsAgreeing-alike us m m' r f, FindsAgreeing-alike us m' m r (λ c. turned answers (m c) (m' c) (f c)))
 
-    pub exists_alike : ExistsAlike eq same eqk T
-    exists_alike es k k' s s' e h = (Exists-alike es k k' s s' e h, Exists-alike es k' k s' s (turned keys k k' e) (IsSamePath-turned calls answers s s' h))
+    pub exists_alike : ExistsAlike eq same K T
+    exists_alike us s s' h = (Exists-alike us s s' h, Exists-alike us s' s (IsSamePath-turned calls answers s s' h))
 
-    pub misses_alike : MissesAlike eq same eqk T
-    misses_alike es k k' s s' e h = (Misses-alike es k k' s s' e h, Misses-alike es k' k s' s (turned keys k k' e) (IsSamePath-turned calls answers s s' h))
+    pub misses_alike : MissesAlike eq same K T
+    misses_alike us s s' h = (Misses-alike us s s' h, Misses-alike us s' s (IsSamePath-turned calls answers s s' h))

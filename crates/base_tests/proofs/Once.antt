@@ -1,11 +1,11 @@
 -- A look-up whose oracle answers one call and refuses every later one.
-use Rattle.std.proofs.Common.{◌≡◌, ◌∙◌, sym, ap, Bool, true, false, List, [], ◌∷◌, ◌⊎◌, inl, inr, IsTrue, Option, Some, None, Result, Ok, Err, IfOk, IfErr, IfSome, IfNone, is_err, subst}
+use Rattle.std.proofs.Common.{◌≡◌, ◌∙◌, ◌++◌, arith, refl, sym, ap, Bool, true, false, List, [], ◌∷◌, ◌⊎◌, inl, inr, Option, Some, None, Result, Ok, Err, IfOk, IfErr, IfSome, IfNone, is_err, subst}
 use Rattle.std.specs.List.{All, Any}
 use Rattle.std.specs.Fn.{Mut, CalledAt}
 use Rattle.std.specs.declared.alloc.AllocError.{AllocError}
 use denote.Ref.{Bor}
 use Rattle.comemo_base.specs.Tree.{Stored, IsSamePath, IsFront}
-use Rattle.comemo_base.specs.Lookup.{Answered, AsksAlong, LooksUp, IsLookupRefused, IsNext}
+use Rattle.comemo_base.specs.Lookup.{Answered, LooksUp, IsLookupRefused, IsNext, IsAskedFront}
 use Rattle.base_tests.specs.Refusals.{GoesOnAfter, IsAnsweredBy, LacksAnswer}
 
 -- the oracle answers what is left, once, and notes a refusal
@@ -35,11 +35,11 @@ module _ {C R : Type 0} (eq : C → C → Bool) (same : R → R → Bool) (answe
   GoesOnAfter-next x call (q ∷ (p ∷ qs)) a k = ap (λ z. same z q.1) (sym a) ∙ k.1
 
 -- what a look-up with such an oracle tells: whether it noted a refusal, what it was refused after, and what it found
-pub record Told {C R K T B : Type 0} (eq : C → C → Bool) (same : R → R → Bool) (answer : R) (eqk : K → K → Bool) (es : List (Stored K C R T)) (key : K) (value : B → Option T) (r : Result B AllocError) (refused : Bool) : Type 0 where
+pub record Told {C R K T B : Type 0} (eq : C → C → Bool) (same : R → R → Bool) (answer : R) (us : List (Stored K C R T)) (value : B → Option T) (r : Result B AllocError) (refused : Bool) : Type 0 where
   pub noted : is_err r ≡ refused
-  pub goes_on : IfErr r (λ _. Any (λ e. IsTrue (eqk e.key key) × GoesOnAfter same answer e.path) es)
-  pub missed : IfOk r (λ b. IfNone (value b) (LacksAnswer eq same eqk es key answer))
-  pub found : IfOk r (λ b. IfSome (value b) (λ v. Any (λ e. IsTrue (eqk e.key key) × IsAnsweredBy same answer e.path × (e.value ≡ v)) es))
+  pub goes_on : IfErr r (λ _. Any (λ e. GoesOnAfter same answer e.path) us)
+  pub missed : IfOk r (λ b. IfNone (value b) (LacksAnswer eq same us answer))
+  pub found : IfOk r (λ b. IfSome (value b) (λ v. Any (λ e. IsAnsweredBy same answer e.path × (e.value ≡ v)) us))
 
 module _ {O C R : Type 0} (g : Mut O (Bor C × Unit {0}) (Result R AllocError)) (left : O → Option R) (refused : O → Bool) (once : AnswersOnce g left refused) (answer : R) where
   -- an answered list has at most the one pair, and notes nothing
@@ -60,41 +60,50 @@ module _ {O C R : Type 0} (g : Mut O (Bor C × Unit {0}) (Result R AllocError)) 
   after eq same (x ∷ []) f at call path some h none k = GoesOnAfter-next eq same answer x call path (one_given (x ∷ []) f at some h).0 k
   after eq same (x ∷ (y ∷ xs)) f at call path some h none k = absurd (one_given (x ∷ (y ∷ xs)) f at some h).0
 
-  module _ {K T : Type 0} (eq : C → C → Bool) (same : R → R → Bool) (eqk : K → K → Bool) (es : List (Stored K C R T)) (key : K) (f f' : O) (some : left f ≡ Some answer) (none : refused f ≡ false) where
-    not_noted : (r : Option T) → LooksUp g eq same eqk es key f f' r → refused f' ≡ false
+  module _ {K T : Type 0} (eq : C → C → Bool) (same : R → R → Bool) (us : List (Stored K C R T)) (f f' : O) (some : left f ≡ Some answer) (none : refused f ≡ false) where
+    nothing-from_All : {X : Type 0} (xs : List X) → All (λ x. ⊥) xs → xs ≡ []
+    nothing-from_All [] n = refl
+    nothing-from_All (x ∷ xs) n = absurd (n 0 x (omega arith))
+
+    -- the call of the one pair is the first of a path
+    first : (x : C × R) (front : List (C × R)) (last : C × R) → x ∷ [] ≡ front ++ last ∷ [] → Any (λ e. IsNext eq same front last.0 e.path) us → Any (λ e. IsNext eq same [] x.0 e.path) us
+    first x [] last is h = let same_pair : last ≡ x = cc in subst (λ (z : C × R). Any (λ e. IsNext eq same [] z.0 e.path) us) same_pair h
+    first x (y ∷ []) last is h = cc
+    first x (y ∷ (z ∷ front)) last is h = cc
+
+    not_noted : (r : Option T) → LooksUp g eq same us f f' r → refused f' ≡ false
     not_noted r h = (one_given h.asked f f' some h.answered).1 ∙ none
 
-    noted : (e : AllocError) → IsLookupRefused g eq same eqk es key f e f' → refused f' ≡ true
+    noted : (e : AllocError) → IsLookupRefused g eq same us f e f' → refused f' ≡ true
     noted e h = (once.refuses h.at f' h.call e h.called).1
 
-    found_by : (r : Option T) → LooksUp g eq same eqk es key f f' r → IfSome r (λ v. Any (λ e. IsTrue (eqk e.key key) × IsAnsweredBy same answer e.path × (e.value ≡ v)) es)
+    found_by : (r : Option T) → LooksUp g eq same us f f' r → IfSome r (λ v. Any (λ e. IsAnsweredBy same answer e.path × (e.value ≡ v)) us)
     found_by None h = tt
     found_by (Some v) h =
         let k = h.finds in
-        (k.0, k.1, k.2, k.3, (k.4.0, IsAnsweredBy-same eq same answer h.asked k.1.path (one_given h.asked f f' some h.answered).0 k.4.1, k.4.2))
+        (k.0, k.1, k.2, k.3, (IsAnsweredBy-same eq same answer h.asked k.1.path (one_given h.asked f f' some h.answered).0 k.4.0, k.4.1))
 
-    lacking : (asked : List (C × R)) → IsGiven answer asked → All (λ e. IsTrue (eqk e.key key) → ¬ IsFront eq same asked e.path) es → (asked ≡ []) ⊎ Any (λ e. IsTrue (eqk e.key key) × AsksAlong eq same asked e.path) es → LacksAnswer eq same eqk es key answer
-    lacking [] a n k = inl (λ i d l u. n i d l u tt)
+    lacking : (asked : List (C × R)) → IsGiven answer asked → All (λ e. ¬ IsFront eq same asked e.path) us → (asked ≡ []) ⊎ IsAskedFront eq same us asked → LacksAnswer eq same us answer
+    lacking [] a n k = inl (nothing-from_All us (λ i d l. n i d l tt))
     lacking (x ∷ []) a n (inl e) = cc
     lacking (x ∷ []) a n (inr k) =
-        let P : R → Type 0 = λ r. Any (λ e. IsTrue (eqk e.key key) × AsksAlong eq same ((x.0, r) ∷ []) e.path) es in
-        let Q : R → Type 0 = λ r. All (λ e. IsTrue (eqk e.key key) → ¬ IsFront eq same ((x.0, r) ∷ []) e.path) es in
-        inr (x.0, subst P a k, subst Q a n)
+        let Q : R → Type 0 = λ r. All (λ e. ¬ IsFront eq same ((x.0, r) ∷ []) e.path) us in
+        inr (x.0, first x k.front k.last k.splits k.next, subst Q a n)
     lacking (x ∷ (y ∷ xs)) a n k = absurd a
 
-    missed_by : (r : Option T) → LooksUp g eq same eqk es key f f' r → IfNone r (LacksAnswer eq same eqk es key answer)
+    missed_by : (r : Option T) → LooksUp g eq same us f f' r → IfNone r (LacksAnswer eq same us answer)
     missed_by None h = lacking h.asked (one_given h.asked f f' some h.answered).0 h.finds.0 h.finds.1
     missed_by (Some v) h = tt
 
-    refused_under : (e : AllocError) → IsLookupRefused g eq same eqk es key f e f' → Any (λ e. IsTrue (eqk e.key key) × GoesOnAfter same answer e.path) es
+    refused_under : (e : AllocError) → IsLookupRefused g eq same us f e f' → Any (λ e. GoesOnAfter same answer e.path) us
     refused_under e h =
         let k = h.refused in
-        (k.0, k.1, k.2, k.3, (k.4.0, after eq same h.asked f h.at h.call k.1.path some h.answered (once.refuses h.at f' h.call e h.called).0 k.4.1))
+        (k.0, k.1, k.2, k.3, after eq same h.asked f h.at h.call k.1.path some h.answered (once.refuses h.at f' h.call e h.called).0 k.4)
 
     -- what a look-up by such an oracle tells
-    module _ {B : Type 0} (value : B → Option T) (r : Result B AllocError) (asked : IfOk r (λ b. LooksUp g eq same eqk es key f f' (value b))) (refuses : IfErr r (λ e. IsLookupRefused g eq same eqk es key f e f')) where
-      pub told : Told eq same answer eqk es key value r (refused f')
-      told = elim r as (λ r. IfOk r (λ b. LooksUp g eq same eqk es key f f' (value b)) → IfErr r (λ e. IsLookupRefused g eq same eqk es key f e f') → Told eq same answer eqk es key value r (refused f')) [
+    module _ {B : Type 0} (value : B → Option T) (r : Result B AllocError) (asked : IfOk r (λ b. LooksUp g eq same us f f' (value b))) (refuses : IfErr r (λ e. IsLookupRefused g eq same us f e f')) where
+      pub told : Told eq same answer us value r (refused f')
+      told = elim r as (λ r. IfOk r (λ b. LooksUp g eq same us f f' (value b)) → IfErr r (λ e. IsLookupRefused g eq same us f e f') → Told eq same answer us value r (refused f')) [
         | Ok b ↦ λ h k. record { noted = sym (not_noted (value b) h); goes_on = tt; missed = missed_by (value b) h; found = found_by (value b) h }
         | Err e ↦ λ h k. record { noted = sym (noted e k); goes_on = refused_under e k; missed = tt; found = tt }
       ] asked refuses

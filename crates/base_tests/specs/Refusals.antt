@@ -1,8 +1,8 @@
 -- What a look-up tells whose oracle answers one call and refuses every later one.
-use Rattle.std.specs.Prelude.{Bool, List, [], ◌∷◌, ◌⊎◌, IsTrue}
+use Rattle.std.specs.Prelude.{◌≡◌, Bool, List, [], ◌∷◌, ◌⊎◌, IsTrue}
 use Rattle.std.specs.List.{All, Any}
 use Rattle.comemo_base.specs.Tree.{Stored, IsFront}
-use Rattle.comemo_base.specs.Lookup.{AsksAlong}
+use Rattle.comemo_base.specs.Lookup.{IsNext}
 
 -- the path has a first pair with the answer, and goes on after it
 abbrev pub GoesOnAfter : {C R : Type 0} → (R → R → Bool) → R → List (C × R) → Type 0
@@ -16,8 +16,8 @@ IsAnsweredBy same answer [] = Unit {0}
 IsAnsweredBy same answer (p ∷ []) = IsTrue (same answer p.1)
 IsAnsweredBy same answer (p ∷ (q ∷ ps)) = ⊥
 
--- no path is under the key; or one begins with a call, and none begins with that call and the answer
-abbrev pub LacksAnswer : {C R K T : Type 0} → (C → C → Bool) → (R → R → Bool) → (K → K → Bool) → List (Stored K C R T) → K → R → Type 0
-LacksAnswer {C} eq same eqk es key answer =
-    All (λ e. ¬ IsTrue (eqk e.key key)) es
-    ⊎ ((call : C) × Any (λ e. IsTrue (eqk e.key key) × AsksAlong eq same ((call, answer) ∷ []) e.path) es × All (λ e. IsTrue (eqk e.key key) → ¬ IsFront eq same ((call, answer) ∷ []) e.path) es)
+-- there is no path; or one begins with a call, and none begins with that call and the answer
+abbrev pub LacksAnswer : {C R K T : Type 0} → (C → C → Bool) → (R → R → Bool) → List (Stored K C R T) → R → Type 0
+LacksAnswer {C} eq same us answer =
+    (us ≡ [])
+    ⊎ ((call : C) × Any (λ e. IsNext eq same [] call e.path) us × All (λ e. ¬ IsFront eq same ((call, answer) ∷ []) e.path) us)

@@ -1,10 +1,10 @@
 //! Callers of a tree's look-ups. Each lends its oracle, and shows from the contracts alone that what was found agrees with
 //! the map that its oracle answers from.
-ghost use Rattle.std.specs.Prelude.{◌≡◌, Some, IsTrue, nat_eq, slice_index, option_copied, option_map, IfOk, OnErr, IfErr};
+ghost use Rattle.std.specs.Prelude.{◌≡◌, ◌<◌, Some, IsTrue, length, nat_eq, slice_index, option_copied, option_map, IfOk, OnErr, IfErr};
 ghost use Rattle.std.proofs.Common.{rules};
-ghost use Rattle.std.specs.List.{Any};
+ghost use Rattle.std.specs.List.{All, Any};
 ghost use Rattle.comemo_base.specs.Answers.{Agrees};
-ghost use Rattle.comemo_base.specs.Lookup.{FindsAgreeing, FindsAgreeingPath};
+ghost use Rattle.comemo_base.specs.Lookup.{under, FindsAgreeing, FindsAgreeingPath};
 
 use comemo_base::sequence::CallSequence;
 use comemo_base::tree::{CallTree, InsertError};
@@ -24,9 +24,33 @@ pub fn get_by_table<'a, T>(
     key: u128,
     table: &[u128],
 ) -> Option<&'a T>
-    ensures { FindsAgreeing nat_eq nat_eq nat_eq tree.now key (λ c. slice_index table.now c) (option_copied result) }
+    ensures { FindsAgreeing nat_eq nat_eq (under nat_eq tree.now key)
+        (λ c. slice_index table.now c) (option_copied result) }
 {
     match tree.get(&key, &mut |call: &u8| Ok(answer_in(table, *call))) {
+        Ok(found) => found,
+        Err(_) => unreachable!(),
+    }
+}
+
+/// The value whose path agrees with a table of answers, in which each stored call has its place.
+///
+/// The oracle reads the table there without a test, so it can be asked no other call.
+pub fn get_by_whole_table<'a, T>(
+    tree: &'a CallTree<u128, u8, u128, T>,
+    key: u128,
+    table: &[u128],
+) -> Option<&'a T>
+    requires { All (λ e. All (λ p. p.0 < length table.now) e.path) (under nat_eq tree.now key) }
+    ensures { FindsAgreeing nat_eq nat_eq (under nat_eq tree.now key)
+        (λ c. slice_index table.now c) (option_copied result) }
+{
+    match tree.get(
+        &key,
+        &mut |call: &u8| -> Result<u128, AllocError>
+            requires { call.now < length table.now }
+        { Ok(table[*call as usize]) },
+    ) {
         Ok(found) => found,
         Err(_) => unreachable!(),
     }
@@ -39,8 +63,11 @@ pub fn find_by_table<'a, T>(
     key: u128,
     table: &[u128],
 ) -> Result<Option<(Vec<(u8, u128)>, &'a T)>, AllocError>
-    ensures found { IfOk result (λ found. FindsAgreeingPath nat_eq nat_eq nat_eq tree.now key (λ c. slice_index table.now c) (option_map (λ p. (p.0.items, p.1.now)) found)) }
-    ensures err { OnErr result (Any (λ e. IsTrue (nat_eq e.key key) × Agrees nat_eq (λ c. slice_index table.now c) e.path) tree.now) }
+    ensures found { IfOk result (λ found.
+        FindsAgreeingPath nat_eq nat_eq (under nat_eq tree.now key)
+        (λ c. slice_index table.now c) (option_map (λ p. (p.0.items, p.1.now)) found)) }
+    ensures err { OnErr result (Any (λ e. Agrees nat_eq (λ c. slice_index table.now c) e.path)
+        (under nat_eq tree.now key)) }
 {
     tree.find(&key, &mut |call: &u8| Ok(answer_in(table, *call)))
 }
@@ -76,7 +103,9 @@ pub trait Input {
         ensures answer { IfOk result (λ r. IsTrue (Self.Answer.eq (answers self.old call.now) r)) }
         ensures same { (c : Self.Call) → answers self.new c ≡ answers self.old c };
 
-    ghost respects: { (x : Self) (a b : Self.Call) → IsTrue (Self.Call.eq a b) → IsTrue (Self.Answer.eq (answers x a) (answers x b)) };
+    ghost respects: { (x : Self) (a b : Self.Call)
+        → IsTrue (Self.Call.eq a b)
+        → IsTrue (Self.Answer.eq (answers x a) (answers x b)) };
 }
 
 /// The value whose path agrees with the answers of an input, which stay as they were.
@@ -85,13 +114,16 @@ pub fn get_by_input<'a, K: Eq + Hash, I: Input, T>(
     key: &K,
     input: &mut I,
 ) -> Result<Option<&'a T>, AllocError>
-    ensures found { IfOk result (λ found. FindsAgreeing I.Call.eq I.Answer.eq K.eq tree.now key.now (I.answers input.old) (option_copied found)) }
+    ensures found { IfOk result (λ found.
+        FindsAgreeing I.Call.eq I.Answer.eq (under K.eq tree.now key.now)
+        (I.answers input.old) (option_copied found)) }
     ensures same { (c : I.Call) → I.answers input.new c ≡ I.answers input.old c }
 {
     tree.get(
         key,
         &mut |call: &I::Call| -> Result<I::Answer, AllocError>
-            ensures answer { IfOk result (λ r. IsTrue (I.Answer.eq (I.answers input.entry.now call.now) r)) }
+            ensures answer { IfOk result (λ r.
+                IsTrue (I.Answer.eq (I.answers input.entry.now call.now) r)) }
             ensures same { (c : I.Call) → I.answers input.exit.now c ≡ I.answers input.entry.now c }
             ensures name { input.exit.ghost_name ≡ input.entry.ghost_name }
         { input.call(call) },
@@ -106,13 +138,16 @@ pub fn find_by_input<'a, K: Eq + Hash, I: Input, T>(
 ) -> Result<Option<(Vec<(I::Call, I::Answer)>, &'a T)>, AllocError>
     requires calls_clone { (x y : I.Call) → I.Call.is_clone x y → IsTrue (I.Call.eq x y) }
     requires answers_clone { (x y : I.Answer) → I.Answer.is_clone x y → IsTrue (I.Answer.eq x y) }
-    ensures found { IfOk result (λ found. FindsAgreeingPath I.Call.eq I.Answer.eq K.eq tree.now key.now (I.answers input.old) (option_map (λ p. (p.0.items, p.1.now)) found)) }
+    ensures found { IfOk result (λ found.
+        FindsAgreeingPath I.Call.eq I.Answer.eq (under K.eq tree.now key.now)
+        (I.answers input.old) (option_map (λ p. (p.0.items, p.1.now)) found)) }
     ensures same { (c : I.Call) → I.answers input.new c ≡ I.answers input.old c }
 {
     tree.find(
         key,
         &mut |call: &I::Call| -> Result<I::Answer, AllocError>
-            ensures answer { IfOk result (λ r. IsTrue (I.Answer.eq (I.answers input.entry.now call.now) r)) }
+            ensures answer { IfOk result (λ r.
+                IsTrue (I.Answer.eq (I.answers input.entry.now call.now) r)) }
             ensures same { (c : I.Call) → I.answers input.exit.now c ≡ I.answers input.entry.now c }
             ensures name { input.exit.ghost_name ≡ input.entry.ghost_name }
         { input.call(call) },
@@ -146,7 +181,10 @@ pub fn get_by_page<'a>(
     key: &String,
     page: &mut Page,
 ) -> Result<Option<&'a u32>, AllocError>
-    ensures found { IfOk result (λ found. FindsAgreeing ⟦<() as PartialEq>⟧.eq ⟦<String as PartialEq>⟧.eq ⟦<String as PartialEq>⟧.eq tree.now key.now (λ _. page.old.text) (option_copied found)) }
+    ensures found { IfOk result (λ found.
+        FindsAgreeing ⟦<() as PartialEq>⟧.eq ⟦<String as PartialEq>⟧.eq
+        (under ⟦<String as PartialEq>⟧.eq tree.now key.now)
+        (λ _. page.old.text) (option_copied found)) }
     ensures same { page.new.text ≡ page.old.text }
 {
     get_by_input(tree, key, page)
@@ -158,7 +196,10 @@ pub fn find_by_page<'a>(
     key: &String,
     page: &mut Page,
 ) -> Result<Option<(Vec<((), String)>, &'a u32)>, AllocError>
-    ensures found { IfOk result (λ found. FindsAgreeingPath ⟦<() as PartialEq>⟧.eq ⟦<String as PartialEq>⟧.eq ⟦<String as PartialEq>⟧.eq tree.now key.now (λ _. page.old.text) (option_map (λ p. (p.0.items, p.1.now)) found)) }
+    ensures found { IfOk result (λ found.
+        FindsAgreeingPath ⟦<() as PartialEq>⟧.eq ⟦<String as PartialEq>⟧.eq
+        (under ⟦<String as PartialEq>⟧.eq tree.now key.now)
+        (λ _. page.old.text) (option_map (λ p. (p.0.items, p.1.now)) found)) }
     ensures same { page.new.text ≡ page.old.text }
 {
     find_by_input(tree, key, page)
@@ -184,6 +225,17 @@ mod tests {
         let (path, value) = find_by_table(&tree, 0, &[10, 15])?.ok_or("no path is found")?;
         assert_eq!(rt; path.as_slice(), [(0, 10), (1, 15)].as_slice());
         assert_eq!(rt; *value, 'f');
+        Ok(())
+    }
+
+    #[test]
+    fn a_whole_table_is_read_at_stored_calls(rt: HostRuntime) -> Result<(), Fail> {
+        let mut tree = CallTree::new(rt.alloc());
+        let mut sequence = CallSequence::new(rt.alloc());
+        assert!(rt; sequence.insert(1, 15)?);
+        tree.insert(0, sequence, 'f')?;
+        let found = get_by_whole_table(&tree, 0, &[10, 15]);
+        assert_eq!(rt; found.copied(), Some('f'));
         Ok(())
     }
 

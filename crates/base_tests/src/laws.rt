@@ -1,7 +1,7 @@
 //! Laws of the definitions that `comemo_base`'s contracts cite: none of them tells equal keys, calls or answers apart.
 //!
 //! Each function here does nothing when it runs. What it ensures is the law.
-ghost use Rattle.base_tests.specs.Laws.{AgreesAlike, HasDistinctCallsAlike, PartsAlike, FindsAlike, ExistsAlike, MissesAlike};
+ghost use Rattle.base_tests.specs.Laws.{AgreesAlike, HasDistinctCallsAlike, PartsAlike, FindsAlike, ExistsAlike, MissesAlike, UnderAlike, HeldAlike, AbsorbedAlike, OutsideAlike, IsFrontAlike, IsNextAlike, IsAskedAlike, IsRefusedAlike, FindsPathAlike, IsStemAlike, IsNewPathAlike, IsTreeAlike, WasSeenAlike};
 
 use std::hash::Hash;
 
@@ -20,17 +20,82 @@ pub fn part_alike<C: Eq + Hash, R: Ord>()
     ensures { PartsAlike C.eq R.eq }
 {}
 
-/// Under equal keys, answers that are equal at each call find the same.
-pub fn find_alike<K: Eq + Hash, C: Eq + Hash, R: Ord, T>()
-    ensures { FindsAlike C.eq R.eq K.eq T }
+/// Answers that are equal at each call find the same.
+pub fn find_alike<K, C: Eq + Hash, R: Ord, T>()
+    ensures { FindsAlike C.eq R.eq K T }
 {}
 
-/// Under equal keys, both of two equal sequences have the pairs of a stored path, or neither has.
-pub fn exist_alike<K: Eq + Hash, C: Eq + Hash, R: Ord, T>()
-    ensures { ExistsAlike C.eq R.eq K.eq T }
+/// Both of two equal sequences have the pairs of a stored path, or neither has.
+pub fn exist_alike<K, C: Eq + Hash, R: Ord, T>()
+    ensures { ExistsAlike C.eq R.eq K T }
 {}
 
-/// Under equal keys, both of two equal sequences lack a call of a stored path, or neither does.
-pub fn miss_alike<K: Eq + Hash, C: Eq + Hash, R: Ord, T>()
-    ensures { MissesAlike C.eq R.eq K.eq T }
+/// Both of two equal sequences lack a call of a stored path, or neither does.
+pub fn miss_alike<K, C: Eq + Hash, R: Ord, T>()
+    ensures { MissesAlike C.eq R.eq K T }
+{}
+
+/// Two equal paths hold the same calls, up to equality.
+pub fn hold_alike<C: Eq + Hash, R: Ord>()
+    ensures { HeldAlike C.eq R.eq }
+{}
+
+/// What is absorbed by equal pairs of equal pairs is equal.
+pub fn absorb_alike<C: Eq + Hash, R: Ord>()
+    ensures { AbsorbedAlike C.eq R.eq }
+{}
+
+/// What equal sequences have outside equal fronts is equal.
+pub fn are_outside_alike<C: Eq + Hash, R: Ord>()
+    ensures { OutsideAlike C.eq R.eq }
+{}
+
+/// Where a path is a front of another, so is any that is equal to it of any that is equal to the other.
+pub fn are_fronts_alike<C: Eq + Hash, R: Ord>()
+    ensures { IsFrontAlike C.eq R.eq }
+{}
+
+/// After equal fronts of equal paths, equal calls are next.
+pub fn are_next_alike<C: Eq + Hash, R: Ord>()
+    ensures { IsNextAlike C.eq R.eq }
+{}
+
+/// A look-up that asks one of two equal lists finds what one that asks the other finds.
+pub fn are_asked_alike<K, C: Eq + Hash, R: Ord, T>()
+    ensures { IsAskedAlike C.eq R.eq K T }
+{}
+
+/// A look-up is refused equal calls after equal lists.
+pub fn are_refused_alike<K, C: Eq + Hash, R: Ord, T>()
+    ensures { IsRefusedAlike C.eq R.eq K T }
+{}
+
+/// Answers that are equal at each call find any of two equal paths, with the same value, or no path.
+pub fn find_paths_alike<K, C: Eq + Hash, R: Ord, T>()
+    ensures { FindsPathAlike C.eq R.eq K T }
+{}
+
+/// Equal sequences have equal stems.
+pub fn are_stems_alike<K, C: Eq + Hash, R: Ord, T>()
+    ensures { IsStemAlike C.eq R.eq K T }
+{}
+
+/// Of equal sequences equal paths are stored.
+pub fn are_new_paths_alike<K, C: Eq + Hash, R: Ord, T>()
+    ensures { IsNewPathAlike C.eq R.eq K T }
+{}
+
+/// Entries with equal keys and paths in the same places are both a tree's, or neither.
+pub fn are_trees_alike<K: Eq + Hash, C: Eq + Hash, R: Ord, T>()
+    ensures { IsTreeAlike C.eq R.eq K T K.eq }
+{}
+
+/// A sequence saw both of two equal calls, or neither.
+pub fn were_seen_alike<C: Eq + Hash, R>()
+    ensures { WasSeenAlike C.eq R }
+{}
+
+/// Under equal keys are the same entries.
+pub fn are_under_alike<K: Eq + Hash, C, R, T>()
+    ensures { UnderAlike K.eq C R T }
 {}

@@ -1,6 +1,7 @@
 //! A caller whose oracle answers one call and refuses every later one.
-ghost use Rattle.std.specs.Prelude.{◌≡◌, IsTrue, is_err, IfOk, IfErr, IfSome, IfNone, Some, None, true, option_copied};
+ghost use Rattle.std.specs.Prelude.{◌≡◌, is_err, IfOk, IfErr, IfSome, IfNone, Some, None, true, option_copied};
 ghost use Rattle.std.specs.List.{Any};
+ghost use Rattle.comemo_base.specs.Lookup.{under};
 ghost use Rattle.base_tests.specs.Refusals.{GoesOnAfter, IsAnsweredBy, LacksAnswer};
 
 use comemo_base::tree::CallTree;
@@ -17,16 +18,20 @@ pub fn get_with_one_answer<'a, K: Eq + Hash, C: Eq + Hash, R: Ord + Drop, T>(
     answer: R,
 ) -> (Result<Option<&'a T>, AllocError>, bool)
     ensures passed_on { is_err result.0 ≡ result.1 }
-    ensures refused { IfErr result.0 (λ _. Any (λ e. IsTrue (K.eq e.key key.now) × GoesOnAfter R.eq answer e.path) tree.now) }
-    ensures missed { IfOk result.0 (λ found. IfNone (option_copied found) (LacksAnswer C.eq R.eq K.eq tree.now key.now answer)) }
-    ensures found { IfOk result.0 (λ found. IfSome (option_copied found) (λ v. Any (λ e. IsTrue (K.eq e.key key.now) × IsAnsweredBy R.eq answer e.path × (e.value ≡ v)) tree.now)) }
+    ensures refused { IfErr result.0 (λ _.
+        Any (λ e. GoesOnAfter R.eq answer e.path) (under K.eq tree.now key.now)) }
+    ensures missed { IfOk result.0 (λ found. IfNone (option_copied found)
+        (LacksAnswer C.eq R.eq (under K.eq tree.now key.now) answer)) }
+    ensures found { IfOk result.0 (λ found. IfSome (option_copied found) (λ v.
+        Any (λ e. IsAnsweredBy R.eq answer e.path × (e.value ≡ v)) (under K.eq tree.now key.now))) }
 {
     let mut left = Some(answer);
     let mut refused = false;
     let found = tree.get(
         key,
         &mut |_: &C| -> Result<R, AllocError>
-            ensures given { IfOk result (λ r. (left.entry ≡ Some r) × (left.exit ≡ None) × (refused.exit ≡ refused.entry)) }
+            ensures given { IfOk result (λ r.
+                (left.entry ≡ Some r) × (left.exit ≡ None) × (refused.exit ≡ refused.entry)) }
             ensures refused { IfErr result (λ _. (left.entry ≡ None) × (refused.exit ≡ true)) }
         {
             match left.take() {

@@ -4,6 +4,8 @@ pub mod Whole
 pub mod Keeps
 pub mod Slots
 pub mod Absorbed
+pub mod Under
+pub mod Asked
 pub mod Paths
 pub mod Pairs
 pub mod Steps

@@ -9,9 +9,10 @@ use Rattle.std.specs.Prelude.{IfErr, alloc_error}
 use Rattle.std.specs.declared.alloc.AllocError.{AllocError}
 use denote.Ref.{Bor}
 use Rattle.comemo_base.specs.Answers.{Agrees, Respects}
-use Rattle.comemo_base.specs.Lookup.{FindsAgreeing, FindsAgreeingPath, Answered, AnswersAs, IsNext, AsksAlong, IsAsked, IsRefused}
+use Rattle.comemo_base.specs.Lookup.{under, FindsAgreeing, FindsAgreeingPath, Answered, AnswersAs, IsNext, IsAsked, IsRefused, IsStoredCall}
 use Rattle.comemo_base.specs.Tree.{Stored, Parts, IsSamePath, IsFront, IsTree}
 use Rattle.comemo_base.specs.Steps.{Follows}
+use Rattle.comemo_base.proofs.Under.{Any-under, Any-from_under, All-under, All-from_under}
 
 -- there is one `AllocError`, so what holds of it holds of each refusal
 pub IfErr-refused : {A : Type 0} (r : Result A AllocError) (Q : AllocError → Type 0) → Q alloc_error → IfErr r Q
@@ -105,14 +106,6 @@ module _ {C R : Type 0} {eq : C → C → Bool} {same : R → R → Bool} (calls
   IsNext-more (suc n) [] (x ∷ ps) p front l e = absurd front
   IsNext-more (suc n) (a ∷ rest) (x ∷ ps) p front l e = (front.0, front.1, IsNext-more n rest ps p front.2 (omega arith) e)
 
-  -- with its answer it was asked along the path
-  pub AsksAlong-next : (asked ps : List (C × R)) (c : C) (answer : R) → IsNext eq same asked c ps → AsksAlong eq same (asked ++ (c, answer) ∷ []) ps
-  AsksAlong-next [] [] c answer h = absurd h
-  AsksAlong-next [] (x ∷ ps) c answer h = h
-  AsksAlong-next (a ∷ rest) [] c answer h = absurd h
-  AsksAlong-next (a ∷ []) (x ∷ ps) c answer h = (h.0, h.1, AsksAlong-next [] ps c answer h.2)
-  AsksAlong-next (a ∷ (b ∷ bs)) (x ∷ ps) c answer h = (h.0, h.1, AsksAlong-next (b ∷ bs) ps c answer h.2)
-
   module _ {K T : Type 0} {eqk : K → K → Bool} (keys : IsEquivalence eqk) where
     -- any two entries of a tree under one key fit
     pub Fit-from_tree : (es : List (Stored K C R T)) (i j : ℕ) (d : Stored K C R T) → IsTree eq same eqk es → i < length es → j < length es → IsTrue (eqk (get_or es i d).key (get_or es j d).key) → Fit (get_or es i d).path (get_or es j d).path
@@ -140,21 +133,29 @@ module _ {C R : Type 0} {eq : C → C → Bool} {same : R → R → Bool} (calls
           let P : List (C × R) → Type 0 = λ ps. IsSamePath eq same asked ps in
           subst P (ap (λ (x : Stored K C R T). take n x.path) (sym at) ∙ take_all n e.path (omega (arith, ap length own))) front
 
-      pub found : (v : T) → n ≡ length ps → e.value ≡ v → Any (λ x. IsTrue (eqk x.key key) × IsSamePath eq same asked x.path × (x.value ≡ v)) es
-      found v whole is = (i, e, l, sym at, (own_key, whole_path whole, is))
+      pub found : (v : T) → n ≡ length ps → e.value ≡ v → Any (λ x. IsSamePath eq same asked x.path × (x.value ≡ v)) (under eqk es key)
+      found v whole is = Any-under eqk es key (λ x. IsSamePath eq same asked x.path × (x.value ≡ v)) (i, e, l, sym at, (own_key, (whole_path whole, is)))
 
       module _ (p : C × R) (deep : n < length ps) (is : p ≡ get_or ps n p) where
         next_own : IsNext eq same asked p.0 e.path
         next_own = subst (λ qs. IsNext eq same asked p.0 qs) own (IsNext-more n asked ps p asked_own deep is)
 
+        -- the path's next call is a stored one
+        pub is_stored : IsStoredCall (under eqk es key) p.0
+        is_stored =
+            let P : List (C × R) → Type 0 = λ qs. Any (λ q. q.0 ≡ p.0) qs in
+            Any-under eqk es key (λ x. P x.path) (i, e, l, sym at, (own_key, subst P own (n, p, deep, sym is, refl)))
+
         -- the answer was refused
-        pub refused : IsRefused eq same eqk es key asked p.0
-        refused = (i, e, l, sym at, (own_key, next_own))
+        pub refused : IsRefused eq same (under eqk es key) asked p.0
+        refused = Any-under eqk es key (λ x. IsNext eq same asked p.0 x.path) (i, e, l, sym at, (own_key, next_own))
 
         -- no path goes on with the answer that was given
-        pub missed : (answer : R) → All (λ x. IsTrue (eqk x.key key) → ¬ Follows same x.path ps n answer) es → IsAsked eq same eqk es key (asked ++ (p.0, answer) ∷ []) None
-        missed answer none =
-            (λ j d m h f. none j d m h (Follows-from_front n asked ps (get_or es j d).path p.0 answer asked_own deep f), inr (i, e, l, sym at, (own_key, AsksAlong-next asked e.path p.0 answer next_own)))
+        pub missed : (answer : R) → All (λ x. IsTrue (eqk x.key key) → ¬ Follows same x.path ps n answer) es → IsAsked eq same (under eqk es key) (asked ++ (p.0, answer) ∷ []) None
+        missed answer none = (
+          All-under eqk es key (λ x. ¬ IsFront eq same (asked ++ (p.0, answer) ∷ []) x.path) (λ j d m h f. none j d m h (Follows-from_front n asked ps (get_or es j d).path p.0 answer asked_own deep f)),
+          inr (record { front = asked; last = (p.0, answer); splits = refl; next = refused }),
+        )
 
         -- what was asked is the front of the path to go on with
         pub stepped : (j : ℕ) (answer : R) → IsTree eq same eqk es → j < length es → HoldsAt (λ x. IsTrue (eqk x.key key) × Follows same x.path ps n answer) es j → (d : Stored K C R T) → IsSamePath eq same (asked ++ (p.0, answer) ∷ []) (take (n + 1) (get_or es j d).path)
@@ -173,32 +174,39 @@ module _ {C R : Type 0} {eq : C → C → Bool} {same : R → R → Bool} (calls
     answered_alike x q e a b = joined answers x.1 (m x.0) q.1 (turned answers (m x.0) x.1 a) (joined answers (m x.0) (m q.0) q.1 (respects x.0 q.0 e) b)
 
     -- what was asked along one path is a front of each path that fits it and agrees with the answers
-    IsFront-agreeing : (asked ps qs : List (C × R)) → AsksAlong eq same asked ps → Fit ps qs → Agrees same m asked → Agrees same m qs → IsFront eq same asked qs
-    IsFront-agreeing [] ps qs k f a b = tt
-    IsFront-agreeing (x ∷ asked) [] qs k f a b = absurd k
-    IsFront-agreeing (x ∷ asked) (p ∷ ps) [] k f a b = absurd f
-    IsFront-agreeing (x ∷ []) (p ∷ ps) (q ∷ qs) k f a b =
-        let e : IsTrue (eq x.0 q.0) = joined calls x.0 p.0 q.0 k f.0 in
-        (e, answered_alike x q e a.0 b.0, tt)
-    IsFront-agreeing (x ∷ (y ∷ asked)) (p ∷ ps) (q ∷ qs) k f a b =
+    IsFront-agreeing : (front ps qs : List (C × R)) (last : C × R) → IsNext eq same front last.0 ps → Fit ps qs → Agrees same m (front ++ last ∷ []) → Agrees same m qs → IsFront eq same (front ++ last ∷ []) qs
+    IsFront-agreeing [] [] qs last k f a b = absurd k
+    IsFront-agreeing [] (p ∷ ps) [] last k f a b = absurd f
+    IsFront-agreeing [] (p ∷ ps) (q ∷ qs) last k f a b =
+        let e : IsTrue (eq last.0 q.0) = joined calls last.0 p.0 q.0 k f.0 in
+        (e, answered_alike last q e a.0 b.0, tt)
+    IsFront-agreeing (x ∷ front) [] qs last k f a b = absurd k
+    IsFront-agreeing (x ∷ front) (p ∷ ps) [] last k f a b = absurd f
+    IsFront-agreeing (x ∷ front) (p ∷ ps) (q ∷ qs) last k f a b =
         let e : IsTrue (eq x.0 q.0) = joined calls x.0 p.0 q.0 k.0 f.0 in
         let h : IsTrue (same x.1 q.1) = answered_alike x q e a.0 b.0 in
-        (e, h, IsFront-agreeing (y ∷ asked) ps qs k.2 (f.1 (joined answers p.1 x.1 q.1 (turned answers x.1 p.1 k.1) h)) a.1 b.1)
+        (e, h, IsFront-agreeing front ps qs last k.2 (f.1 (joined answers p.1 x.1 q.1 (turned answers x.1 p.1 k.1) h)) a.1 b.1)
 
     -- a look-up whose answers are those of m finds what agrees with m
-    pub FindsAgreeing-from_asked : {K T : Type 0} {eqk : K → K → Bool} (keys : IsEquivalence eqk) (es : List (Stored K C R T)) (key : K) (asked : List (C × R)) (r : Option T) → IsTree eq same eqk es → Agrees same m asked → IsAsked eq same eqk es key asked r → FindsAgreeing eq same eqk es key m r
+    pub FindsAgreeing-from_asked : {K T : Type 0} {eqk : K → K → Bool} (keys : IsEquivalence eqk) (es : List (Stored K C R T)) (key : K) (asked : List (C × R)) (r : Option T) → IsTree eq same eqk es → Agrees same m asked → IsAsked eq same (under eqk es key) asked r → FindsAgreeing eq same (under eqk es key) m r
     FindsAgreeing-from_asked keys es key asked (Some v) tree a k =
-        (k.0, k.1, k.2, k.3, (k.4.0, Agrees-same asked k.1.path k.4.1 a, k.4.2))
-    FindsAgreeing-from_asked keys es key asked None tree a k = λ j d l e b.
+        (k.0, k.1, k.2, k.3, (Agrees-same asked k.1.path k.4.0 a, k.4.1))
+    FindsAgreeing-from_asked {K} {T} {eqk} keys es key asked None tree a k =
+        let none = All-from_under eqk es key (λ x. ¬ IsFront eq same asked x.path) k.0 in
+        All-under eqk es key (λ x. ¬ Agrees same m x.path) (λ j d l e b.
+        let path = (get_or es j d).path in
         elim k.1 [
-          | inl none ↦ k.0 j d l e (subst (λ xs. IsFront eq same xs (get_or es j d).path) (sym none) tt)
-          | inr some ↦ k.0 j d l e (IsFront-agreeing asked some.1.path (get_or es j d).path some.4.1 (fits keys es j d some.0 some.1 tree l some.2 some.3 (joined keys some.1.key key (get_or es j d).key some.4.0 (turned keys (get_or es j d).key key e))) a b)
-        ]
+          | inl is ↦ none j d l e (subst (λ xs. IsFront eq same xs path) (sym is) tt)
+          | inr along ↦
+              let some = Any-from_under eqk es key (λ x. IsNext eq same along.front along.last.0 x.path) along.next in
+              let fit = fits keys es j d some.0 some.1 tree l some.2 some.3 (joined keys some.1.key key (get_or es j d).key some.4.0 (turned keys (get_or es j d).key key e)) in
+              none j d l e (subst (λ xs. IsFront eq same xs path) (sym along.splits) (IsFront-agreeing along.front some.1.path path along.last some.4.1 fit (subst (λ xs. Agrees same m xs) along.splits a) b))
+        ])
 
     -- so does one that gives the path too
-    pub FindsAgreeingPath-from_asked : {K T : Type 0} (eqk : K → K → Bool) (es : List (Stored K C R T)) (key : K) (asked path : List (C × R)) (v : T) → Agrees same m asked → IsAsked eq same eqk es key asked (Some v) → IsSamePath eq same asked path → FindsAgreeingPath eq same eqk es key m (Some (path, v))
-    FindsAgreeingPath-from_asked eqk es key asked path v a k s =
-        (k.0, k.1, k.2, k.3, (k.4.0, Agrees-same asked k.1.path k.4.1 a, IsSamePath-joined calls answers path asked k.1.path (IsSamePath-turned calls answers asked path s) k.4.1, k.4.2))
+    pub FindsAgreeingPath-from_asked : {K T : Type 0} (us : List (Stored K C R T)) (asked path : List (C × R)) (v : T) → Agrees same m asked → IsAsked eq same us asked (Some v) → IsSamePath eq same asked path → FindsAgreeingPath eq same us m (Some (path, v))
+    FindsAgreeingPath-from_asked us asked path v a k s =
+        (k.0, k.1, k.2, k.3, (Agrees-same asked k.1.path k.4.0 a, IsSamePath-joined calls answers path asked k.1.path (IsSamePath-turned calls answers asked path s) k.4.0, k.4.1))
 
 -- each pair was answered as the oracle answers
 pub Agrees-asked : {F C R : Type 0} (g : Mut F (Bor C × Unit {0}) (Result R AllocError)) (same : R → R → Bool) (m : C → R) (f f' : F) (asked : List (C × R)) → AnswersAs g same m f → Answered g f asked f' → Agrees same m asked

@@ -10,10 +10,11 @@ use Rattle.std.specs.HashMap.Eq.{lookup_congr}
 use Rattle.std.specs.Cmp.{IsEquivalence}
 use Rattle.comemo_base.specs.Sequence.{HasDistinctCalls}
 use Rattle.comemo_base.specs.Tree.{Stored, IsSamePath, IsFront, Parts, IsTree}
-use Rattle.comemo_base.specs.Lookup.{AsksAlong}
+use Rattle.comemo_base.specs.Lookup.{under, IsNext, IsAskedFront}
 use Rattle.comemo_base.specs.Steps.{Follows}
 use Rattle.comemo_base.specs.Insertion.{Has, AllAmong, LacksNextCall, outside, Exists, Misses, IsStem}
-use Rattle.comemo_base.proofs.Paths.{turned, joined, Fit, Fit-from_tree, get_or_same, IsSamePath-more, Follows-from_front}
+use Rattle.comemo_base.proofs.Under.{Any-under, Any-from_under}
+use Rattle.comemo_base.proofs.Paths.{turned, joined, Fit, Fit-from_tree, get_or_same, IsNext-more, IsSamePath-more, Follows-from_front}
 
 -- a list of pairs is the front of a path under the key, and is among the sequence's pairs
 pub record Walked {K C R T : Type 0} (eq : C → C → Bool) (same : R → R → Bool) (eqk : K → K → Bool) (key : K) (s path : List (C × R)) (e : Stored K C R T) : Type 0 where
@@ -198,69 +199,71 @@ module _ {C R : Type 0} {eq : C → C → Bool} {same : R → R → Bool} (calls
   LacksNextCall-at s (suc n) (b ∷ asked) (x ∷ ps) p front a l at e =
       inr (Has-alike s b x front.0 front.1 a.0, LacksNextCall-at s n asked ps p front.2 a.1 (omega arith) at e)
 
-  -- one more pair, with a call that is equal to the path's next
-  pub AsksAlong-alike : (n : ℕ) (asked ps : List (C × R)) (p : C × R) (c : C) (answer : R) → IsSamePath eq same asked (take n ps) → n < length ps → p ≡ get_or ps n p → eq c p.0 ≡ true → AsksAlong eq same (asked ++ (c, answer) ∷ []) ps
-  AsksAlong-alike n asked [] p c answer front l at e = absurd (omega arith)
-  AsksAlong-alike zero [] (x ∷ ps) p c answer front l at e = ap (λ (z : C × R). eq c z.0) (sym at) ∙ e
-  AsksAlong-alike zero (a ∷ rest) (x ∷ ps) p c answer front l at e = absurd front
-  AsksAlong-alike (suc n) [] (x ∷ ps) p c answer front l at e = absurd front
-  AsksAlong-alike (suc n) (a ∷ []) (x ∷ ps) p c answer front l at e = (front.0, front.1, AsksAlong-alike n [] ps p c answer front.2 (omega arith) at e)
-  AsksAlong-alike (suc n) (a ∷ (b ∷ bs)) (x ∷ ps) p c answer front l at e = (front.0, front.1, AsksAlong-alike n (b ∷ bs) ps p c answer front.2 (omega arith) at e)
+  -- a call that is equal to the path's next is its next too
+  IsNext-alike : (front ps : List (C × R)) (c c' : C) → eq c' c ≡ true → IsNext eq same front c ps → IsNext eq same front c' ps
+  IsNext-alike [] [] c c' e h = absurd h
+  IsNext-alike [] (q ∷ qs) c c' e h = joined calls c' c q.0 e h
+  IsNext-alike (p ∷ front) [] c c' e h = absurd h
+  IsNext-alike (p ∷ front) (q ∷ qs) c c' e h = (h.0, h.1, IsNext-alike front qs c c' e h.2)
 
   same_answer : (s : List (C × R)) (x q : C × R) → IsTrue (eq x.0 q.0) → Has eq same s x → Has eq same s q → IsTrue (same x.1 q.1)
   same_answer s x q e f h = has_same (lookup (eq q.0) s) x.1 q.1 (subst (λ o. IsSomeAnd o (λ r. IsTrue (same r x.1))) (lookup_alike calls s x.0 q.0 e) f) h
 
-  pub IsFront-among : (s front ps qs : List (C × R)) → AsksAlong eq same front ps → Fit calls answers ps qs → AllAmong eq same s front → AllAmong eq same s qs → IsFront eq same front qs
-  IsFront-among s [] ps qs k f a b = tt
-  IsFront-among s (x ∷ front) [] qs k f a b = absurd k
-  IsFront-among s (x ∷ front) (p ∷ ps) [] k f a b = absurd f
-  IsFront-among s (x ∷ []) (p ∷ ps) (q ∷ qs) k f a b =
-      let e : eq x.0 q.0 ≡ true = joined calls x.0 p.0 q.0 k f.0 in (e, same_answer s x q e a.0 b.0, tt)
-  IsFront-among s (x ∷ (y ∷ front)) (p ∷ ps) (q ∷ qs) k f a b =
+  pub IsFront-among : (s front ps qs : List (C × R)) (last : C × R) → IsNext eq same front last.0 ps → Fit calls answers ps qs → AllAmong eq same s (front ++ last ∷ []) → AllAmong eq same s qs → IsFront eq same (front ++ last ∷ []) qs
+  IsFront-among s [] [] qs last k f a b = absurd k
+  IsFront-among s [] (p ∷ ps) [] last k f a b = absurd f
+  IsFront-among s [] (p ∷ ps) (q ∷ qs) last k f a b =
+      let e : eq last.0 q.0 ≡ true = joined calls last.0 p.0 q.0 k f.0 in (e, same_answer s last q e a.0 b.0, tt)
+  IsFront-among s (x ∷ front) [] qs last k f a b = absurd k
+  IsFront-among s (x ∷ front) (p ∷ ps) [] last k f a b = absurd f
+  IsFront-among s (x ∷ front) (p ∷ ps) (q ∷ qs) last k f a b =
       let e : eq x.0 q.0 ≡ true = joined calls x.0 p.0 q.0 k.0 f.0 in
       let h : IsTrue (same x.1 q.1) = same_answer s x q e a.0 b.0 in
-      (e, h, IsFront-among s (y ∷ front) ps qs k.2 (f.1 (joined answers p.1 x.1 q.1 (turned answers x.1 p.1 k.1) h)) a.1 b.1)
+      (e, h, IsFront-among s front ps qs last k.2 (f.1 (joined answers p.1 x.1 q.1 (turned answers x.1 p.1 k.1) h)) a.1 b.1)
 
-  pub IsFront-lacks : (s front ps qs : List (C × R)) → AsksAlong eq same front ps → Fit calls answers ps qs → AllAmong eq same s front → LacksNextCall eq same s qs → IsFront eq same front qs
-  IsFront-lacks s [] ps qs k f a b = tt
-  IsFront-lacks s (x ∷ front) [] qs k f a b = absurd k
-  IsFront-lacks s (x ∷ front) (p ∷ ps) [] k f a b = absurd f
-  IsFront-lacks s (x ∷ []) (p ∷ ps) (q ∷ qs) k f a b =
-      let e : eq x.0 q.0 ≡ true = joined calls x.0 p.0 q.0 k f.0 in
-      elim b [ inl n ↦ absurd (Has-not s x q e a.0 n) | inr m ↦ (e, same_answer s x q e a.0 m.0, tt) ]
-  IsFront-lacks s (x ∷ (y ∷ front)) (p ∷ ps) (q ∷ qs) k f a b =
+  pub IsFront-lacks : (s front ps qs : List (C × R)) (last : C × R) → IsNext eq same front last.0 ps → Fit calls answers ps qs → AllAmong eq same s (front ++ last ∷ []) → LacksNextCall eq same s qs → IsFront eq same (front ++ last ∷ []) qs
+  IsFront-lacks s [] [] qs last k f a b = absurd k
+  IsFront-lacks s [] (p ∷ ps) [] last k f a b = absurd f
+  IsFront-lacks s [] (p ∷ ps) (q ∷ qs) last k f a b =
+      let e : eq last.0 q.0 ≡ true = joined calls last.0 p.0 q.0 k f.0 in
+      elim b [ inl n ↦ absurd (Has-not s last q e a.0 n) | inr m ↦ (e, same_answer s last q e a.0 m.0, tt) ]
+  IsFront-lacks s (x ∷ front) [] qs last k f a b = absurd k
+  IsFront-lacks s (x ∷ front) (p ∷ ps) [] last k f a b = absurd f
+  IsFront-lacks s (x ∷ front) (p ∷ ps) (q ∷ qs) last k f a b =
       let e : eq x.0 q.0 ≡ true = joined calls x.0 p.0 q.0 k.0 f.0 in
       elim b [
         | inl n ↦ absurd (Has-not s x q e a.0 n)
-        | inr m ↦ let h : IsTrue (same x.1 q.1) = same_answer s x q e a.0 m.0 in (e, h, IsFront-lacks s (y ∷ front) ps qs k.2 (f.1 (joined answers p.1 x.1 q.1 (turned answers x.1 p.1 k.1) h)) a.1 m.1)
+        | inr m ↦ let h : IsTrue (same x.1 q.1) = same_answer s x q e a.0 m.0 in (e, h, IsFront-lacks s front ps qs last k.2 (f.1 (joined answers p.1 x.1 q.1 (turned answers x.1 p.1 k.1) h)) a.1 m.1)
       ]
 
-  pub IsFront-longer : (s front other ps qs : List (C × R)) → AsksAlong eq same front ps → Fit calls answers ps qs → AllAmong eq same s front → AsksAlong eq same other qs → AllAmong eq same s other → length front < length other → IsFront eq same front qs
-  IsFront-longer s [] other ps qs k f a g b l = tt
-  IsFront-longer s (x ∷ front) [] ps qs k f a g b l = absurd g
-  IsFront-longer s (x ∷ front) (y ∷ []) ps qs k f a g b l = absurd (omega arith)
-  IsFront-longer s (x ∷ front) (y ∷ (z ∷ zs)) [] qs k f a g b l = absurd k
-  IsFront-longer s (x ∷ front) (y ∷ (z ∷ zs)) (p ∷ ps) [] k f a g b l = absurd f
-  IsFront-longer s (x ∷ []) (y ∷ (z ∷ zs)) (p ∷ ps) (q ∷ qs) k f a g b l =
-      let e : eq x.0 q.0 ≡ true = joined calls x.0 p.0 q.0 k f.0 in
-      (e, same_answer s x q e a.0 (Has-alike s y q g.0 g.1 b.0), tt)
-  IsFront-longer s (x ∷ (w ∷ front)) (y ∷ (z ∷ zs)) (p ∷ ps) (q ∷ qs) k f a g b l =
+  -- a longer list of pairs of the sequence was asked along a path that fits
+  pub IsFront-longer : (s front ps qs other : List (C × R)) (last end : C × R) → IsNext eq same front last.0 ps → Fit calls answers ps qs → AllAmong eq same s (front ++ last ∷ []) → IsNext eq same other end.0 qs → AllAmong eq same s (other ++ end ∷ []) → length front < length other → IsFront eq same (front ++ last ∷ []) qs
+  IsFront-longer s front ps qs [] last end k f a g b l = absurd (omega arith)
+  IsFront-longer s [] [] qs (y ∷ other) last end k f a g b l = absurd k
+  IsFront-longer s [] (p ∷ ps) [] (y ∷ other) last end k f a g b l = absurd f
+  IsFront-longer s [] (p ∷ ps) (q ∷ qs) (y ∷ other) last end k f a g b l =
+      let e : eq last.0 q.0 ≡ true = joined calls last.0 p.0 q.0 k f.0 in
+      (e, same_answer s last q e a.0 (Has-alike s y q g.0 g.1 b.0), tt)
+  IsFront-longer s (x ∷ front) [] qs (y ∷ other) last end k f a g b l = absurd k
+  IsFront-longer s (x ∷ front) (p ∷ ps) [] (y ∷ other) last end k f a g b l = absurd f
+  IsFront-longer s (x ∷ front) (p ∷ ps) (q ∷ qs) (y ∷ other) last end k f a g b l =
       let e : eq x.0 q.0 ≡ true = joined calls x.0 p.0 q.0 k.0 f.0 in
       let h : IsTrue (same x.1 q.1) = same_answer s x q e a.0 (Has-alike s y q g.0 g.1 b.0) in
-      (e, h, IsFront-longer s (w ∷ front) (z ∷ zs) ps qs k.2 (f.1 (joined answers p.1 x.1 q.1 (turned answers x.1 p.1 k.1) h)) a.1 g.2 b.1 (omega arith))
+      (e, h, IsFront-longer s front ps qs other last end k.2 (f.1 (joined answers p.1 x.1 q.1 (turned answers x.1 p.1 k.1) h)) a.1 g.2 b.1 (omega arith))
 
   -- a path that does not have the front parts from each path that goes on from it
-  pub Parts-from_front : (front rest ps qs : List (C × R)) → AsksAlong eq same front ps → Fit calls answers ps qs → (IsFront eq same front qs → ⊥) → Parts eq same qs (front ++ rest) × Parts eq same (front ++ rest) qs
-  Parts-from_front [] rest ps qs k f miss = absurd k
-  Parts-from_front (x ∷ front) rest [] qs k f miss = absurd k
-  Parts-from_front (x ∷ front) rest (p ∷ ps) [] k f miss = absurd f
-  Parts-from_front (x ∷ []) rest (p ∷ ps) (q ∷ qs) k f miss =
-      let e : eq x.0 q.0 ≡ true = joined calls x.0 p.0 q.0 k f.0 in
-      ((calls.symm q.0 x.0 ∙ e, λ h. absurd (miss (e, turned answers q.1 x.1 h, tt))), (e, λ h. absurd (miss (e, h, tt))))
-  Parts-from_front (x ∷ (y ∷ front)) rest (p ∷ ps) (q ∷ qs) k f miss =
+  pub Parts-from_front : (front rest ps qs : List (C × R)) (last : C × R) → IsNext eq same front last.0 ps → Fit calls answers ps qs → (IsFront eq same (front ++ last ∷ []) qs → ⊥) → Parts eq same qs ((front ++ last ∷ []) ++ rest) × Parts eq same ((front ++ last ∷ []) ++ rest) qs
+  Parts-from_front [] rest [] qs last k f miss = absurd k
+  Parts-from_front [] rest (p ∷ ps) [] last k f miss = absurd f
+  Parts-from_front [] rest (p ∷ ps) (q ∷ qs) last k f miss =
+      let e : eq last.0 q.0 ≡ true = joined calls last.0 p.0 q.0 k f.0 in
+      ((calls.symm q.0 last.0 ∙ e, λ h. absurd (miss (e, turned answers q.1 last.1 h, tt))), (e, λ h. absurd (miss (e, h, tt))))
+  Parts-from_front (x ∷ front) rest [] qs last k f miss = absurd k
+  Parts-from_front (x ∷ front) rest (p ∷ ps) [] last k f miss = absurd f
+  Parts-from_front (x ∷ front) rest (p ∷ ps) (q ∷ qs) last k f miss =
       let e : eq x.0 q.0 ≡ true = joined calls x.0 p.0 q.0 k.0 f.0 in (
-        (calls.symm q.0 x.0 ∙ e, λ h. (Parts-from_front (y ∷ front) rest ps qs k.2 (f.1 (joined answers p.1 x.1 q.1 (turned answers x.1 p.1 k.1) (turned answers q.1 x.1 h))) (λ t. miss (e, turned answers q.1 x.1 h, t))).0),
-        (e, λ h. (Parts-from_front (y ∷ front) rest ps qs k.2 (f.1 (joined answers p.1 x.1 q.1 (turned answers x.1 p.1 k.1) h)) (λ t. miss (e, h, t))).1),
+        (calls.symm q.0 x.0 ∙ e, λ h. (Parts-from_front front rest ps qs last k.2 (f.1 (joined answers p.1 x.1 q.1 (turned answers x.1 p.1 k.1) (turned answers q.1 x.1 h))) (λ t. miss (e, turned answers q.1 x.1 h, t))).0),
+        (e, λ h. (Parts-from_front front rest ps qs last k.2 (f.1 (joined answers p.1 x.1 q.1 (turned answers x.1 p.1 k.1) h)) (λ t. miss (e, h, t))).1),
       )
 
   IsSamePath-alike : (asked qs : List (C × R)) (c c' : C) (answer : R) → eq c c' ≡ true → IsSamePath eq same (asked ++ (c, answer) ∷ []) qs → IsSamePath eq same (asked ++ (c', answer) ∷ []) qs
@@ -281,10 +284,10 @@ module _ {C R : Type 0} {eq : C → C → Bool} {same : R → R → Bool} (calls
     own_key = ap (λ (x : Stored K C R T). eqk x.key key) at ∙ (walked e).under
 
     -- the path was asked to its end
-    pub Exists-at : n ≡ length ps → Exists eq same eqk es key s
+    pub Exists-at : n ≡ length ps → Exists eq same (under eqk es key) s
     Exists-at whole =
         let P : List (C × R) → Type 0 = λ qs. IsSamePath eq same asked qs in
-        (i, e, l, sym at, (own_key, AllAmong-same s asked e.path (subst P (take_all n ps (omega arith) ∙ own) same_front) (walked e).among))
+        Any-under eqk es key (λ x. AllAmong eq same s x.path) (i, e, l, sym at, (own_key, AllAmong-same s asked e.path (subst P (take_all n ps (omega arith) ∙ own) same_front) (walked e).among))
 
     -- where the path was not asked to its end, it goes on
     pub deeper : (n ≡ length ps → ⊥) → n < length ps
@@ -303,15 +306,16 @@ module _ {C R : Type 0} {eq : C → C → Bool} {same : R → R → Bool} (calls
       from_left = ap (λ xs. lookup (eq p.0) xs) k ∙ lookup-outside calls asked s p.0 ∙ ap (λ o. cond (is_some o) None (lookup (eq p.0) s)) (lookup-asked_none n asked ps p same_front deep distinct_own is)
 
       -- the sequence does not have the call
-      pub Misses-at : None ≡ lookup (eq p.0) left → Misses eq same eqk es key s
-      Misses-at none = (i, e, l, sym at, (own_key, subst (λ qs. LacksNextCall eq same s qs) own (LacksNextCall-at s n asked ps p same_front (walked e).among deep is (sym from_left ∙ sym none))))
+      pub Misses-at : None ≡ lookup (eq p.0) left → Misses eq same (under eqk es key) s
+      Misses-at none =
+          Any-under eqk es key (λ x. LacksNextCall eq same s x.path) (i, e, l, sym at, (own_key, subst (λ qs. LacksNextCall eq same s qs) own (LacksNextCall-at s n asked ps p same_front (walked e).among deep is (sym from_left ∙ sym none))))
 
       module _ (answer : R) (c : C) (some : Some answer ≡ lookup (eq p.0) left) (alike : eq p.0 c ≡ true) where
         among_more : AllAmong eq same s (asked ++ (c, answer) ∷ [])
         among_more = AllAmong-more s asked c answer (walked e).among (sym (lookup_alike calls s p.0 c alike) ∙ sym from_left ∙ sym some)
 
-        along_more : AsksAlong eq same (asked ++ (c, answer) ∷ []) ps
-        along_more = AsksAlong-alike n asked ps p c answer same_front deep is (calls.symm c p.0 ∙ alike)
+        next : IsNext eq same asked c ps
+        next = IsNext-alike asked ps p.0 c (calls.symm c p.0 ∙ alike) (IsNext-more calls answers n asked ps p same_front deep is)
 
         pub left_more : HasDistinctCalls eq s → remove_entry (eq p.0) left ≡ outside eq (asked ++ (c, answer) ∷ []) s
         left_more d = ap (λ xs. remove_entry (eq p.0) xs) k ∙ outside-more calls asked s p.0 c answer d alike
@@ -341,31 +345,42 @@ module _ {C R : Type 0} {eq : C → C → Bool} {same : R → R → Bool} (calls
           not_front : (j : ℕ) (d : Stored K C R T) → j < length es → IsTrue (eqk (get_or es j d).key key) → IsFront eq same (asked ++ (c, answer) ∷ []) (get_or es j d).path → ⊥
           not_front j d m u f = none j d m u (Follows-from_front calls answers n asked ps (get_or es j d).path c answer same_front deep f)
 
-          pub not_Exists : Exists eq same eqk es key s → ⊥
-          not_Exists h =
+          pub not_Exists : Exists eq same (under eqk es key) s → ⊥
+          not_Exists some =
+              let h = Any-from_under eqk es key (λ x. AllAmong eq same s x.path) some in
               let u : IsTrue (eqk (get_or es h.0 h.1).key key) = ap (λ (x : Stored K C R T). eqk x.key key) h.3 ∙ h.4.0 in
-              not_front h.0 h.1 h.2 u (IsFront-among s (asked ++ (c, answer) ∷ []) ps (get_or es h.0 h.1).path along_more (fits h.0 h.1 h.2 u) among_more (subst (λ (x : Stored K C R T). AllAmong eq same s x.path) (sym h.3) h.4.1))
+              not_front h.0 h.1 h.2 u (IsFront-among s asked ps (get_or es h.0 h.1).path (c, answer) next (fits h.0 h.1 h.2 u) among_more (subst (λ (x : Stored K C R T). AllAmong eq same s x.path) (sym h.3) h.4.1))
 
-          pub not_Misses : Misses eq same eqk es key s → ⊥
-          not_Misses h =
+          pub not_Misses : Misses eq same (under eqk es key) s → ⊥
+          not_Misses some =
+              let h = Any-from_under eqk es key (λ x. LacksNextCall eq same s x.path) some in
               let u : IsTrue (eqk (get_or es h.0 h.1).key key) = ap (λ (x : Stored K C R T). eqk x.key key) h.3 ∙ h.4.0 in
-              not_front h.0 h.1 h.2 u (IsFront-lacks s (asked ++ (c, answer) ∷ []) ps (get_or es h.0 h.1).path along_more (fits h.0 h.1 h.2 u) among_more (subst (λ (x : Stored K C R T). LacksNextCall eq same s x.path) (sym h.3) h.4.1))
+              not_front h.0 h.1 h.2 u (IsFront-lacks s asked ps (get_or es h.0 h.1).path (c, answer) next (fits h.0 h.1 h.2 u) among_more (subst (λ (x : Stored K C R T). LacksNextCall eq same s x.path) (sym h.3) h.4.1))
 
-          pub stem : IsStem eq same eqk es key s (asked ++ (c, answer) ∷ [])
+          longest : (other : List (C × R)) → AllAmong eq same s other → IsAskedFront eq same (under eqk es key) other → length other ≤ length (asked ++ (c, answer) ∷ [])
+          longest other a along =
+              let h = Any-from_under eqk es key (λ x. IsNext eq same along.front along.last.0 x.path) along.next in
+              let u : IsTrue (eqk (get_or es h.0 h.1).key key) = ap (λ (x : Stored K C R T). eqk x.key key) h.3 ∙ h.4.0 in
+              elim (cases_lt (length asked) (length along.front)) [
+                | inl lt ↦
+                    absurd (not_front h.0 h.1 h.2 u (IsFront-longer s asked ps (get_or es h.0 h.1).path along.front (c, answer) along.last next (fits h.0 h.1 h.2 u) among_more (subst (λ (x : Stored K C R T). IsNext eq same along.front along.last.0 x.path) (sym h.3) h.4.1) (subst (λ xs. AllAmong eq same s xs) along.splits a) lt))
+                | inr le ↦ omega (arith, ap length along.splits, length-append along.front (along.last ∷ []), length-append asked ((c, answer) ∷ []))
+              ]
+
+          pub stem : IsStem eq same (under eqk es key) s (asked ++ (c, answer) ∷ [])
           stem = inr (
             among_more,
-            (i, e, l, sym at, (own_key, subst (λ qs. AsksAlong eq same (asked ++ (c, answer) ∷ []) qs) own along_more)),
-            λ other a h.
-                elim (cases_lt (length (asked ++ (c, answer) ∷ [])) (length other)) [
-                  | inl lt ↦
-                      let u : IsTrue (eqk (get_or es h.0 h.1).key key) = ap (λ (x : Stored K C R T). eqk x.key key) h.3 ∙ h.4.0 in
-                      absurd (not_front h.0 h.1 h.2 u (IsFront-longer s (asked ++ (c, answer) ∷ []) other ps (get_or es h.0 h.1).path along_more (fits h.0 h.1 h.2 u) among_more (subst (λ (x : Stored K C R T). AsksAlong eq same other x.path) (sym h.3) h.4.1) a lt))
-                  | inr le ↦ le
-                ],
+            record {
+              front = asked;
+              last = (c, answer);
+              splits = refl;
+              next = Any-under eqk es key (λ x. IsNext eq same asked c x.path) (i, e, l, sym at, (own_key, subst (λ qs. IsNext eq same asked c qs) own next));
+            },
+            longest,
           )
 
           pub apart : (rest : List (C × R)) (j : ℕ) (d : Stored K C R T) → j < length es → IsTrue (eqk (get_or es j d).key key) → Parts eq same (get_or es j d).path ((asked ++ (c, answer) ∷ []) ++ rest) × Parts eq same ((asked ++ (c, answer) ∷ []) ++ rest) (get_or es j d).path
-          apart rest j d m u = Parts-from_front (asked ++ (c, answer) ∷ []) rest ps (get_or es j d).path along_more (fits j d m u) (not_front j d m u)
+          apart rest j d m u = Parts-from_front asked rest ps (get_or es j d).path (c, answer) next (fits j d m u) (not_front j d m u)
 
 -- one more entry, whose path parts from each under its key
 pub IsTree-push : {K C R T : Type 0} {eq : C → C → Bool} {same : R → R → Bool} {eqk : K → K → Bool} (keys : IsEquivalence eqk) (es : List (Stored K C R T)) (x : Stored K C R T) → IsTree eq same eqk es → HasDistinctCalls eq x.path → ((j : ℕ) (d : Stored K C R T) → j < length es → IsTrue (eqk (get_or es j d).key x.key) → Parts eq same (get_or es j d).path x.path × Parts eq same x.path (get_or es j d).path) → IsTree eq same eqk (es ++ x ∷ [])

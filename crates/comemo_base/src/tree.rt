@@ -10,7 +10,7 @@ ghost use Rattle.std.specs.Fn.{AlwaysReturns};
 ghost use Rattle.comemo_base.specs.Sequence.{HasDistinctCalls};
 ghost use Rattle.comemo_base.specs.Answers.{Respects};
 ghost use Rattle.comemo_base.specs.Tree.{Parts, IsSamePath, IsTree, stored};
-ghost use Rattle.comemo_base.specs.Lookup.{Answered, AnswersAs, IsAsked, LooksUp, LooksUpPath, IsLookupRefused, FindsAgreeing, FindsAgreeingPath};
+ghost use Rattle.comemo_base.specs.Lookup.{under, Answered, AnswersAs, CanBeAsked, IsAsked, LooksUp, LooksUpPath, IsLookupRefused, FindsAgreeing, FindsAgreeingPath};
 ghost use Rattle.comemo_base.specs.Insertion.{Exists, Misses, IsStem, IsNewPath, IsReason, outside};
 ghost use Rattle.comemo_base.specs.Steps.{Follows};
 
@@ -118,7 +118,8 @@ fn follows<C, R: Ord>(path: &[(C, R)], other: &[(C, R)], depth: usize, answer: &
 
 /// The place of the first entry under a key.
 fn find_first<K: Eq, C, R, T>(entries: &[Entry<K, C, R, T>], key: &K) -> Option<usize>
-    ensures some { IfSome result (λ j. (j < length entries.now) × HoldsAt (λ e. IsTrue (K.eq e.key key.now)) entries.now j) }
+    ensures some { IfSome result (λ j. (j < length entries.now)
+        × HoldsAt (λ e. IsTrue (K.eq e.key key.now)) entries.now j) }
     ensures none { IfNone result (All (λ e. ¬ IsTrue (K.eq e.key key.now)) entries.now) }
 {
     for (i, entry) in entries.iter().enumerate() {
@@ -138,8 +139,11 @@ fn find_branch<K: Eq, C, R: Ord, T>(
     answer: &R,
 ) -> Option<usize>
     requires { depth ≤ length path.now }
-    ensures some { IfSome result (λ j. (j < length entries.now) × HoldsAt (λ e. IsTrue (K.eq e.key key.now) × Follows R.eq e.path path.now depth answer.now) entries.now j) }
-    ensures none { IfNone result (All (λ e. IsTrue (K.eq e.key key.now) → ¬ Follows R.eq e.path path.now depth answer.now) entries.now) }
+    ensures some { IfSome result (λ j. (j < length entries.now)
+        × HoldsAt (λ e. IsTrue (K.eq e.key key.now)
+        × Follows R.eq e.path path.now depth answer.now) entries.now j) }
+    ensures none { IfNone result (All (λ e. IsTrue (K.eq e.key key.now)
+        → ¬ Follows R.eq e.path path.now depth answer.now) entries.now) }
 {
     for (i, entry) in entries.iter().enumerate() {
         if entry.key == *key && follows(entry.path.as_slice(), path, depth, answer) {
@@ -155,10 +159,16 @@ fn get_in<'a, K: Eq + Hash, C: Eq + Hash, R: Ord + Drop, T, O: FnMut(&C) -> Resu
     key: &K,
     oracle: &mut O,
 ) -> Result<Option<&'a Entry<K, C, R, T>>, AllocError>
-    requires callable { O.IsAlwaysCallable oracle.old }
+    requires callable { CanBeAsked O.FnMut (under K.eq entries.now key.now) oracle.old }
     requires tree { IsTree C.eq R.eq K.eq entries.now }
-    ensures asked { IfOk result (λ found. (g : List (C × R)) × Answered O.FnMut oracle.old g oracle.new × IsAsked C.eq R.eq K.eq entries.now key.now g (option_map (λ e. e.value) (option_copied found)) × IfSome (option_copied found) (λ e. IsSamePath C.eq R.eq g e.path)) }
-    ensures refused { IfErr result (λ e. IsLookupRefused O.FnMut C.eq R.eq K.eq entries.now key.now oracle.old e oracle.new) }
+    ensures asked { IfOk result (λ found. (g : List (C × R))
+        × Answered O.FnMut oracle.old g oracle.new
+        × IsAsked C.eq R.eq (under K.eq entries.now key.now) g
+        (option_map (λ e. e.value) (option_copied found))
+        × IfSome (option_copied found) (λ e. IsSamePath C.eq R.eq g e.path)) }
+    ensures refused { IfErr result (λ e.
+        IsLookupRefused O.FnMut C.eq R.eq (under K.eq entries.now key.now)
+        oracle.old e oracle.new) }
 {
     let Some(first) = find_first(entries, key) else {
         return Ok(None);
@@ -192,6 +202,14 @@ impl<K: Eq + Hash, C: Eq + Hash, R: Ord, T> CallTree<K, C, R, T> {
         }
     }
 
+    /// Tells a proof that any two paths under equal keys part, and that the calls of each path are distinct, which every
+    /// tree keeps. It does nothing when it runs.
+    pub fn is_parted(&self)
+        ensures { IsTree C.eq R.eq K.eq self.now }
+    {
+        let _ = &self.entries;
+    }
+
     /// How many entries the tree has. It takes constant time. This project's own.
     pub fn len(&self) -> usize
         ensures { result ≡ length self.now }
@@ -202,9 +220,9 @@ impl<K: Eq + Hash, C: Eq + Hash, R: Ord, T> CallTree<K, C, R, T> {
     /// The value of the path under a key whose answers the oracle gives, or `None` where there is none.
     ///
     /// It asks the calls along one stored path, each once and in order, until the path ends or no stored path goes on
-    /// with the answer that was given; with no path under the key, or an empty one, it asks nothing. The oracle is lent,
-    /// so its state afterwards is known. An oracle that refuses an answer ends the look-up with its error; nothing else
-    /// does, and the tree takes no memory of its own. comemo's `CallTree::get`.
+    /// with the answer that was given; with no path under the key, or an empty one, it asks nothing. So the oracle needs to
+    /// answer stored calls alone. It is lent, so its state afterwards is known. An oracle that refuses an answer ends the
+    /// look-up with its error; nothing else does, and the tree takes no memory of its own. comemo's `CallTree::get`.
     pub fn get<O: FnMut(&C) -> Result<R, AllocError>>(
         &self,
         key: &K,
@@ -212,13 +230,21 @@ impl<K: Eq + Hash, C: Eq + Hash, R: Ord, T> CallTree<K, C, R, T> {
     ) -> Result<Option<&T>, AllocError>
     where
         R: Drop,
-        requires { O.IsAlwaysCallable oracle.old }
-        ensures asked { IfOk result (λ found. LooksUp O.FnMut C.eq R.eq K.eq self.now key.now oracle.old oracle.new (option_copied found)) }
-        ensures refused { IfErr result (λ e. IsLookupRefused O.FnMut C.eq R.eq K.eq self.now key.now oracle.old e oracle.new) }
+        requires { CanBeAsked O.FnMut (under K.eq self.now key.now) oracle.old }
+        ensures asked { IfOk result (λ found.
+            LooksUp O.FnMut C.eq R.eq (under K.eq self.now key.now)
+            oracle.old oracle.new (option_copied found)) }
+        ensures refused { IfErr result (λ e.
+            IsLookupRefused O.FnMut C.eq R.eq (under K.eq self.now key.now)
+            oracle.old e oracle.new) }
         ensures answered { AlwaysReturns O.FnMut (λ a r. IsOk r) oracle.old → IsOk result }
 
         // For a caller that knows what its oracle answers from, all that matters.
-        ensures agreeing { (m : C → R) → Respects C.eq R.eq m → AnswersAs O.FnMut R.eq m oracle.old → IfOk result (λ found. FindsAgreeing C.eq R.eq K.eq self.now key.now m (option_copied found)) }
+        ensures agreeing { (m : C → R)
+            → Respects C.eq R.eq m
+            → AnswersAs O.FnMut R.eq m oracle.old
+            → IfOk result (λ found.
+            FindsAgreeing C.eq R.eq (under K.eq self.now key.now) m (option_copied found)) }
     {
         let Some(entry) = get_in(self.entries.as_slice(), key, oracle)? else {
             return Ok(None);
@@ -238,21 +264,35 @@ impl<K: Eq + Hash, C: Eq + Hash, R: Ord, T> CallTree<K, C, R, T> {
     where
         C: Clone,
         R: Clone,
-        requires callable { O.IsAlwaysCallable oracle.old }
+        requires callable { CanBeAsked O.FnMut (under K.eq self.now key.now) oracle.old }
         requires calls_clone { (x y : C) → C.is_clone x y → IsTrue (C.eq x y) }
         requires answers_clone { (x y : R) → R.is_clone x y → IsTrue (R.eq x y) }
-        ensures asked { IfOk result (λ found. LooksUpPath O.FnMut C.eq R.eq K.eq self.now key.now oracle.old oracle.new (option_map (λ p. (p.0.items, p.1.now)) found)) }
-        ensures refused { IfErr result (λ e. IsLookupRefused O.FnMut C.eq R.eq K.eq self.now key.now oracle.old e oracle.new ⊎ ((value : T) × LooksUp O.FnMut C.eq R.eq K.eq self.now key.now oracle.old oracle.new (Some value))) }
-        ensures answered { AlwaysReturns O.FnMut (λ a r. IsOk r) oracle.old → OnErr result ((value : T) × LooksUp O.FnMut C.eq R.eq K.eq self.now key.now oracle.old oracle.new (Some value)) }
+        ensures asked { IfOk result (λ found.
+            LooksUpPath O.FnMut C.eq R.eq (under K.eq self.now key.now)
+            oracle.old oracle.new (option_map (λ p. (p.0.items, p.1.now)) found)) }
+        ensures refused { IfErr result (λ e.
+            IsLookupRefused O.FnMut C.eq R.eq (under K.eq self.now key.now)
+            oracle.old e oracle.new
+            ⊎ ((value : T) × LooksUp O.FnMut C.eq R.eq (under K.eq self.now key.now)
+            oracle.old oracle.new (Some value))) }
+        ensures answered { AlwaysReturns O.FnMut (λ a r. IsOk r) oracle.old
+            → OnErr result ((value : T)
+            × LooksUp O.FnMut C.eq R.eq (under K.eq self.now key.now)
+            oracle.old oracle.new (Some value)) }
 
         // For a caller that knows what its oracle answers from, all that matters.
-        ensures agreeing { (m : C → R) → Respects C.eq R.eq m → AnswersAs O.FnMut R.eq m oracle.old → IfOk result (λ found. FindsAgreeingPath C.eq R.eq K.eq self.now key.now m (option_map (λ p. (p.0.items, p.1.now)) found)) }
+        ensures agreeing { (m : C → R)
+            → Respects C.eq R.eq m
+            → AnswersAs O.FnMut R.eq m oracle.old
+            → IfOk result (λ found.
+            FindsAgreeingPath C.eq R.eq (under K.eq self.now key.now) m
+            (option_map (λ p. (p.0.items, p.1.now)) found)) }
     {
-        let Some(entry) = get_in(self.entries.as_slice(), key, oracle)? else {
+        let Some(hit) = get_in(self.entries.as_slice(), key, oracle)? else {
             return Ok(None);
         };
-        let path = entry.path.clone()?;
-        Ok(Some((path, &entry.value)))
+        let path = hit.path.clone()?;
+        Ok(Some((path, &hit.value)))
     }
 }
 
@@ -265,12 +305,21 @@ fn walk<K: Eq + Hash, C: Clone + Eq + Hash, R: Ord + Drop, T>(
 ) -> Result<Vec<(C, R)>, InsertError>
     requires clones_equal { (x y : C) → C.is_clone x y → IsTrue (C.eq x y) }
     requires tree { IsTree C.eq R.eq K.eq entries.now }
-    ensures ok { OnOk result ((¬ Exists C.eq R.eq K.eq entries.now key.now sequence.old.pairs) × (¬ Misses C.eq R.eq K.eq entries.now key.now sequence.old.pairs)) }
-    ensures stem { IfOk result (λ path. IsStem C.eq R.eq K.eq entries.now key.now sequence.old.pairs path.items) }
-    ensures left { IfOk result (λ path. sequence.new.pairs ≡ outside C.eq path.items sequence.old.pairs) }
-    ensures distinct { IfOk result (λ path. HasDistinctCalls C.eq (path.items ++ sequence.new.pairs)) }
-    ensures apart { IfOk result (λ path. (rest : List (C × R)) → All (λ e. IsTrue (K.eq e.key key.now) → Parts C.eq R.eq e.path (path.items ++ rest) × Parts C.eq R.eq (path.items ++ rest) e.path) entries.now) }
-    ensures reason { IfErr result (IsReason C.eq R.eq K.eq entries.now key.now sequence.old.pairs) }
+    ensures ok { OnOk result
+        ((¬ Exists C.eq R.eq (under K.eq entries.now key.now) sequence.old.pairs)
+        × (¬ Misses C.eq R.eq (under K.eq entries.now key.now) sequence.old.pairs)) }
+    ensures stem { IfOk result (λ path.
+        IsStem C.eq R.eq (under K.eq entries.now key.now) sequence.old.pairs path.items) }
+    ensures left { IfOk result (λ path.
+        sequence.new.pairs ≡ outside C.eq path.items sequence.old.pairs) }
+    ensures distinct { IfOk result (λ path.
+        HasDistinctCalls C.eq (path.items ++ sequence.new.pairs)) }
+    ensures apart { IfOk result (λ path. (rest : List (C × R))
+        → All (λ e. IsTrue (K.eq e.key key.now)
+        → Parts C.eq R.eq e.path (path.items ++ rest)
+        × Parts C.eq R.eq (path.items ++ rest) e.path) entries.now) }
+    ensures reason { IfErr result
+        (IsReason C.eq R.eq (under K.eq entries.now key.now) sequence.old.pairs) }
 {
     let mut path = Vec::new(alloc);
     sequence.has_distinct_calls();
@@ -308,11 +357,17 @@ fn new_path<K: Eq + Hash, C: Clone + Eq + Hash, R: Ord + Drop, T>(
 ) -> Result<Vec<(C, R)>, InsertError>
     requires clones_equal { (x y : C) → C.is_clone x y → IsTrue (C.eq x y) }
     requires tree { IsTree C.eq R.eq K.eq entries.now }
-    ensures ok { OnOk result ((¬ Exists C.eq R.eq K.eq entries.now key.now sequence.pairs) × (¬ Misses C.eq R.eq K.eq entries.now key.now sequence.pairs)) }
-    ensures path { IfOk result (λ path. IsNewPath C.eq R.eq K.eq entries.now key.now sequence.pairs path.items) }
+    ensures ok { OnOk result
+        ((¬ Exists C.eq R.eq (under K.eq entries.now key.now) sequence.pairs)
+        × (¬ Misses C.eq R.eq (under K.eq entries.now key.now) sequence.pairs)) }
+    ensures path { IfOk result (λ path.
+        IsNewPath C.eq R.eq (under K.eq entries.now key.now) sequence.pairs path.items) }
     ensures distinct { IfOk result (λ path. HasDistinctCalls C.eq path.items) }
-    ensures apart { IfOk result (λ path. All (λ e. IsTrue (K.eq e.key key.now) → Parts C.eq R.eq e.path path.items × Parts C.eq R.eq path.items e.path) entries.now) }
-    ensures reason { IfErr result (IsReason C.eq R.eq K.eq entries.now key.now sequence.pairs) }
+    ensures apart { IfOk result (λ path. All (λ e. IsTrue (K.eq e.key key.now)
+        → Parts C.eq R.eq e.path path.items
+        × Parts C.eq R.eq path.items e.path) entries.now) }
+    ensures reason { IfErr result
+        (IsReason C.eq R.eq (under K.eq entries.now key.now) sequence.pairs) }
 {
     let mut path = walk(alloc, entries, key, &mut sequence)?;
     'rest: while let Some(pair) = sequence.next() {
@@ -335,9 +390,13 @@ impl<K: Eq + Hash + Drop, C: Clone + Eq + Hash, R: Ord + Drop, T: Drop> CallTree
         value: T,
     ) -> Result<(), InsertError>
         requires { (x y : C) → C.is_clone x y → IsTrue (C.eq x y) }
-        ensures ok { OnOk result ((¬ Exists C.eq R.eq K.eq self.old key sequence.pairs) × (¬ Misses C.eq R.eq K.eq self.old key sequence.pairs)) }
-        ensures stored { OnOk result ((path : List (C × R)) × IsNewPath C.eq R.eq K.eq self.old key sequence.pairs path × IsPermutation (stored key path value ∷ self.old) self.new) }
-        ensures reason { IfErr result (IsReason C.eq R.eq K.eq self.old key sequence.pairs) }
+        ensures ok { OnOk result ((¬ Exists C.eq R.eq (under K.eq self.old key) sequence.pairs)
+            × (¬ Misses C.eq R.eq (under K.eq self.old key) sequence.pairs)) }
+        ensures stored { OnOk result ((path : List (C × R))
+            × IsNewPath C.eq R.eq (under K.eq self.old key) sequence.pairs path
+            × IsPermutation (stored key path value ∷ self.old) self.new) }
+        ensures reason { IfErr result
+            (IsReason C.eq R.eq (under K.eq self.old key) sequence.pairs) }
         ensures err { OnErr result (self.new ≡ self.old) }
     {
         let alloc = *self.entries.allocator();

@@ -13,6 +13,6 @@ returns-clause-found g c =
 
 pub returns-clause-same : goal.returns-clause-same
 returns-clause-same g c =
-    let kept = find_keeps _ (λ f f'. (f'.0.ghost_name ≡ f.0.ghost_name) × ((x : _) → g.I.Input.answers f'.0.now x ≡ g.I.Input.answers f.0.now x)) (λ f. (refl, λ x. refl)) (λ f f' f'' h k. (k.0 ∙ h.0, λ x. k.1 x ∙ h.1 x)) (λ f f' x r k. let called = k.called in (search rules, search rules)) _ _ _ _ _ _ _ _ c.find.result c.find.ensures.asked c.find.ensures.refused in
+    let kept = find_keeps _ (λ f f'. (f'.0.ghost_name ≡ f.0.ghost_name) × ((x : _) → g.I.Input.answers f'.0.now x ≡ g.I.Input.answers f.0.now x)) (λ f. (refl, λ x. refl)) (λ f f' f'' h k. (k.0 ∙ h.0, λ x. k.1 x ∙ h.1 x)) (λ f f' x r k. let called = k.called in (search rules, search rules)) _ _ _ _ _ _ c.find.result c.find.ensures.asked c.find.ensures.refused in
     let name = sym kept.0 in
     λ x. let same = kept.1 x in search (rules, kept.1)

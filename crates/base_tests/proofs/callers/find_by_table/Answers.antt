@@ -13,4 +13,4 @@ returns-clause-found g c =
 pub returns-clause-err : goal.returns-clause-err
 returns-clause-err g c =
     let m = λ (call : ℕ). slice_index c.args.table.now call in
-    Agrees-from_find_err nat_eq_equiv nat_eq_equiv _ _ _ _ m _ _ c.find.result (λ a b e. rw (exact_unsigned_eq a b e) (nat_eq_equiv.refl (m b))) (always_returns_same _ _ _ (λ a r f' k. search rules)) (c.find.ensures.answered (always_returns_same _ _ _ (λ a r f' k. search rules)))
+    Agrees-from_find_err nat_eq_equiv nat_eq_equiv _ _ m _ _ c.find.result (λ a b e. rw (exact_unsigned_eq a b e) (nat_eq_equiv.refl (m b))) (always_returns_same _ _ _ (λ a r f' k. search rules)) (c.find.ensures.answered (always_returns_same _ _ _ (λ a r f' k. search rules)))

@@ -2,4 +2,4 @@ use Rattle.base_tests.proofs.Alike.{exists_alike}
 use Rattle.base_tests.proofs.laws.exist_alike.Goals as goal
 
 pub returns : goal.returns
-returns g c = exists_alike g.met.C.Eq.laws g.met.R.Eq.laws g.met.K.Eq.laws _
+returns g c = exists_alike g.met.C.Eq.laws g.met.R.Eq.laws _ _
