@@ -6,3 +6,4 @@ pub mod Multi
 pub mod Mapped
 pub mod MultiLaws
 pub mod MappedLaws
+pub mod InputLaws

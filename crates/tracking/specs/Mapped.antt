@@ -1,19 +1,24 @@
 -- Calls and answers that are sent on through a map.
 use Rattle.std.specs.Prelude.{◌≡◌, List, map}
-use Rattle.std.specs.Borrow.{MutBor}
+use Rattle.tracking.specs.declared.mapped.MappedSink.{MappedSink}
 
 module _ {C D R Q : Type 0} where
   -- the pairs with their calls sent through f and their answers through g
   abbrev pub mapped_pairs : (C → D) → (R → Q) → List (C × R) → List (D × Q)
   mapped_pairs f g P = map (λ p. (f p.0, g p.1)) P
 
-  module _ {S : Type 0} (took : S → List (D × Q) → List D → S → Type 0) where
-    -- what a sink took through f and g: the images of the pairs and of the writes
-    abbrev pub Through : (C → D) → (R → Q) → S → List (C × R) → List C → S → Type 0
-    Through f g s P W t = took s (mapped_pairs f g P) (map f W) t
+  -- what went on through f and g, where this is what was sent: the images of the pairs and of the writes
+  abbrev pub Through : (C → D) → (R → Q) → (List (D × Q) → List D → Type 0) → List (C × R) → List C → Type 0
+  Through f g sent P W = sent (mapped_pairs f g P) (map f W)
 
-    -- the same of a sink that is lent, by a map that is kept: the loan and the map stay
-    pub record MapsTook {M : Type 0} (maps : M → C → D) (answers : M → R → Q) (s : MutBor S) (m : M) (P : List (C × R)) (W : List C) (t : MutBor S) (n : M) : Type 0 where
-      pub sent : Through (maps m) (answers m) s.now P W t.now
-      pub loan : t.ghost_name ≡ s.ghost_name
-      pub same_map : n ≡ m
+  -- the sink behind took the images of these pairs and of these writes; the loan and the map stay
+  pub record MapsTook {S M : Type 0} (took : S → S → List (D × Q) → List D → Type 0) (maps : M → C → D) (answers : M → R → Q) (s t : MappedSink S M) (P : List (C × R)) (W : List C) : Type 0 where
+    pub sent : Through (maps s.map) (answers s.map) (took s.sink.now t.sink.now) P W
+    pub loan : t.sink.ghost_name ≡ s.sink.ghost_name
+    pub same_map : t.map ≡ s.map
+
+-- the sink behind was spoiled; the loan and the map stay
+pub record MapsSpoils {S M : Type 0} (spoils : S → S → Type 0) (s t : MappedSink S M) : Type 0 where
+  pub spoiled : spoils s.sink.now t.sink.now
+  pub loan : t.sink.ghost_name ≡ s.sink.ghost_name
+  pub same_map : t.map ≡ s.map

@@ -1,20 +1,48 @@
 -- The laws of a sink that sends each call on through a map, which the trait asks. They say nothing that a reader must
 -- believe.
-use Rattle.std.proofs.Common.{List, [], ◌++◌, map, refl, sym, subst, ◌∙◌}
+use Rattle.std.proofs.Common.{◌≡◌, Bool, ◌⊎◌, List, [], ◌∷◌, ◌++◌, map, IsTrue, refl, sym, ap, subst, ◌∙◌, inl, inr}
 use Rattle.std.proofs.lemmas.List.{map-append}
-use Rattle.std.specs.Borrow.{MutBor}
-use Rattle.tracking.specs.Mapped.{mapped_pairs, MapsTook}
+use Rattle.std.proofs.lemmas.Bool.{cases_Bool}
+use Rattle.comemo_base.specs.Sequence.{held}
+use Rattle.tracking.specs.Mapped.{mapped_pairs, MapsTook, MapsSpoils}
+use Rattle.tracking.specs.declared.mapped.MappedSink.{MappedSink}
 
-module _ {S M C D R Q : Type 0} {took : S → List (D × Q) → List D → S → Type 0} {maps : M → C → D} {answers : M → R → Q} where
-  pub maps_nothing : ((s : S) → took s [] [] s) → (s : MutBor S) (m : M) → MapsTook took maps answers s m [] [] s m
-  maps_nothing starts s m = record { sent = starts s.now; loan = refl; same_map = refl }
+-- a call is held among pairs exactly where its image is among theirs
+held-mapped : {C D R Q : Type 0} (eq : C → C → Bool) (like : D → D → Bool) (f : C → D) (g : R → Q) → ((x y : C) → like (f x) (f y) ≡ eq x y) → (P : List (C × R)) (call : C) → held like (mapped_pairs f g P) (f call) ≡ held eq P call
+held-mapped eq like f g apart [] call = refl
+held-mapped eq like f g apart (p ∷ P) call =
+    elim (cases_Bool (eq call p.0)) [
+      | inl a ↦ rw (apart call p.0, a) refl
+      | inr a ↦ rw (apart call p.0, a) (held-mapped eq like f g apart P call)
+    ]
 
-  pub maps_both : ((s t u : S) (P' Q' : List (D × Q)) (V W : List D) → took s P' V t → took t Q' W u → took s (P' ++ Q') (V ++ W) u) → (s t u : MutBor S) (m n k : M) (P P' : List (C × R)) (V W : List C) → MapsTook took maps answers s m P V t n → MapsTook took maps answers t n P' W u k → MapsTook took maps answers s m (P ++ P') (V ++ W) u k
-  maps_both joins s t u m n k P P' V W a b =
-      let later : took t.now (mapped_pairs (maps m) (answers m) P') (map (maps m) W) u.now = subst (λ x. took t.now (mapped_pairs (maps x) (answers x) P') (map (maps x) W) u.now) a.same_map b.sent in
-      let both = joins s.now t.now u.now (mapped_pairs (maps m) (answers m) P) (mapped_pairs (maps m) (answers m) P') (map (maps m) V) (map (maps m) W) a.sent later in
+module _ {S M C D R Q : Type 0} {took : S → S → List (D × Q) → List D → Type 0} {maps : M → C → D} {answers : M → R → Q} where
+  pub maps_nothing : ((s : S) → took s s [] []) → (s : MappedSink S M) → MapsTook took maps answers s s [] []
+  maps_nothing starts s = record { sent = starts s.sink.now; loan = refl; same_map = refl }
+
+  pub maps_both : ((s t u : S) (P' Q' : List (D × Q)) (V W : List D) → took s t P' V → took t u Q' W → took s u (P' ++ Q') (V ++ W)) → (s t u : MappedSink S M) (P P' : List (C × R)) (V W : List C) → MapsTook took maps answers s t P V → MapsTook took maps answers t u P' W → MapsTook took maps answers s u (P ++ P') (V ++ W)
+  maps_both joins s t u P P' V W a b =
+      let f = maps s.map in
+      let g = answers s.map in
+      let later : took t.sink.now u.sink.now (mapped_pairs f g P') (map f W) = subst (λ x. took t.sink.now u.sink.now (mapped_pairs (maps x) (answers x) P') (map (maps x) W)) a.same_map b.sent in
+      let both = joins s.sink.now t.sink.now u.sink.now (mapped_pairs f g P) (mapped_pairs f g P') (map f V) (map f W) a.sent later in
       record {
-        sent = subst (λ x. took s.now x (map (maps m) (V ++ W)) u.now) (sym (map-append (λ p. (maps m p.0, answers m p.1)) P P')) (subst (λ x. took s.now (mapped_pairs (maps m) (answers m) P ++ mapped_pairs (maps m) (answers m) P') x u.now) (sym (map-append (maps m) V W)) both);
+        sent = subst (λ x. took s.sink.now u.sink.now x (map f (V ++ W))) (sym (map-append (λ p. (f p.0, g p.1)) P P')) (subst (λ x. took s.sink.now u.sink.now (mapped_pairs f g P ++ mapped_pairs f g P') x) (sym (map-append f V W)) both);
         loan = b.loan ∙ a.loan;
         same_map = b.same_map ∙ a.same_map;
       }
+
+  module _ {holds : S → D → Bool} where
+    pub maps_keeps : ((s t : S) (P : List (D × Q)) (W : List D) (call : D) → took s t P W → IsTrue (holds s call) → IsTrue (holds t call)) → (s t : MappedSink S M) (P : List (C × R)) (W : List C) (call : C) → MapsTook took maps answers s t P W → IsTrue (holds s.sink.now (maps s.map call)) → IsTrue (holds t.sink.now (maps t.map call))
+    maps_keeps keeps s t P W call a h = subst (λ m. IsTrue (holds t.sink.now (maps m call))) (sym a.same_map) (keeps s.sink.now t.sink.now (mapped_pairs (maps s.map) (answers s.map) P) (map (maps s.map) W) (maps s.map call) a.sent h)
+
+    pub maps_held : ((s t : S) (call : D) (answer : Q) → IsTrue (holds s call) → took s t ((call, answer) ∷ []) [] → took s t [] []) → (s t : MappedSink S M) (call : C) (answer : R) → IsTrue (holds s.sink.now (maps s.map call)) → MapsTook took maps answers s t ((call, answer) ∷ []) [] → MapsTook took maps answers s t [] []
+    maps_held held_again s t call answer h a = record { sent = held_again s.sink.now t.sink.now (maps s.map call) (answers s.map answer) h a.sent; loan = a.loan; same_map = a.same_map }
+
+    pub maps_holds : (eq : C → C → Bool) (like : D → D → Bool) → ((m : M) (x y : C) → like (maps m x) (maps m y) ≡ eq x y) → ((s t : S) (P : List (D × Q)) (W : List D) (call : D) → took s t P W → IsTrue (holds t call) → IsTrue (holds s call) ⊎ IsTrue (held like P call)) → (s t : MappedSink S M) (P : List (C × R)) (W : List C) (call : C) → MapsTook took maps answers s t P W → IsTrue (holds t.sink.now (maps t.map call)) → IsTrue (holds s.sink.now (maps s.map call)) ⊎ IsTrue (held eq P call)
+    maps_holds eq like apart holds_taken s t P W call a h =
+        let was = holds_taken s.sink.now t.sink.now (mapped_pairs (maps s.map) (answers s.map) P) (map (maps s.map) W) (maps s.map call) a.sent (subst (λ m. IsTrue (holds t.sink.now (maps m call))) a.same_map h) in
+        elim was [ inl k ↦ inl k | inr k ↦ inr (sym (held-mapped eq like (maps s.map) (answers s.map) (apart s.map) P call) ∙ k) ]
+
+pub maps_spoiled : {S M C D : Type 0} (maps : M → C → D) {spoils : S → S → Type 0} {holds : S → D → Bool} → ((s t : S) (call : D) → spoils s t → holds t call ≡ holds s call) → (s t : MappedSink S M) (call : C) → MapsSpoils spoils s t → holds t.sink.now (maps t.map call) ≡ holds s.sink.now (maps s.map call)
+maps_spoiled maps {spoils} {holds} spoiled_holds s t call a = ap (λ m. holds t.sink.now (maps m call)) a.same_map ∙ spoiled_holds s.sink.now t.sink.now (maps s.map call) a.spoiled

@@ -1,7 +1,7 @@
 -- The laws of joined inputs, which the traits ask. They say nothing that a reader must believe.
 use Rattle.std.proofs.Common.{◌≡◌, Bool, IsTrue, List, [], ◌∷◌, ◌++◌, refl, sym, ap, subst}
 use Rattle.comemo_base.specs.Answers.{Respects}
-use Rattle.tracking.specs.Multi.{second_call, second_answer, part_answers, firsts, seconds}
+use Rattle.tracking.specs.Multi.{second_call, second_answer, firsts, seconds}
 use Rattle.tracking.specs.declared.multi.MultiCall.{MultiCall}
 use Rattle.tracking.specs.declared.multi.MultiCall.TheVariants as call
 use Rattle.tracking.specs.declared.multi.MultiAnswer.{MultiAnswer}
@@ -32,19 +32,20 @@ module _ {X Y : Type 0} where
   seconds-append (call.A c ∷ V) W = seconds-append V W
   seconds-append (call.B c ∷ V) W = ap (λ x. c ∷ x) (seconds-append V W)
 
-  pub part_answers_alike : {P Q : Type 0} (m m' : X → P) (n n' : Y → Q) → ((c : X) → m' c ≡ m c) → ((c : Y) → n' c ≡ n c) → (c : MultiCall X Y) → part_answers m' n' c ≡ part_answers m n c
-  part_answers_alike m m' n n' p q (call.A c) = ap (λ a. answer.A a) (p c)
-  part_answers_alike m m' n n' p q (call.B c) = ap (λ a. answer.B a) (q c)
+  -- what holds of the calls of either part
+  pub by_each : (T : MultiCall X Y → Type 0) → ((c : X) → T (call.A c)) → ((c : Y) → T (call.B c)) → (x : MultiCall X Y) → T x
+  by_each T p q (call.A c) = p c
+  by_each T p q (call.B c) = q c
 
   -- answers that tell no equal calls apart do so at the second part
   pub second_respects : {P Q : Type 0} (eq : MultiCall X Y → MultiCall X Y → Bool) (same : MultiAnswer P Q → MultiAnswer P Q → Bool) (m : MultiCall X Y → MultiAnswer P Q) (n : Y → Q) → Respects eq same m → ((c : Y) → m (second_call c) ≡ second_answer (n c)) → Respects (λ c d. eq (second_call c) (second_call d)) (λ a b. same (second_answer a) (second_answer b)) n
   second_respects eq same m n respects second c d h = subst (λ b. IsTrue (same (second_answer (n c)) b)) (second d) (subst (λ a. IsTrue (same a (m (second_call d)))) (second c) (respects (second_call c) (second_call d) h))
 
-  module _ {S T : Type 0} {did : S → List X → S → Type 0} {does : T → List Y → T → Type 0}
-      (joins : (s t u : S) (V W : List X) → did s V t → did t W u → did s (V ++ W) u)
-      (joined : (s t u : T) (V W : List Y) → does s V t → does t W u → does s (V ++ W) u) where
-    pub both_did : (s t u : S × T) (V W : List (MultiCall X Y)) → did s.0 (firsts V) t.0 × does s.1 (seconds V) t.1 → did t.0 (firsts W) u.0 × does t.1 (seconds W) u.1 → did s.0 (firsts (V ++ W)) u.0 × does s.1 (seconds (V ++ W)) u.1
+  module _ {S T : Type 0} {did : S → S → List X → Type 0} {does : T → T → List Y → Type 0}
+      (joins : (s t u : S) (V W : List X) → did s t V → did t u W → did s u (V ++ W))
+      (joined : (s t u : T) (V W : List Y) → does s t V → does t u W → does s u (V ++ W)) where
+    pub both_did : (s t u : S × T) (V W : List (MultiCall X Y)) → did s.0 t.0 (firsts V) × does s.1 t.1 (seconds V) → did t.0 u.0 (firsts W) × does t.1 u.1 (seconds W) → did s.0 u.0 (firsts (V ++ W)) × does s.1 u.1 (seconds (V ++ W))
     both_did s t u V W a b = (
-      subst (λ x. did s.0 x u.0) (sym (firsts-append V W)) (joins s.0 t.0 u.0 (firsts V) (firsts W) a.0 b.0),
-      subst (λ x. does s.1 x u.1) (sym (seconds-append V W)) (joined s.1 t.1 u.1 (seconds V) (seconds W) a.1 b.1),
+      subst (λ x. did s.0 u.0 x) (sym (firsts-append V W)) (joins s.0 t.0 u.0 (firsts V) (firsts W) a.0 b.0),
+      subst (λ x. does s.1 u.1 x) (sym (seconds-append V W)) (joined s.1 t.1 u.1 (seconds V) (seconds W) a.1 b.1),
     )

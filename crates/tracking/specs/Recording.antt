@@ -12,10 +12,16 @@ pub record Recording (C R : Type 0) : Type 0 where
   pub whole : Bool
 
 -- t is s after it took these pairs and these writes
-pub record Took {C R : Type 0} (eq : C → C → Bool) (s : Recording C R) (P : List (C × R)) (W : List C) (t : Recording C R) : Type 0 where
+pub record Took {C R : Type 0} (eq : C → C → Bool) (s t : Recording C R) (P : List (C × R)) (W : List C) : Type 0 where
   pub pairs : t.pairs ≡ absorbed eq s.pairs P
   pub writes : t.writes ≡ s.writes ++ W
   pub whole : t.whole ≡ s.whole
+
+-- t is s as it was, but spoiled
+pub record Spoiled {C R : Type 0} (s t : Recording C R) : Type 0 where
+  pub pairs : t.pairs ≡ s.pairs
+  pub writes : t.writes ≡ s.writes
+  pub whole : t.whole ≡ false
 
 -- the answers agree with a front of the pairs that isn't the whole
 abbrev pub AgreesBefore : {C R : Type 0} → (R → R → Bool) → (C → R) → List (C × R) → Type 0

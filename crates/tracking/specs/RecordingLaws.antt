@@ -1,15 +1,62 @@
 -- The laws of a recording as a sink, which the trait asks. They say nothing that a reader must believe.
-use Rattle.std.proofs.Common.{Bool, List, [], ◌++◌, refl, sym, ap, ◌∙◌, append_assoc, append-nil}
-use Rattle.comemo_base.specs.Sequence.{absorbed}
-use Rattle.comemo_base.proofs.Pairs.{absorbed-append}
-use Rattle.tracking.specs.Recording.{Recording, Took}
+use Rattle.std.proofs.Common.{◌≡◌, Bool, true, false, cond, ◌||◌, ◌⊎◌, List, [], ◌∷◌, ◌++◌, IsTrue, refl, sym, ap, ◌∙◌, inl, inr, append_assoc, append-nil}
+use Rattle.std.proofs.lemmas.Bool.{cases_Bool}
+use Rattle.comemo_base.specs.Sequence.{held, absorbed}
+use Rattle.comemo_base.proofs.Pairs.{absorbed-append, held-push}
+use Rattle.tracking.specs.Recording.{Recording, Took, Spoiled}
 
-pub took_nothing : {C R : Type 0} (eq : C → C → Bool) (s : Recording C R) → Took eq s [] [] s
-took_nothing eq s = record { pairs = refl; writes = sym (append-nil s.writes); whole = refl }
+or_cases : (a b : Bool) → (a || b) ≡ true → (a ≡ true) ⊎ (b ≡ true)
+or_cases true b h = inl refl
+or_cases false b h = inr h
 
-pub took_both : {C R : Type 0} (eq : C → C → Bool) (s t u : Recording C R) (P Q : List (C × R)) (V W : List C) → Took eq s P V t → Took eq t Q W u → Took eq s (P ++ Q) (V ++ W) u
-took_both eq s t u P Q V W a b = record {
-  pairs = b.pairs ∙ ap (λ x. absorbed eq x Q) a.pairs ∙ absorbed-append eq s.pairs P Q;
-  writes = b.writes ∙ ap (λ x. x ++ W) a.writes ∙ append_assoc s.writes V W;
-  whole = b.whole ∙ a.whole;
-}
+module _ {C R : Type 0} (eq : C → C → Bool) where
+  held-cond : (b : Bool) (ps : List (C × R)) (q : C × R) (call : C) → held eq ps call ≡ true → held eq (cond b ps (ps ++ q ∷ [])) call ≡ true
+  held-cond true ps q call h = h
+  held-cond false ps q call h = held-push eq ps q.0 q.1 call ∙ ap (λ b. b || eq call q.0) h
+
+  -- what is held stays held
+  pub held-absorbed : (ps qs : List (C × R)) (call : C) → held eq ps call ≡ true → held eq (absorbed eq ps qs) call ≡ true
+  held-absorbed ps [] call h = h
+  held-absorbed ps (q ∷ qs) call h = held-absorbed (cond (held eq ps q.0) ps (ps ++ q ∷ [])) qs call (held-cond (held eq ps q.0) ps q call h)
+
+  held-head : (q : C × R) (qs : List (C × R)) (call : C) → eq call q.0 ≡ true → held eq (q ∷ qs) call ≡ true
+  held-head q qs call e = rw e refl
+
+  held-tail : (q : C × R) (qs : List (C × R)) (call : C) → held eq qs call ≡ true → held eq (q ∷ qs) call ≡ true
+  held-tail q qs call h = elim (cases_Bool (eq call q.0)) [ inl a ↦ rw a refl | inr a ↦ rw a h ]
+
+  cond-held : (b : Bool) (ps : List (C × R)) (q : C × R) (qs : List (C × R)) (call : C) → held eq (cond b ps (ps ++ q ∷ [])) call ≡ true → (held eq ps call ≡ true) ⊎ (held eq (q ∷ qs) call ≡ true)
+  cond-held true ps q qs call h = inl h
+  cond-held false ps q qs call h =
+      elim (or_cases (held eq ps call) (eq call q.0) (sym (held-push eq ps q.0 q.1 call) ∙ h)) [ inl a ↦ inl a | inr a ↦ inr (held-head q qs call a) ]
+
+  -- what is held was held before, or is among what was taken
+  pub absorbed-held : (ps qs : List (C × R)) (call : C) → held eq (absorbed eq ps qs) call ≡ true → (held eq ps call ≡ true) ⊎ (held eq qs call ≡ true)
+  absorbed-held ps [] call h = inl h
+  absorbed-held ps (q ∷ qs) call h =
+      elim (absorbed-held (cond (held eq ps q.0) ps (ps ++ q ∷ [])) qs call h) [
+        | inl a ↦ cond-held (held eq ps q.0) ps q qs call a
+        | inr a ↦ inr (held-tail q qs call a)
+      ]
+
+  pub took_nothing : (s : Recording C R) → Took eq s s [] []
+  took_nothing s = record { pairs = refl; writes = sym (append-nil s.writes); whole = refl }
+
+  pub took_both : (s t u : Recording C R) (P Q : List (C × R)) (V W : List C) → Took eq s t P V → Took eq t u Q W → Took eq s u (P ++ Q) (V ++ W)
+  took_both s t u P Q V W a b = record {
+    pairs = b.pairs ∙ ap (λ x. absorbed eq x Q) a.pairs ∙ absorbed-append eq s.pairs P Q;
+    writes = b.writes ∙ ap (λ x. x ++ W) a.writes ∙ append_assoc s.writes V W;
+    whole = b.whole ∙ a.whole;
+  }
+
+  pub took_keeps : (s t : Recording C R) (P : List (C × R)) (W : List C) (call : C) → Took eq s t P W → IsTrue (held eq s.pairs call) → IsTrue (held eq t.pairs call)
+  took_keeps s t P W call a h = ap (λ ps. held eq ps call) a.pairs ∙ held-absorbed s.pairs P call h
+
+  pub took_held : (s t : Recording C R) (call : C) (answer : R) → IsTrue (held eq s.pairs call) → Took eq s t ((call, answer) ∷ []) [] → Took eq s t [] []
+  took_held s t call answer h a = record { pairs = a.pairs ∙ ap (λ b. cond b s.pairs (s.pairs ++ (call, answer) ∷ [])) h; writes = a.writes; whole = a.whole }
+
+  pub took_holds : (s t : Recording C R) (P : List (C × R)) (W : List C) (call : C) → Took eq s t P W → IsTrue (held eq t.pairs call) → IsTrue (held eq s.pairs call) ⊎ IsTrue (held eq P call)
+  took_holds s t P W call a h = absorbed-held s.pairs P call (ap (λ ps. held eq ps call) (sym a.pairs) ∙ h)
+
+  pub spoiled_held : (s t : Recording C R) (call : C) → Spoiled s t → held eq t.pairs call ≡ held eq s.pairs call
+  spoiled_held s t call a = ap (λ ps. held eq ps call) a.pairs

@@ -1,5 +1,5 @@
 -- What a call sends to a sink.
-use Rattle.std.specs.Prelude.{Bool, List, [], ◌∷◌, Option, Some, None, IsTrue}
+use Rattle.std.specs.Prelude.{◌≡◌, Bool, List, [], ◌∷◌, ◌++◌, Option, Some, None, IsTrue}
 
 -- the pairs that a call sends: its own, where it has an answer
 abbrev pub sent_pairs : {C R : Type 0} → C → Option R → List (C × R)
@@ -11,9 +11,18 @@ abbrev pub sent_writes : {C R : Type 0} → C → Option R → List C
 sent_writes call None = call ∷ []
 sent_writes call (Some answer) = []
 
--- a read had this answer, which is the map's, and its pair went to the sink, up to equality of answers
-pub record Asks {C R S : Type 0} (same : R → R → Bool) (took : S → List (C × R) → List C → S → Type 0) (m : C → R) (s : S) (call : C) (answer : R) (t : S) : Type 0 where
+-- a read had this answer, which is the map's, and its pair is what went to a sink, up to equality of answers
+pub record Asks {C R : Type 0} (same : R → R → Bool) (m : C → R) (call : C) (answer : R) (went : List (C × R) → List C → Type 0) : Type 0 where
   pub gives : IsTrue (same (m call) answer)
   pub noted : R
   pub alike : IsTrue (same (m call) noted)
-  pub sent : took s ((call, noted) ∷ []) [] t
+  pub sent : went ((call, noted) ∷ []) []
+
+-- the sink took a beginning of these pairs, and then was spoiled
+pub record BreaksOff {S C R : Type 0} (took : S → S → List (C × R) → List C → Type 0) (spoils : S → S → Type 0) (s t : S) (pairs : List (C × R)) : Type 0 where
+  pub front : List (C × R)
+  pub rest : List (C × R)
+  pub parts : pairs ≡ front ++ rest
+  pub mid : S
+  pub taken : took s mid front []
+  pub spoiled : spoils mid t

@@ -4,14 +4,14 @@ ghost use Rattle.std.proofs.Common.{rules};
 
 use crate::multi::{MultiAnswer, MultiCall};
 use crate::track::{Track, Tracked};
-use std::alloc::AllocError;
+use std::alloc::{AllocError, Global};
 
 /// Views joined: two tracked values as one.
 ///
 /// Each call and its answer are a part's, as those of `Multi` are. What is joined is tracked itself, so that a run can be
 /// handed it by one view. It takes no memory. A part may be two values itself, but the checker does not cover a run of a
-/// function of such parts yet: more than two are a struct of a user's own, with its calls and its `Track`. This project's own: comemo's functions take their tracked arguments side by
-/// side.
+/// function of such parts yet: more than two are a struct of a user's own, with its calls and its `Track`. This project's
+/// own: comemo's functions take their tracked arguments side by side.
 #[derive(Drop)]
 pub struct Both<'a, A, B> {
     pub first: Tracked<'a, A>,
@@ -29,34 +29,36 @@ impl<'a, A: Track, B: Track> Track for Both<'a, A, B> {
 
     ghost answers = { λ s. part_answers (A.answers s.first) (B.answers s.second) };
 
-    ghost alike = { λ s. by_parts _ (A.alike s.first) (B.alike s.second) (λ c d h. Prim.search rules) (λ c d h. Prim.search rules) };
+    ghost alike = { λ s. by_parts _ (A.alike s.first) (B.alike s.second)
+        (λ c d h. Prim.search rules) (λ c d h. Prim.search rules) };
 
-    ghost clones = { by_answers _ A.clones B.clones (λ a b h. Prim.search rules) (λ a b h. Prim.search rules) };
+    ghost clones = { by_answers _ A.clones B.clones
+        (λ a b h. Prim.search rules) (λ a b h. Prim.search rules) };
 
     fn ask(
         &self,
         call: &MultiCall<A::Call, B::Call>,
     ) -> Result<MultiAnswer<A::Answer, B::Answer>, AllocError> {
         match call {
-            MultiCall::A(call) => Ok(MultiAnswer::A(self.first.fork().call(call)?)),
-            MultiCall::B(call) => Ok(MultiAnswer::B(self.second.fork().call(call)?)),
+            MultiCall::A(call) => Ok(MultiAnswer::A(self.first.read(call)?)),
+            MultiCall::B(call) => Ok(MultiAnswer::B(self.second.read(call)?)),
         }
     }
 }
 
-/// What a view of two values gives: views of the parts, which take no memory.
+/// What a view of two values gives: views of the parts, which take no memory today.
 impl<'a, 'b, A: Track, B: Track> Tracked<'a, Both<'b, A, B>> {
     /// A view of the first value.
-    pub fn first(&self) -> Tracked<'b, A>
+    pub fn first(&self, alloc: Global) -> Tracked<'b, A>
         ensures { result ≡ self.now.first }
     {
-        self.value.first.fork()
+        self.value.first.fork(alloc)
     }
 
     /// A view of the second value.
-    pub fn second(&self) -> Tracked<'b, B>
+    pub fn second(&self, alloc: Global) -> Tracked<'b, B>
         ensures { result ≡ self.now.second }
     {
-        self.value.second.fork()
+        self.value.second.fork(alloc)
     }
 }

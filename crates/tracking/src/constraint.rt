@@ -3,7 +3,7 @@ ghost use Rattle.std.specs.Prelude.{◌≡◌, ◌↔◌, ◌&&◌, [], ◌∷�
 ghost use Rattle.std.specs.List.{All};
 ghost use Rattle.comemo_base.specs.Sequence.{held, absorbed};
 ghost use Rattle.comemo_base.specs.Answers.{Agrees};
-ghost use Rattle.tracking.specs.Recording.{Took, AgreesBefore};
+ghost use Rattle.tracking.specs.Recording.{Took, Spoiled, AgreesBefore};
 ghost use Rattle.tracking.specs.Sending.{sent_pairs, sent_writes};
 
 use crate::track::{Call, Sink, Track};
@@ -80,7 +80,7 @@ impl<C: Call, R: Drop> Constraint<C, R> {
         ensures pairs { OnOk result (self.new.pairs ≡ absorbed C.eq self.old.pairs other.pairs) }
         ensures writes { OnOk result (self.new.writes ≡ self.old.writes ++ other.writes) }
         ensures whole { OnOk result (self.new.whole ≡ (self.old.whole && other.whole)) }
-        ensures err { OnErr result ((self.new.pairs ≡ self.old.pairs) × (self.new.writes ≡ self.old.writes) × (self.new.whole ≡ false)) }
+        ensures err { OnErr result (Spoiled self.old self.new) }
     {
         let Constraint { reads, whole } = other;
         reads.has_distinct_calls();
@@ -97,7 +97,8 @@ impl<C: Call, R: Clone + Ord> Constraint<C, R> {
     /// An error comes only where the value refused an answer, and the answers before it agreed. It takes the memory of the
     /// answers. comemo's `Constraint::validate`, which can't be refused.
     pub fn validate<T: Track<Call = C, Answer = R>>(&self, value: &T) -> Result<bool, AllocError>
-        ensures ok { IfOk result (λ valid. IsTrue valid ↔ Agrees R.eq (T.answers value.now) self.now.pairs) }
+        ensures ok { IfOk result
+            (λ valid. IsTrue valid ↔ Agrees R.eq (T.answers value.now) self.now.pairs) }
         ensures err { OnErr result (AgreesBefore R.eq (T.answers value.now) self.now.pairs) }
     {
         for slot in self.reads.slots() {
@@ -116,26 +117,33 @@ impl<C: Call, R: Clone + Ord> Sink for Constraint<C, R> {
 
     type Answer = R;
 
-    ghost use Rattle.tracking.specs.RecordingLaws.{took_nothing, took_both};
+    ghost use Rattle.tracking.specs.RecordingLaws.{took_nothing, took_both, took_keeps, took_held, took_holds, spoiled_held};
 
-    ghost took = { λ s P W t. Took C.eq s P W t };
+    ghost took = { Took C.eq };
 
-    ghost spoils = { λ s t. t.whole ≡ false };
+    ghost spoils = { Spoiled };
 
     ghost holds = { λ s call. held C.eq s.pairs call };
 
-    ghost starts = { λ s. took_nothing C.eq s };
+    ghost starts = { took_nothing C.eq };
 
-    ghost joins = { λ s t u P Q V W a b. took_both C.eq s t u P Q V W a b };
+    ghost joins = { took_both C.eq };
 
-    ghost ends = { λ s t u P V a b. b };
+    ghost keeps = { took_keeps C.eq };
+
+    ghost held_again = { took_held C.eq };
+
+    ghost holds_taken = { took_holds C.eq };
+
+    ghost spoiled_holds = { spoiled_held C.eq };
 
     fn emit(&mut self, call: C, answer: Option<R>) -> Result<bool, AllocError>
         requires answered { is_none answer ≡ C.is_write call }
         requires reads { C.is_write call ≡ false }
-        ensures ok { OnOk result (Took C.eq self.old (sent_pairs call answer) (sent_writes call answer) self.new) }
+        ensures ok { OnOk result
+            (Took C.eq self.old self.new (sent_pairs call answer) (sent_writes call answer)) }
         ensures new { IfOk result (λ new. new ≡ not (held C.eq self.old.pairs call)) }
-        ensures err { OnErr result (Took C.eq self.old [] [] self.new) }
+        ensures err { OnErr result (Took C.eq self.old self.new [] []) }
     {
         match answer {
             Some(answer) => self.reads.insert(call, answer),

@@ -1,11 +1,10 @@
 //! Inputs of memoized functions: a key, by which entries are told apart, and calls, whose answers they are looked up by.
-ghost use Rattle.std.specs.Prelude.{◌≡◌, [], ◌∷◌, ◌++◌, List, false, IsTrue, IfOk, option_map, refl};
+ghost use Rattle.std.specs.Prelude.{◌≡◌, [], ◌++◌, List, false, IsTrue, IfOk, refl};
 ghost use Rattle.std.proofs.Common.{◌∙◌, ap};
 ghost use Rattle.comemo_base.specs.Answers.{Respects};
-ghost use Rattle.comemo_base.specs.Lookup.{FindsAgreeingPath};
+ghost use Rattle.tracking.specs.InputLaws.{equal_if_one};
 
 use crate::track::{Call, Track, Tracked};
-use comemo_base::CallTree;
 use std::alloc::AllocError;
 use std::hash::Hash;
 use std::marker::Model;
@@ -13,8 +12,8 @@ use std::marker::Model;
 /// An input of a memoized function.
 ///
 /// What isn't tracked of it is its key; what is tracked answers calls. A contract knows what was done to an input by
-/// `did s W t`: t is s after the writes W, and with no writes it answers as s does. comemo's `Input`, with keys and
-/// answers themselves, which can be refused.
+/// `did s t W`: t is s after the writes W, which change the answer of no read, nor the key. comemo's `Input`, with keys
+/// and answers themselves, which can be refused.
 pub trait Input {
     type Call: Call;
 
@@ -29,7 +28,7 @@ pub trait Input {
     ghost answers: { Self → Self.Call → Self.Answer };
 
     // t is s after these writes, in order
-    ghost did: { Self → List Self.Call → Self → Type 0 };
+    ghost did: { Self → Self → List Self.Call → Type 0 };
 
     /// The key, cloned. An error says that there was no memory for it.
     fn key(&self) -> Result<Self::Key, AllocError>
@@ -38,23 +37,28 @@ pub trait Input {
     /// The answer to a read. An error says that there was no memory for it.
     fn call(&mut self, call: &Self::Call) -> Result<Self::Answer, AllocError>
         requires { Self.Call.is_write call.now ≡ false }
-        ensures answer { IfOk result (λ answer. IsTrue (Self.Answer.eq (answers self.old call.now) answer)) }
-        ensures same { did self.old [] self.new };
+        ensures answer { IfOk result
+            (λ answer. IsTrue (Self.Answer.eq (answers self.old call.now) answer)) }
+        ensures same { did self.old self.new [] };
 
     // equal calls have equal answers
     ghost alike: { (s : Self) → Respects Self.Call.eq Self.Answer.eq (answers s) };
 
     // nothing done is no write
-    ghost starts: { (s : Self) → did s [] s };
+    ghost starts: { (s : Self) → did s s [] };
 
     // what is done in two parts is done
-    ghost joins: { (s t u : Self) (V W : List Self.Call) → did s V t → did t W u → did s (V ++ W) u };
+    ghost joins: { (s t u : Self) (V W : List Self.Call)
+        → did s t V → did t u W → did s u (V ++ W) };
 
-    // no write changes an answer
-    ghost keeps: { (s t : Self) (W : List Self.Call) → did s W t → (call : Self.Call) → answers t call ≡ answers s call };
+    // no write changes the answer of a read
+    ghost keeps: { (s t : Self) (W : List Self.Call)
+        → did s t W → (call : Self.Call) → Self.Call.is_write call ≡ false
+        → IsTrue (Self.Answer.eq (answers s call) (answers t call)) };
 
     // nor the key
-    ghost keeps_key: { (s t : Self) (W : List Self.Call) → did s W t → key_of t ≡ key_of s };
+    ghost keeps_key: { (s t : Self) (W : List Self.Call)
+        → did s t W → IsTrue (Self.Key.eq (key_of s) (key_of t)) };
 }
 
 /// A key joined with a view: the input of a function of one argument that isn't tracked and one that is. Its calls are
@@ -81,7 +85,7 @@ impl<'a, K: Clone + Eq + Hash, T: Track> Input for Keyed<'a, K, T> {
 
     ghost answers = { λ s. T.answers s.view };
 
-    ghost did = { λ s _ t. (t.key ≡ s.key) × (t.view ≡ s.view) };
+    ghost did = { λ s t _. (t.key ≡ s.key) × (t.view ≡ s.view) };
 
     ghost alike = { λ s. T.alike s.view };
 
@@ -89,16 +93,17 @@ impl<'a, K: Clone + Eq + Hash, T: Track> Input for Keyed<'a, K, T> {
 
     ghost joins = { λ s t u V W a b. (b.0 ∙ a.0, b.1 ∙ a.1) };
 
-    ghost keeps = { λ s t W a call. ap (λ x. T.answers x call) a.1 };
+    ghost keeps = { λ s t W a call reads. equal_if_one T.Answer.Eq.laws _ _
+        (ap (λ view. T.answers view call) a.1) };
 
-    ghost keeps_key = { λ s t W a. a.0 };
+    ghost keeps_key = { λ s t W a. equal_if_one K.Eq.laws _ _ a.0 };
 
     fn key(&self) -> Result<K, AllocError> {
         self.key.clone()
     }
 
     fn call(&mut self, call: &T::Call) -> Result<T::Answer, AllocError> {
-        self.view.call(call)
+        self.view.read(call)
     }
 }
 
@@ -117,7 +122,7 @@ impl<'a, T: Track> Input for Tracked<'a, T> {
 
     ghost answers = { λ s. T.answers s };
 
-    ghost did = { λ s _ t. t ≡ s };
+    ghost did = { λ s t _. t ≡ s };
 
     ghost alike = { λ s. T.alike s };
 
@@ -125,7 +130,8 @@ impl<'a, T: Track> Input for Tracked<'a, T> {
 
     ghost joins = { λ s t u V W a b. b ∙ a };
 
-    ghost keeps = { λ s t W a call. ap (λ x. T.answers x call) a };
+    ghost keeps = { λ s t W a call reads. equal_if_one T.Answer.Eq.laws _ _
+        (ap (λ view. T.answers view call) a) };
 
     ghost keeps_key = { λ _ _ _ _. refl };
 
@@ -134,7 +140,7 @@ impl<'a, T: Track> Input for Tracked<'a, T> {
     }
 
     fn call(&mut self, call: &T::Call) -> Result<T::Answer, AllocError> {
-        self.call(call)
+        self.read(call)
     }
 }
 
@@ -153,7 +159,7 @@ impl<'a, T: Track> Input for &mut Tracked<'a, T> {
 
     ghost answers = { λ s. T.answers s.now };
 
-    ghost did = { λ s _ t. (t.now ≡ s.now) × (t.ghost_name ≡ s.ghost_name) };
+    ghost did = { λ s t _. (t.now ≡ s.now) × (t.ghost_name ≡ s.ghost_name) };
 
     ghost alike = { λ s. T.alike s.now };
 
@@ -161,7 +167,8 @@ impl<'a, T: Track> Input for &mut Tracked<'a, T> {
 
     ghost joins = { λ s t u V W a b. (b.0 ∙ a.0, b.1 ∙ a.1) };
 
-    ghost keeps = { λ s t W a call. ap (λ x. T.answers x call) a.0 };
+    ghost keeps = { λ s t W a call reads. equal_if_one T.Answer.Eq.laws _ _
+        (ap (λ view. T.answers view call) a.0) };
 
     ghost keeps_key = { λ s t W a. refl };
 
@@ -170,8 +177,7 @@ impl<'a, T: Track> Input for &mut Tracked<'a, T> {
     }
 
     fn call(&mut self, call: &T::Call) -> Result<T::Answer, AllocError> {
-        let mut view = self.fork();
-        view.call(call)
+        (**self).read(call)
     }
 }
 
@@ -204,7 +210,7 @@ impl<T: Clone + Eq + Hash> Input for Hashed<T> {
 
     ghost answers = { λ _ _. tt };
 
-    ghost did = { λ s _ t. t ≡ s };
+    ghost did = { λ s t _. t ≡ s };
 
     ghost alike = { λ _ _ _ _. refl };
 
@@ -212,9 +218,9 @@ impl<T: Clone + Eq + Hash> Input for Hashed<T> {
 
     ghost joins = { λ s t u V W a b. b ∙ a };
 
-    ghost keeps = { λ _ _ _ _ _. refl };
+    ghost keeps = { λ _ _ _ _ _ _. refl };
 
-    ghost keeps_key = { λ s t W a. a };
+    ghost keeps_key = { λ s t W a. equal_if_one T.Eq.laws _ _ a };
 
     fn key(&self) -> Result<T, AllocError> {
         self.0.clone()
@@ -223,31 +229,4 @@ impl<T: Clone + Eq + Hash> Input for Hashed<T> {
     fn call(&mut self, _call: &()) -> Result<(), AllocError> {
         Ok(())
     }
-}
-
-/// The path under a key of a tree that an input's answers agree with, cloned, with its value.
-///
-/// The tree's calls are reads, so none is kept from the input as a write.
-pub fn find_agreeing<'a, K: Clone + Eq + Hash, In: Input, T>(
-    tree: &'a CallTree<K, In::Call, In::Answer, T>,
-    key: &K,
-    input: &mut In,
-) -> Result<Option<(Vec<(In::Call, In::Answer)>, &'a T)>, AllocError>
-    requires { (x y : In.Answer) → In.Answer.is_clone x y → IsTrue (In.Answer.eq x y) }
-    ensures same { In.did input.old [] input.new }
-    ensures found { IfOk result (λ found. FindsAgreeingPath In.Call.eq In.Answer.eq K.eq tree.now key.now (In.answers input.old) (option_map (λ p. (p.0.items, p.1.now)) found)) }
-{
-    tree.find(
-        key,
-        &mut |call: &In::Call| -> Result<In::Answer, AllocError>
-            ensures answer { IfOk result (λ answer. IsTrue (In.Answer.eq (In.answers input.entry.now call.now) answer)) }
-            ensures same { In.did input.entry.now [] input.exit.now }
-            ensures name { input.exit.ghost_name ≡ input.entry.ghost_name }
-        {
-            if call.is_mutable() {
-                return Err(AllocError);
-            }
-            input.call(call)
-        },
-    )
 }

@@ -14,4 +14,4 @@ pub use constraint::Constraint;
 pub use input::{Hashed, Input, Keyed};
 pub use mapped::{CallMap, MappedSink};
 pub use multi::{First, Multi, MultiAnswer, MultiCall, Second};
-pub use track::{Call, Sink, Top, Track, Tracked, TrackedWith};
+pub use track::{Breaking, Call, Sink, Top, Track, Tracked, TrackedWith};

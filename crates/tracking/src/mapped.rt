@@ -35,13 +35,16 @@ pub trait CallMap {
         ensures { result ≡ maps_answer self.now answer };
 
     // reads go to reads and writes to writes
-    ghost same_kind: { (s : Self) (call : Self.From) → Self.To.is_write (maps s call) ≡ Self.From.is_write call };
+    ghost same_kind: { (s : Self) (call : Self.From)
+        → Self.To.is_write (maps s call) ≡ Self.From.is_write call };
 
     // calls are equal exactly where their images are
-    ghost apart: { (s : Self) (x y : Self.From) → Self.To.eq (maps s x) (maps s y) ≡ Self.From.eq x y };
+    ghost apart: { (s : Self) (x y : Self.From)
+        → Self.To.eq (maps s x) (maps s y) ≡ Self.From.eq x y };
 
     // answers are equal exactly where their images are
-    ghost answers_apart: { (s : Self) (x y : Self.FromAnswer) → Self.ToAnswer.eq (maps_answer s x) (maps_answer s y) ≡ Self.FromAnswer.eq x y };
+    ghost answers_apart: { (s : Self) (x y : Self.FromAnswer)
+        → Self.ToAnswer.eq (maps_answer s x) (maps_answer s y) ≡ Self.FromAnswer.eq x y };
 }
 
 /// A sink that sends each call and its answer on to another sink, through a map. It takes no memory of its own.
@@ -49,8 +52,10 @@ pub trait CallMap {
 /// It refuses what the sink behind it refuses. Once it is dropped, the sink behind it is known to hold what was sent.
 /// comemo's `MappedSink`.
 pub struct MappedSink<'a, S, M> {
-    sink: &'a mut S,
-    map: M,
+    /// The sink behind.
+    pub sink: &'a mut S,
+    /// What each call and its answer go through.
+    pub map: M,
 }
 
 impl<'a, S, M> MappedSink<'a, S, M> {
@@ -80,27 +85,36 @@ impl<'a, S: Sink<Call = M::To, Answer = M::ToAnswer>, M: CallMap> Sink for Mappe
 
     type Answer = M::FromAnswer;
 
-    ghost use Rattle.tracking.specs.Mapped.{MapsTook};
-    ghost use Rattle.tracking.specs.MappedLaws.{maps_nothing, maps_both};
+    ghost use Rattle.tracking.specs.Mapped.{MapsTook, MapsSpoils};
+    ghost use Rattle.tracking.specs.MappedLaws.{maps_nothing, maps_both, maps_keeps, maps_held, maps_holds, maps_spoiled};
 
-    ghost took = { λ s P W t. MapsTook S.took M.maps M.maps_answer s.sink s.map P W t.sink t.map };
+    ghost took = { MapsTook S.took M.maps M.maps_answer };
 
-    ghost spoils = { λ s t. S.spoils s.sink.now t.sink.now × (t.sink.ghost_name ≡ s.sink.ghost_name) × (t.map ≡ s.map) };
+    ghost spoils = { MapsSpoils S.spoils };
 
     ghost holds = { λ s call. S.holds s.sink.now (M.maps s.map call) };
 
-    ghost starts = { λ s. maps_nothing S.starts s.sink s.map };
+    ghost starts = { maps_nothing S.starts };
 
-    ghost joins = { λ s t u P Q V W a b. maps_both S.joins s.sink t.sink u.sink s.map t.map u.map P Q V W a b };
+    ghost joins = { maps_both S.joins };
 
-    ghost ends = { λ s t u P V a b. (S.ends s.sink.now t.sink.now u.sink.now _ _ a.sent b.0, b.1 ∙ a.loan, b.2 ∙ a.same_map) };
+    ghost keeps = { maps_keeps S.keeps };
+
+    ghost held_again = { maps_held S.held_again };
+
+    ghost holds_taken = { maps_holds M.From.eq M.To.eq M.apart S.holds_taken };
+
+    ghost spoiled_holds = { maps_spoiled M.maps S.spoiled_holds };
 
     fn emit(&mut self, call: M::From, answer: Option<M::FromAnswer>) -> Result<bool, AllocError>
         requires answered { is_none answer ≡ M.From.is_write call }
         requires reads { M.From.is_write call ≡ false }
-        ensures ok { OnOk result (MapsTook S.took M.maps M.maps_answer self.old.sink self.old.map (sent_pairs call answer) (sent_writes call answer) self.new.sink self.new.map) }
-        ensures new { IfOk result (λ new. new ≡ not (S.holds self.old.sink.now (M.maps self.old.map call))) }
-        ensures err { OnErr result (MapsTook S.took M.maps M.maps_answer self.old.sink self.old.map [] [] self.new.sink self.new.map) }
+        ensures ok { OnOk result (MapsTook S.took M.maps M.maps_answer self.old self.new
+            (sent_pairs call answer) (sent_writes call answer)) }
+        ensures new { IfOk result
+            (λ new. new ≡ not (S.holds self.old.sink.now (M.maps self.old.map call))) }
+        ensures err { OnErr result
+            (MapsTook S.took M.maps M.maps_answer self.old self.new [] []) }
     {
         let call = self.map.map(call);
         let answer = match answer {
@@ -125,8 +139,9 @@ impl<'a, T: Track> Tracked<'a, T> {
         S: Sink<Call = M::To, Answer = M::ToAnswer>,
     >(&mut self, call: T::Call, map: M, sink: &mut S) -> Result<T::Answer, AllocError>
         requires { T.Call.is_write call ≡ false }
-        ensures ok { IfOk result (λ answer. Asks T.Answer.eq (Through S.took (M.maps map) (M.maps_answer map)) (T.answers self.old) sink.old call answer sink.new) }
-        ensures err { OnErr result (S.took sink.old [] [] sink.new) }
+        ensures ok { IfOk result (λ answer. Asks T.Answer.eq (T.answers self.old) call answer
+            (Through (M.maps map) (M.maps_answer map) (S.took sink.old sink.new))) }
+        ensures err { OnErr result (S.took sink.old sink.new [] []) }
         ensures same { self.new ≡ self.old }
     {
         let mut mapped = MappedSink::new(sink, map);

@@ -25,9 +25,11 @@ impl<A: Call, B: Call> Call for MultiCall<A, B> {
 
     ghost is_write = { by_part A.is_write B.is_write };
 
-    ghost same_kind = { by_parts _ A.same_kind B.same_kind (λ c d h. Prim.search rules) (λ c d h. Prim.search rules) };
+    ghost same_kind = { by_parts _ A.same_kind B.same_kind
+        (λ c d h. Prim.search rules) (λ c d h. Prim.search rules) };
 
-    ghost clones = { by_parts _ A.clones B.clones (λ c d h. Prim.search rules) (λ c d h. Prim.search rules) };
+    ghost clones = { by_parts _ A.clones B.clones
+        (λ c d h. Prim.search rules) (λ c d h. Prim.search rules) };
 
     fn is_mutable(&self) -> bool {
         match self {
@@ -67,7 +69,7 @@ impl Input for Multi<()> {
 
     ghost answers = { λ _ _. tt };
 
-    ghost did = { λ s _ t. t ≡ s };
+    ghost did = { λ s t _. t ≡ s };
 
     ghost alike = { λ _ _ _ _. refl };
 
@@ -75,7 +77,7 @@ impl Input for Multi<()> {
 
     ghost joins = { λ s t u V W a b. b ∙ a };
 
-    ghost keeps = { λ _ _ _ _ _. refl };
+    ghost keeps = { λ _ _ _ _ _ _. refl };
 
     ghost keeps_key = { λ _ _ _ _. refl };
 
@@ -97,23 +99,28 @@ impl<A: Input, B: Input> Input for Multi<(A, B)> {
     type Answer = MultiAnswer<A::Answer, B::Answer>;
 
     ghost use Rattle.tracking.specs.Multi.{part_answers, firsts, seconds};
-    ghost use Rattle.tracking.specs.MultiLaws.{by_parts, part_answers_alike, both_did};
+    ghost use Rattle.tracking.specs.MultiLaws.{by_each, by_parts, both_did};
 
     ghost key_of = { λ s. (A.key_of s.0.0, B.key_of s.0.1) };
 
     ghost answers = { λ s. part_answers (A.answers s.0.0) (B.answers s.0.1) };
 
-    ghost did = { λ s W t. A.did s.0.0 (firsts W) t.0.0 × B.did s.0.1 (seconds W) t.0.1 };
+    ghost did = { λ s t W. A.did s.0.0 t.0.0 (firsts W) × B.did s.0.1 t.0.1 (seconds W) };
 
-    ghost alike = { λ s. by_parts _ (A.alike s.0.0) (B.alike s.0.1) (λ c d h. Prim.search rules) (λ c d h. Prim.search rules) };
+    ghost alike = { λ s. by_parts _ (A.alike s.0.0) (B.alike s.0.1)
+        (λ c d h. Prim.search rules) (λ c d h. Prim.search rules) };
 
     ghost starts = { λ s. (A.starts s.0.0, B.starts s.0.1) };
 
     ghost joins = { λ s t u. both_did A.joins B.joins s.0 t.0 u.0 };
 
-    ghost keeps = { λ s t W a. part_answers_alike (A.answers s.0.0) (A.answers t.0.0) (B.answers s.0.1) (B.answers t.0.1) (A.keeps s.0.0 t.0.0 (firsts W) a.0) (B.keeps s.0.1 t.0.1 (seconds W) a.1) };
+    ghost keeps = { λ s t W a. by_each _
+        (A.keeps s.0.0 t.0.0 (firsts W) a.0) (B.keeps s.0.1 t.0.1 (seconds W) a.1) };
 
-    ghost keeps_key = { λ s t W a. ap (λ x. (x, B.key_of t.0.1)) (A.keeps_key s.0.0 t.0.0 (firsts W) a.0) ∙ ap (λ x. (A.key_of s.0.0, x)) (B.keeps_key s.0.1 t.0.1 (seconds W) a.1) };
+    ghost keeps_key = { λ s t W a.
+        let first = A.keeps_key s.0.0 t.0.0 (firsts W) a.0 in
+        let second = B.keeps_key s.0.1 t.0.1 (seconds W) a.1 in
+        Prim.search rules };
 
     fn key(&self) -> Result<(A::Key, B::Key), AllocError> {
         let first = self.0.0.key()?;

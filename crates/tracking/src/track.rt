@@ -1,10 +1,12 @@
 //! Tracked values, the calls that they answer, and what takes note of the calls.
-ghost use Rattle.std.specs.Prelude.{◌≡◌, [], ◌∷◌, ◌++◌, List, Bool, true, false, not, Some, is_none, IsTrue, IfOk, OnOk, OnErr, ⊤, refl};
-ghost use Rattle.std.proofs.Common.{◌∙◌};
+ghost use Rattle.std.specs.Prelude.{◌≡◌, ◌⊎◌, [], ◌∷◌, ◌++◌, List, Bool, true, false, not, Some, is_none, IsTrue, IfOk, OnOk, OnErr, ⊤, refl};
+ghost use Rattle.std.proofs.Common.{◌∙◌, inl};
 ghost use Rattle.comemo_base.specs.Answers.{Respects};
-ghost use Rattle.tracking.specs.Sending.{sent_pairs, sent_writes, Asks};
+ghost use Rattle.comemo_base.specs.Sequence.{held};
+ghost use Rattle.tracking.specs.Sending.{sent_pairs, sent_writes, Asks, BreaksOff};
+ghost use Rattle.tracking.specs.Views.{value_of, sink_of};
 
-use std::alloc::AllocError;
+use std::alloc::{AllocError, Global};
 use std::fmt;
 use std::fmt::Debug;
 use std::hash::Hash;
@@ -45,7 +47,7 @@ impl Call for () {
 
 /// What takes note of calls, as a recording does.
 ///
-/// A contract knows a sink by what it took: `took s P W t` says that t is s after it took the pairs P, each a read with
+/// A contract knows a sink by what it took: `took s t P W` says that t is s after it took the pairs P, each a read with
 /// its answer, and the writes W. comemo's `Sink`, by `&mut self`, and it can be refused memory.
 pub trait Sink {
     type Call: Call;
@@ -53,9 +55,9 @@ pub trait Sink {
     type Answer: Clone + Ord;
 
     // t is s after it took these pairs and these writes
-    ghost took: { Self → List (Self.Call × Self.Answer) → List Self.Call → Self → Type 0 };
+    ghost took: { Self → Self → List (Self.Call × Self.Answer) → List Self.Call → Type 0 };
 
-    // t is s with what it holds spoiled
+    // t is s as it was, but spoiled
     ghost spoils: { Self → Self → Type 0 };
 
     // whether a read is held, so that it is not taken again
@@ -68,22 +70,54 @@ pub trait Sink {
     fn emit(&mut self, call: Self::Call, answer: Option<Self::Answer>) -> Result<bool, AllocError>
         requires answered { is_none answer ≡ Self.Call.is_write call }
         requires reads { Self.Call.is_write call ≡ false }
-        ensures ok { OnOk result (took self.old (sent_pairs call answer) (sent_writes call answer) self.new) }
+        ensures ok { OnOk result
+            (took self.old self.new (sent_pairs call answer) (sent_writes call answer)) }
         ensures new { IfOk result (λ new. new ≡ not (holds self.old call)) }
-        ensures err { OnErr result (took self.old [] [] self.new) };
+        ensures err { OnErr result (took self.old self.new [] []) };
 
-    /// Marks what the sink holds as incomplete: a recording that is spoiled is never stored. It takes no memory.
+    /// Marks what the sink holds as incomplete, and changes nothing else: a recording that is spoiled is never stored. It
+    /// takes no memory.
     fn spoil(&mut self)
         ensures { spoils self.old self.new };
 
     // nothing taken is nothing done
-    ghost starts: { (s : Self) → took s [] [] s };
+    ghost starts: { (s : Self) → took s s [] [] };
 
     // what is taken in two parts is taken
-    ghost joins: { (s t u : Self) (P Q : List (Self.Call × Self.Answer)) (V W : List Self.Call) → took s P V t → took t Q W u → took s (P ++ Q) (V ++ W) u };
+    ghost joins: { (s t u : Self)
+        (P Q : List (Self.Call × Self.Answer)) (V W : List Self.Call)
+        → took s t P V → took t u Q W → took s u (P ++ Q) (V ++ W) };
 
-    // a sink that took something and then was spoiled is spoiled
-    ghost ends: { (s t u : Self) (P : List (Self.Call × Self.Answer)) (V : List Self.Call) → took s P V t → spoils t u → spoils s u };
+    // what is held stays held
+    ghost keeps: { (s t : Self)
+        (P : List (Self.Call × Self.Answer)) (W : List Self.Call) (call : Self.Call)
+        → took s t P W → IsTrue (holds s call) → IsTrue (holds t call) };
+
+    // a read that is held changes nothing
+    ghost held_again: { (s t : Self) (call : Self.Call) (answer : Self.Answer)
+        → IsTrue (holds s call) → took s t ((call, answer) ∷ []) [] → took s t [] [] };
+
+    // what is held was held before, or was taken
+    ghost holds_taken: { (s t : Self)
+        (P : List (Self.Call × Self.Answer)) (W : List Self.Call) (call : Self.Call)
+        → took s t P W → IsTrue (holds t call)
+        → IsTrue (holds s call) ⊎ IsTrue (held Self.Call.eq P call) };
+
+    // a sink that is spoiled holds what it held
+    ghost spoiled_holds: { (s t : Self) (call : Self.Call)
+        → spoils s t → holds t call ≡ holds s call };
+}
+
+/// What a sink is after something broke off, for contracts to cite, as `⟦<S as Breaking>⟧.breaks_off`.
+///
+/// There is nothing to implement. This project's own.
+pub trait Breaking: Sink {
+    // t is s after it took a beginning of these pairs, and then was spoiled
+    ghost breaks_off: { Self → Self → List (Self.Call × Self.Answer) → Type 0 };
+}
+
+impl<S: Sink> Breaking for S {
+    ghost breaks_off = { BreaksOff S.took S.spoils };
 }
 
 /// A sink by reference: what it is sent goes to the sink that it refers to. It takes no memory of its own.
@@ -94,7 +128,7 @@ impl<S: Sink> Sink for &mut S {
 
     type Answer = S::Answer;
 
-    ghost took = { λ s P W t. S.took s.now P W t.now × (t.ghost_name ≡ s.ghost_name) };
+    ghost took = { λ s t P W. S.took s.now t.now P W × (t.ghost_name ≡ s.ghost_name) };
 
     ghost spoils = { λ s t. S.spoils s.now t.now × (t.ghost_name ≡ s.ghost_name) };
 
@@ -104,14 +138,23 @@ impl<S: Sink> Sink for &mut S {
 
     ghost joins = { λ s t u P Q V W a b. (S.joins s.now t.now u.now P Q V W a.0 b.0, b.1 ∙ a.1) };
 
-    ghost ends = { λ s t u P V a b. (S.ends s.now t.now u.now P V a.0 b.0, b.1 ∙ a.1) };
+    ghost keeps = { λ s t P W call a h. S.keeps s.now t.now P W call a.0 h };
+
+    ghost held_again = { λ s t call answer h a. (S.held_again s.now t.now call answer h a.0, a.1) };
+
+    ghost holds_taken = { λ s t P W call a h. S.holds_taken s.now t.now P W call a.0 h };
+
+    ghost spoiled_holds = { λ s t call a. S.spoiled_holds s.now t.now call a.0 };
 
     fn emit(&mut self, call: S::Call, answer: Option<S::Answer>) -> Result<bool, AllocError>
         requires answered { is_none answer ≡ S.Call.is_write call }
         requires reads { S.Call.is_write call ≡ false }
-        ensures ok { OnOk result (S.took self.old.now (sent_pairs call answer) (sent_writes call answer) self.new.now × (self.new.ghost_name ≡ self.old.ghost_name)) }
+        ensures ok { OnOk result
+            (S.took self.old.now self.new.now (sent_pairs call answer) (sent_writes call answer)
+            × (self.new.ghost_name ≡ self.old.ghost_name)) }
         ensures new { IfOk result (λ new. new ≡ not (S.holds self.old.now call)) }
-        ensures err { OnErr result (S.took self.old.now [] [] self.new.now × (self.new.ghost_name ≡ self.old.ghost_name)) }
+        ensures err { OnErr result
+            (S.took self.old.now self.new.now [] [] × (self.new.ghost_name ≡ self.old.ghost_name)) }
     {
         (**self).emit(call, answer)
     }
@@ -155,12 +198,18 @@ impl<C: Call, R: Clone + Ord> Sink for Top<C, R> {
 
     ghost joins = { λ _ _ _ _ _ _ _ _ _. tt };
 
-    ghost ends = { λ _ _ _ _ _ _ _. tt };
+    ghost keeps = { λ _ _ _ _ _ _ h. h };
+
+    ghost held_again = { λ _ _ _ _ _ _. tt };
+
+    ghost holds_taken = { λ _ _ _ _ _ _ h. inl h };
+
+    ghost spoiled_holds = { λ _ _ _ _. refl };
 
     fn emit(&mut self, call: C, answer: Option<R>) -> Result<bool, AllocError>
         requires answered { is_none answer ≡ C.is_write call }
         requires reads { C.is_write call ≡ false }
-        ensures { IfOk result (λ new. new ≡ true) }
+        ensures { result ≡ Ok true }
     {
         let _ = (call, answer);
         Ok(true)
@@ -184,30 +233,36 @@ pub trait Track {
     /// The answer to a read. An error says that there was no memory for it.
     fn ask(&self, call: &Self::Call) -> Result<Self::Answer, AllocError>
         requires { Self.Call.is_write call.now ≡ false }
-        ensures { IfOk result (λ answer. IsTrue (Self.Answer.eq (answers self.now call.now) answer)) };
+        ensures { IfOk result
+            (λ answer. IsTrue (Self.Answer.eq (answers self.now call.now) answer)) };
 
-    /// A view of the value, through which its reads are recorded.
-    final fn track(&self) -> Tracked<'_, Self>
+    /// A view of the value, through which its reads are recorded. It takes no memory today.
+    ///
+    /// comemo's `track`.
+    final fn track(&self, alloc: Global) -> Tracked<'_, Self>
     where
         Self: Sized,
         ensures { result ≡ self.now }
     {
+        let _ = alloc;
         Tracked { value: self }
     }
 
-    /// A view of the value that sends its reads to a sink, which it holds as long as it lives. It takes no memory.
+    /// A view of the value that sends its reads to a sink, which it holds as long as it lives. It takes no memory today.
     ///
     /// comemo's `track_with`, whose result is a `Tracked` too.
     final fn track_with<'a, S: Sink<Call = Self::Call, Answer = Self::Answer>>(
         &'a self,
+        alloc: Global,
         sink: &'a mut S,
     ) -> TrackedWith<'a, Self, S>
     where
         Self: Sized,
-        ensures value { result.value.now ≡ self.now }
-        ensures sink { result.sink.now ≡ sink.old }
-        ensures same { result.sink.ghost_name ≡ sink.entry.ghost_name }
+        ensures value { value_of result ≡ self.now }
+        ensures sink { (sink_of result).now ≡ sink.old }
+        ensures same { (sink_of result).ghost_name ≡ sink.entry.ghost_name }
     {
+        let _ = alloc;
         TrackedWith { value: self, sink }
     }
 
@@ -266,8 +321,9 @@ impl<'a, T: Track> Tracked<'a, T> {
         sink: &mut S,
     ) -> Result<T::Answer, AllocError>
         requires { T.Call.is_write call ≡ false }
-        ensures ok { IfOk result (λ answer. Asks T.Answer.eq S.took (T.answers self.old) sink.old call answer sink.new) }
-        ensures err { OnErr result (S.took sink.old [] [] sink.new) }
+        ensures ok { IfOk result (λ answer. Asks T.Answer.eq (T.answers self.old) call answer
+            (S.took sink.old sink.new)) }
+        ensures err { OnErr result (S.took sink.old sink.new [] []) }
         ensures same { self.new ≡ self.old }
     {
         let answer = self.value.ask(&call)?;
@@ -277,20 +333,21 @@ impl<'a, T: Track> Tracked<'a, T> {
     }
 
     /// The answer to a read, with nothing sent: what an input that holds the view is asked by a look-up.
-    pub(crate) fn call(&mut self, call: &T::Call) -> Result<T::Answer, AllocError>
+    pub(crate) fn read(&self, call: &T::Call) -> Result<T::Answer, AllocError>
         requires { T.Call.is_write call.now ≡ false }
-        ensures answer { IfOk result (λ answer. IsTrue (T.Answer.eq (T.answers self.old call.now) answer)) }
-        ensures same { self.new ≡ self.old }
+        ensures { IfOk result
+            (λ answer. IsTrue (T.Answer.eq (T.answers self.now call.now) answer)) }
     {
         self.value.ask(call)
     }
 
-    /// Another view of the same value.
+    /// Another view of the same value. It takes no memory today.
     ///
     /// comemo's `Tracked` is `Copy`; a branch takes a view of its own.
-    pub fn fork(&self) -> Tracked<'a, T>
+    pub fn fork(&self, alloc: Global) -> Tracked<'a, T>
         ensures { result ≡ self.now }
     {
+        let _ = alloc;
         Tracked { value: self.value }
     }
 }
@@ -306,7 +363,7 @@ impl<'a, T> Debug for Tracked<'a, T> {
     }
 }
 
-/// A view of a tracked value with the sink that its reads are sent to.
+/// A view of a tracked value with the sink that its reads are sent to. Contracts see it as `value_of` and `sink_of`.
 ///
 /// It does not lend its value, nor its sink, which is its caller's again when the view is gone. It stands in the place of
 /// what comemo's `track_with` gives.
@@ -323,22 +380,25 @@ impl<'a, T: Track, S: Sink<Call = T::Call, Answer = T::Answer>> TrackedWith<'a, 
     /// then the sink is as it was.
     pub fn ask(&mut self, call: T::Call) -> Result<T::Answer, AllocError>
         requires { T.Call.is_write call ≡ false }
-        ensures ok { IfOk result (λ answer. Asks T.Answer.eq S.took (T.answers self.old.value.now) self.old.sink.now call answer self.new.sink.now) }
-        ensures err { OnErr result (S.took self.old.sink.now [] [] self.new.sink.now) }
-        ensures value { self.new.value.now ≡ self.old.value.now }
-        ensures same { self.new.sink.ghost_name ≡ self.old.sink.ghost_name }
+        ensures ok { IfOk result (λ answer.
+            Asks T.Answer.eq (T.answers (value_of self.old)) call answer
+            (S.took (sink_of self.old).now (sink_of self.new).now)) }
+        ensures err { OnErr result (S.took (sink_of self.old).now (sink_of self.new).now [] []) }
+        ensures value { value_of self.new ≡ value_of self.old }
+        ensures same { (sink_of self.new).ghost_name ≡ (sink_of self.old).ghost_name }
     {
-        self.value.track().ask(call, self.sink)
+        let mut view = Tracked { value: self.value };
+        view.ask(call, self.sink)
     }
 }
 
 /// It prints as the view without the sink does.
-impl<'a, T: Track, S> Debug for TrackedWith<'a, T, S> {
+impl<'a, T, S> Debug for TrackedWith<'a, T, S> {
     ghost use Rattle.tracking.specs.Views.{tracked_text};
 
     ghost debug_output = { λ _. Some tracked_text };
 
     fn fmt<W: fmt::Write>(&self, f: &mut fmt::Formatter<W>) -> fmt::Result {
-        Debug::fmt(&self.value.track(), f)
+        Debug::fmt(&Tracked { value: self.value }, f)
     }
 }

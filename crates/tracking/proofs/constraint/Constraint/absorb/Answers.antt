@@ -10,4 +10,4 @@ invariant_of-self g c =
 pub returns-clause-pairs : goal.returns-clause-pairs
 returns-clause-pairs g c =
     let a = c.absorb-absorbed in
-    rw (← c.self.view_is, ← c.other.view_is) (on_ok_weaker a.result (pairs-absorbed g.met.C.Eq.laws g.C.Call.is_write c.self.inside.reads c.other.inside.reads a.new.self c.self.invariant c.has_distinct_calls.ensures) a.ensures.pairs)
+    rw (← c.self.view_is, ← c.other.view_is) (on_ok_weaker a.result (pairs-absorbed g.met.C.Eq.laws g.C.Call.is_write c.self.inside.reads c.other.inside.reads a.new.self c.self.invariant c.has_distinct_calls.ensures.distinct) a.ensures.pairs)
