@@ -72,7 +72,8 @@ fn value_text(
     found: &str,
     value: Result<i32, CalcFault>,
 ) -> Result<String, AllocError>
-    ensures { IfOk result (λ text. string_bytes text ≡ found.now ++ text_of_value value ++ 10 ∷ []) }
+    ensures { IfOk result (λ text. string_bytes text
+        ≡ found.now ++ text_of_value value ++ 10 ∷ []) }
 {
     match value {
         Ok(number) => format!(in alloc; "{found}{number}\n"),

@@ -19,10 +19,11 @@ impl Command {
     /// The command that a line asks for, or `None` where it asks for nothing. The line comes without its end.
     ///
     /// `write PATH TEXT` has as PATH all up to the next blank, at least one character, and as TEXT all after that blank,
-    /// which is empty where there is none. `eval SCRIPT` and `size PATH` have all after their first blank, which may be nothing. An error says
-    /// that there was no memory for its texts. It takes time for the line's length.
+    /// which is empty where there is none. `eval SCRIPT` and `size PATH` have all after their first blank, which may be
+    /// nothing. An error says that there was no memory for its texts. It takes time for the line's length.
     pub fn parse(alloc: Global, line: &str) -> Result<Option<Command>, AllocError>
-        ensures { IfOk result (λ found. MatchOption found (IsNoCommand line.now) (λ command. IsLineOf line.now (request_of command))) }
+        ensures { IfOk result (λ found. MatchOption found (IsNoCommand line.now)
+            (λ command. IsLineOf line.now (request_of command))) }
     {
         if let Some(rest) = line.strip_prefix("write ") {
             let (path, text) = rest.split_once(' ').unwrap_or((rest, ""));

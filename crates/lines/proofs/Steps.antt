@@ -1,35 +1,27 @@
 -- One line more.
-use Rattle.std.proofs.Common.{◌≡◌, ℕ, ◌<◌, List, [], ◌∷◌, ◌++◌, length, take, Option, Some, None, Result, Ok, Err, MatchOption, MatchResult, IsErrAnd, IsUtf8, subst, sym, ap, ◌∙◌, append-nil, append_assoc}
-use Rattle.std.specs.Io.KnownBytes.{Appends, IsAtEnd}
+use Rattle.std.proofs.Common.{◌≡◌, ℕ, ◌<◌, List, [], ◌∷◌, ◌++◌, length, Option, Some, None, Result, Ok, Err, IfSome, MatchResult, IsErrAnd, IsUtf8, subst, sym, ap, append-nil, append_assoc}
+use Rattle.std.specs.Io.KnownBytes.{Appends}
 use Rattle.std.proofs.KnownBytes.{Appends-nil, Appends-trans}
 use Rattle.lines.specs.declared.fault.RunFault.{RunFault}
-use Rattle.lines.specs.declared.fault.RunFault.TheVariants.{Read, Write, Memory, NotText}
-use Rattle.lines.specs.Lines.{AreLines, AreLinesOf, IsNextLine, IsReadFault}
+use Rattle.lines.specs.Lines.{TakesLines}
 use Rattle.lines.specs.Lines.{no_line as ends}
 use Rattle.lines.specs.Answers.{Answered, answered, refused, empty_line, no_line, out_of_memory}
 use Rattle.lines.specs.Written.{AnswersLine, WritesBeginning}
-use Rattle.lines.specs.Runs.{Ran}
-use Rattle.lines.proofs.Cut.{lines_of, lines_next}
+use Rattle.lines.specs.Runs.{AnswersFront}
+use Rattle.lines.proofs.Cut.{more_lines}
 
--- lines of which the last was read
-more_of : (input : Option (List ℕ)) → (more : List (List ℕ)) × AreLinesOf input more
-more_of None = ([], tt)
-more_of (Some bytes) = lines_of bytes
+takes_none : (input : Option (List ℕ)) → TakesLines input [] input
+takes_none None = tt
+takes_none (Some bytes) = ends
 
-none_of : (input : Option (List ℕ)) → IsAtEnd input → AreLinesOf input []
-none_of None h = tt
-none_of (Some bytes) h = subst (λ b. AreLines b []) (sym h) ends
+takes_more : (a b c : Option (List ℕ)) (lines more : List (List ℕ)) → TakesLines a lines b → TakesLines b more c → TakesLines a (lines ++ more) c
+takes_more None b c lines more p q = tt
+takes_more (Some x) None c lines more p q = absurd p
+takes_more (Some x) (Some y) None lines more p q = absurd q
+takes_more (Some x) (Some y) (Some z) lines more p q = more_lines p q
 
-next_of : (old new : Option (List ℕ)) (line : List ℕ) (more : List (List ℕ)) → IsNextLine old line new → AreLinesOf new more → AreLinesOf old (line ∷ more)
-next_of None new line more next are = tt
-next_of (Some bytes) new line more ((some, is), left) are =
-    subst (λ l. AreLines bytes (l ∷ more)) (sym is) (lines_next bytes more some (subst (λ n. AreLinesOf n more) left are))
-
-pub at_some : {A : Type 0} (P : Type 0) (Q : A → Type 0) (o : Option A) (x : A) → o ≡ Some x → MatchOption o P Q → Q x
-at_some P Q o x e h = subst (λ o. MatchOption o P Q) e h
-
-pub at_none : {A : Type 0} (P : Type 0) (Q : A → Type 0) (o : Option A) → o ≡ None → MatchOption o P Q → P
-at_none P Q o e h = subst (λ o. MatchOption o P Q) e h
+pub at_some : {A : Type 0} (P : A → Type 0) (o : Option A) (x : A) → o ≡ Some x → IfSome o P → P x
+at_some P o x e h = subst (λ o. IfSome o P) e h
 
 pub failed_as : (r : Result (Unit {0}) RunFault) (fault : RunFault) → IsErrAnd r (λ e. e ≡ fault) → r ≡ Err fault
 failed_as (Ok _) fault h = absurd h
@@ -72,50 +64,16 @@ module _ {S : Type 0} (answers : S → List ℕ → List ℕ → S → Type 0) (
 
   -- ---- the loop
 
-  -- the lines that were read were answered, and the others are still to come
-  abbrev pub Progress : Option (List ℕ) → Option (List ℕ) → Option (List ℕ) → Option (List ℕ) → S → S → Type 0
-  Progress input rest before now s t =
-      (lines : List (List ℕ)) × (output : List ℕ) × ((more : List (List ℕ)) → AreLinesOf rest more → AreLinesOf input (lines ++ more))
-      × Answered answers refuses s lines output t × Appends before now output
+  pub front_none : (input before : Option (List ℕ)) (s : S) → AnswersFront answers refuses input input before before s s
+  front_none input before s = ([], [], takes_none input, no_line, Appends-nil before)
 
-  pub progress_start : (input before : Option (List ℕ)) (s : S) → Progress input input before before s s
-  progress_start input before s = ([], [], λ more are. are, no_line, Appends-nil before)
-
-  pub progress_line : (input old new before mid after : Option (List ℕ)) (s m t : S) (line asked : List ℕ) → Progress input old before mid s m
-      → IsNextLine old line new → asked ≡ line → AnswersLine answers refuses asked mid after m t (Ok tt) → Progress input new before after s t
-  progress_line input old new before mid after s m t line asked (lines, output, come, said, wrote) next e h =
+  pub front_more : (input old new before mid after : Option (List ℕ)) (s m t : S) (line asked : List ℕ) → AnswersFront answers refuses input old before mid s m
+      → TakesLines old (line ∷ []) new → asked ≡ line → AnswersLine answers refuses asked mid after m t (Ok tt) → AnswersFront answers refuses input new before after s t
+  front_more input old new before mid after s m t line asked (lines, output, taken, said, wrote) next e h =
       let (text, here, put) = subst (λ l. AnswersLine answers refuses l mid after m t (Ok tt)) e h in (
         lines ++ line ∷ [],
         output ++ text,
-        λ more are. subst (AreLinesOf input) (sym (append_assoc lines (line ∷ []) more)) (come (line ∷ more) (next_of old new line more next are)),
+        takes_more input old new lines (line ∷ []) taken next,
         answered_append s m t lines (line ∷ []) output text said here,
         Appends-trans before mid after output text wrote put,
       )
-
-  pub ran_all : (input rest before after : Option (List ℕ)) (s t : S) → Progress input rest before after s t → IsAtEnd rest → Ran answers refuses input before after s t (Ok tt)
-  ran_all input rest before after s t (lines, output, come, said, wrote) end =
-      (lines, output, subst (AreLinesOf input) (append-nil lines) (come [] (none_of rest end)), said, wrote)
-
-  pub ran_read : (input rest before after : Option (List ℕ)) (s t : S) (fault : RunFault) → Progress input rest before after s t → IsReadFault fault → Ran answers refuses input before after s t (Err fault)
-  ran_read input rest before after s t Read (lines, output, come, said, wrote) is = let (more, are) = more_of rest in (lines, more, output, come more are, said, wrote)
-  ran_read input rest before after s t Memory (lines, output, come, said, wrote) is = let (more, are) = more_of rest in (lines, more, output, come more are, said, wrote)
-  ran_read input rest before after s t Write p is = absurd is
-  ran_read input rest before after s t NotText p is = absurd is
-
-  pub ran_failed : (input rest before after : Option (List ℕ)) (s t : S) (fault : RunFault) (r : Result (Unit {0}) RunFault) → Progress input rest before after s t → IsReadFault fault
-      → IsErrAnd r (λ e. e ≡ fault) → Ran answers refuses input before after s t r
-  ran_failed input rest before after s t fault r p is failed = subst (Ran answers refuses input before after s t) (sym (failed_as r fault failed)) (ran_read input rest before after s t fault p is)
-
-  pub ran_no_text : (input old new before after : Option (List ℕ)) (s t : S) (line tested : List ℕ) → Progress input old before after s t
-      → IsNextLine old line new → tested ≡ line → (IsUtf8 tested → ⊥) → Ran answers refuses input before after s t (Err NotText)
-  ran_no_text input old new before after s t line tested (lines, output, come, said, wrote) next same bad =
-      let (more, are) = more_of new in
-      (lines, more, line, output, come (line ∷ more) (next_of old new line more next are), subst (λ l. IsUtf8 l → ⊥) same bad, said, wrote)
-
-  pub ran_write : (input old new before mid after : Option (List ℕ)) (s m t : S) (line asked : List ℕ) (fault : RunFault) (r : Result (Unit {0}) RunFault) → Progress input old before mid s m
-      → IsNextLine old line new → asked ≡ line → fault ≡ Write → AnswersLine answers refuses asked mid after m t (Err fault) → IsErrAnd r (λ e. e ≡ fault) → Ran answers refuses input before after s t r
-  ran_write input old new before mid after s m t line asked fault r (lines, output, come, said, wrote) next same e h failed =
-      let (more, are) = more_of new in
-      let (text, here, (k, part, put)) = subst (λ l. AnswersLine answers refuses l mid after m t (Err fault)) same h in
-      subst (Ran answers refuses input before after s t) (sym (failed_as r fault failed ∙ ap (λ f. Err f) e))
-      (lines, more, line, output, text, m, k, come (line ∷ more) (next_of old new line more next are), said, here, part, Appends-trans before mid after output (take k text) wrote put)

@@ -32,7 +32,7 @@ WritesFront old new bytes = (k : ℕ) × Appends old new (take k bytes)
 
 -- the program of this name, with no words, ran and ended with this status, and wrote the fault's message as far as it could
 abbrev pub RanAs : {S : Type 0} → (S → List ℕ → List ℕ → S → Type 0) → (S → List ℕ → S → Type 0)
-    → List ℕ → Option (List ℕ) → Option (List ℕ) → Option (List ℕ) → Option (List ℕ) → Option (List ℕ) → S → S → ℕ → Type 0
-RanAs answers refuses name input before after silent said s t status =
-    (outcome : Result (Unit {0}) RunFault) × Ran answers refuses input before after s t outcome
+    → List ℕ → Option (List ℕ) → Option (List ℕ) → Option (List ℕ) → Option (List ℕ) → Option (List ℕ) → Option (List ℕ) → S → S → ℕ → Type 0
+RanAs answers refuses name input left before after silent said s t status =
+    (outcome : Result (Unit {0}) RunFault) × Ran answers refuses input left before after s t outcome
     × (status ≡ status_of outcome) × WritesFront silent said (message_of name outcome)

@@ -1,6 +1,6 @@
-ghost use Rattle.std.specs.Prelude.{◌≡◌, ◌≢◌, IfOk, IfErr, IfSome, MatchOption};
-ghost use Rattle.std.specs.Io.KnownBytes.{IsAtEnd};
-ghost use Rattle.lines.specs.Lines.{without_line_end, IsNextLine, IsReadFault};
+ghost use Rattle.std.specs.Prelude.{◌≡◌, ◌≢◌, [], ◌∷◌, IfOk, IfErr, OnErr, IfSome, IfNone};
+ghost use Rattle.std.specs.Io.BufRead.{ends_with_byte};
+ghost use Rattle.lines.specs.Lines.{without_line_end, TakesLines, BeginsLine, MeetsEnd, IsReadFault};
 
 use crate::RunFault;
 use std::alloc::Global;
@@ -17,11 +17,18 @@ fn fault_of(kind: ErrorKind) -> RunFault
     }
 }
 
+/// Whether the line has its line feed.
+fn is_ended(line: &[u8]) -> bool
+    ensures { result ≡ ends_with_byte 10 line.now }
+{
+    line.last() == Some(&b'\n')
+}
+
 /// Takes the line feed at the end away, and then the carriage return before it.
 fn drop_line_end(line: &mut Vec<u8>)
     ensures { line.new.items ≡ without_line_end line.old.items }
 {
-    if line.last() == Some(&b'\n') {
+    if is_ended(line.as_slice()) {
         line.pop();
         if line.last() == Some(&b'\r') {
             line.pop();
@@ -31,22 +38,26 @@ fn drop_line_end(line: &mut Vec<u8>)
 
 /// The next line without its end, or `None` at the end of the input.
 ///
-/// Refuses with `Read` or `Memory`; then what was read of the line is lost.
+/// Refuses with `Read` or `Memory`; then what was read of the line is lost, and its line feed is not read yet.
 pub(crate) fn next_line<R: BufRead>(
     alloc: Global,
     reader: &mut R,
 ) -> Result<Option<Vec<u8>>, RunFault>
-    ensures ok { IfOk result (λ found. MatchOption found (IsAtEnd (R.remaining reader.old))
-        (λ line. IsNextLine (R.remaining reader.old) line.items (R.remaining reader.new))) }
+    ensures line { IfOk result (λ found. IfSome found
+        (λ line. TakesLines (R.remaining reader.old) (line.items ∷ []) (R.remaining reader.new))) }
+    ensures end { IfOk result (λ found. IfNone found
+        (MeetsEnd (R.remaining reader.old) (R.remaining reader.new))) }
+    ensures begun { OnErr result (BeginsLine (R.remaining reader.old) (R.remaining reader.new)) }
     ensures fault { IfErr result (λ fault. IsReadFault fault) }
 {
     let mut line = Vec::new(alloc);
     match reader.read_until(b'\n', &mut line) {
         Ok(0) => Ok(None),
-        Ok(_) => {
+        Err(error) if !is_ended(line.as_slice()) => Err(fault_of(error.kind())),
+        // A line that came whole counts, also from a read that failed: the next read shows what is wrong.
+        _ => {
             drop_line_end(&mut line);
             Ok(Some(line))
         }
-        Err(error) => Err(fault_of(error.kind())),
     }
 }

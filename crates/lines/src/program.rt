@@ -40,21 +40,22 @@ fn put_message<E: Write>(errors: &mut E, front: &str, name: &str, end: &str) -> 
 /// `errors` as `NAME: cannot read`, `NAME: cannot write`, `NAME: out of memory` or `NAME: not UTF-8`. A failure of
 /// `errors` changes nothing but what is written there. What stands after a fault, and what it costs, is that of
 /// `run`; the messages take no memory.
-pub fn start<R: BufRead + Drop, W: Write, E: Write, S: Session>(
+pub fn start<R: BufRead, W: Write, E: Write, S: Session>(
     alloc: Global,
     name: &str,
     words: &[String],
-    reader: R,
+    reader: &mut R,
     writer: &mut W,
     errors: &mut E,
     session: &mut S,
 ) -> u8
-    ensures ran { length words.now ≡ 0 → RanAs S.answers S.refuses name.now (R.remaining reader)
-        (W.contents writer.old) (W.contents writer.new)
+    ensures ran { length words.now ≡ 0 → RanAs S.answers S.refuses name.now
+        (R.remaining reader.old) (R.remaining reader.new) (W.contents writer.old) (W.contents writer.new)
         (E.contents errors.old) (E.contents errors.new) session.old session.new result }
     ensures usage { 0 < length words.now → result ≡ 2 }
     ensures usage_written { 0 < length words.now
         → WritesFront (E.contents errors.old) (E.contents errors.new) (usage_of name.now) }
+    ensures usage_keeps_reader { 0 < length words.now → reader.new ≡ reader.old }
     ensures usage_keeps_writer { 0 < length words.now → writer.new ≡ writer.old }
     ensures usage_keeps_session { 0 < length words.now → session.new ≡ session.old }
 {

@@ -35,29 +35,31 @@ fn answer_line<W: Write, S: Session>(
 /// session refuses, the line prints `out of memory` and a line feed, and the run goes on.
 ///
 /// It refuses
-/// - with `Read` or `Memory` where a line could not be read: all that the lines before it print was written, and what
-///   was read of that line is lost;
+/// - with `Read` or `Memory` where a line could not be read: all lines that were read before it were answered, and all
+///   that they print was written. What was read of that line is lost, and its line feed is not read yet;
 /// - with `NotText` where a line is not UTF-8: all that the lines before it print was written, and the session was not
 ///   asked that line;
 /// - with `Write` where what a line prints could not be written: all that the lines before it print was written, and
 ///   a beginning of what it prints. The session has answered that line.
 ///
-/// The reader is gone in each case. After 2^64 - 1 lines it gives up with `Read`, and after as many attempts at one
-/// write that a signal broke off with `Write`. It flushes nothing: a writer that buffers has to be flushed by its
-/// owner. It keeps one line in memory at a time, and takes time for the bytes read and written, and for the session's
-/// answers.
-pub fn run<R: BufRead + Drop, W: Write, S: Session>(
+/// After `NotText` and `Write` the reader stands behind that line. After 2^64 - 1 lines, all answered and written, it
+/// gives up with `Read`, and after as many attempts at one write that a signal broke off with `Write`. It flushes
+/// nothing: a writer that buffers has to be flushed by its owner. It keeps one line in memory at a time, and takes
+/// time for the bytes read and written, and for the session's answers.
+///
+/// The contract speaks of readers and writers that tell their bytes: where `R.remaining` is `None` it says nothing of
+/// which lines were read, and where `W.contents` is `None` nothing of what was written.
+pub fn run<R: BufRead, W: Write, S: Session>(
     alloc: Global,
-    reader: R,
+    reader: &mut R,
     writer: &mut W,
     session: &mut S,
 ) -> Result<(), RunFault>
-    ensures { Ran S.answers S.refuses (R.remaining reader)
+    ensures { Ran S.answers S.refuses (R.remaining reader.old) (R.remaining reader.new)
         (W.contents writer.old) (W.contents writer.new) session.old session.new result }
 {
-    let mut reader = reader;
     for _ in 0..u64::MAX {
-        let Some(line) = next_line(alloc, &mut reader)? else {
+        let Some(line) = next_line(alloc, reader)? else {
             return Ok(());
         };
         let Ok(text) = str::from_utf8(line.as_slice()) else {

@@ -1,6 +1,6 @@
 use super::*;
 use std::alloc::{AllocError, Global};
-use std::io::{Error, ErrorKind, Read, Result as IoResult, Write};
+use std::io::{BufReader, Error, ErrorKind, Read, Result as IoResult, Write};
 use std::test::Fail;
 
 /// Answers `>LINE` for each line, prints nothing for `quiet`, and has no memory for `large`.
@@ -41,6 +41,26 @@ impl Read for Broken<'_> {
             return Err(Error::from(self.1));
         }
         self.0.read(buf)
+    }
+}
+
+/// Gives its first bytes, fails once in this way, and then gives the others.
+#[derive(Drop)]
+struct Torn<'a> {
+    front: &'a [u8],
+    fault: Option<ErrorKind>,
+    back: &'a [u8],
+}
+
+impl Read for Torn<'_> {
+    fn read(&mut self, buf: &mut [u8]) -> IoResult<usize> {
+        if !self.front.is_empty() {
+            return self.front.read(buf);
+        }
+        match self.fault.take() {
+            Some(kind) => Err(Error::from(kind)),
+            None => self.back.read(buf),
+        }
     }
 }
 
@@ -112,7 +132,8 @@ fn answers_each_line(rt: HostRuntime) -> Result<(), Fail> {
     for (input, want, asked) in cases {
         let mut out: Vec<u8> = Vec::new(alloc);
         let mut echo = Echo::new(alloc);
-        assert_eq!(rt; run(alloc, input, &mut out, &mut echo), Ok(()));
+        let mut reader = input;
+        assert_eq!(rt; run(alloc, &mut reader, &mut out, &mut echo), Ok(()));
         assert_eq!(rt; out.as_slice(), want.as_bytes(), "for {input:?}");
         assert_eq!(rt; echo.asked, asked, "for {input:?}");
     }
@@ -129,12 +150,37 @@ fn a_failed_read_ends_the_run(rt: HostRuntime) -> Result<(), Fail> {
     ];
     for (kind, fault) in cases {
         let mut out: Vec<u8> = Vec::new(alloc);
-        let reader = std::io::BufReader::new(alloc, Broken(b"a\nb", kind))?;
+        let mut reader = BufReader::new(alloc, Broken(b"a\nb", kind))?;
         assert_eq!(rt;
-            run(alloc, reader, &mut out, &mut Echo::new(alloc)),
+            run(alloc, &mut reader, &mut out, &mut Echo::new(alloc)),
             Err(fault)
         );
         assert_eq!(rt; out.as_slice(), b">a\n".as_slice());
+    }
+    Ok(())
+}
+
+#[test]
+fn a_failed_read_loses_one_line(rt: HostRuntime) -> Result<(), Fail> {
+    let alloc = rt.alloc();
+    let cases = [
+        (ErrorKind::Other, RunFault::Read),
+        (ErrorKind::OutOfMemory, RunFault::Memory),
+    ];
+    for (kind, fault) in cases {
+        let torn = Torn {
+            front: b"a\nquiet\nb\nlo",
+            fault: Some(kind),
+            back: b"st\nc\n",
+        };
+        let mut reader = BufReader::new(alloc, torn)?;
+        let mut out: Vec<u8> = Vec::new(alloc);
+        let mut echo = Echo::new(alloc);
+        assert_eq!(rt; run(alloc, &mut reader, &mut out, &mut echo), Err(fault));
+        assert_eq!(rt; out.as_slice(), b">a\n>b\n".as_slice());
+        assert_eq!(rt; echo.asked, 3);
+        assert_eq!(rt; run(alloc, &mut reader, &mut out, &mut echo), Ok(()));
+        assert_eq!(rt; out.as_slice(), b">a\n>b\n>st\n>c\n".as_slice());
     }
     Ok(())
 }
@@ -144,13 +190,14 @@ fn a_line_that_is_no_text_ends_the_run(rt: HostRuntime) -> Result<(), Fail> {
     let alloc = rt.alloc();
     let mut out: Vec<u8> = Vec::new(alloc);
     let mut echo = Echo::new(alloc);
-    let input = b"a\nb\n\xff\nc\n".as_slice();
+    let mut input = b"a\nb\n\xff\nc\n".as_slice();
     assert_eq!(rt;
-        run(alloc, input, &mut out, &mut echo),
+        run(alloc, &mut input, &mut out, &mut echo),
         Err(RunFault::NotText)
     );
     assert_eq!(rt; out.as_slice(), b">a\n>b\n".as_slice());
     assert_eq!(rt; echo.asked, 2);
+    assert_eq!(rt; input, b"c\n".as_slice());
     Ok(())
 }
 
@@ -162,13 +209,14 @@ fn a_failed_write_ends_the_run(rt: HostRuntime) -> Result<(), Fail> {
         let taken = Vec::new(alloc);
         let mut full = Full { taken, room, fails };
         let mut echo = Echo::new(alloc);
-        let input = b"a\nb\nc\n".as_slice();
+        let mut input = b"a\nb\nc\n".as_slice();
         assert_eq!(rt;
-            run(alloc, input, &mut full, &mut echo),
+            run(alloc, &mut input, &mut full, &mut echo),
             Err(RunFault::Write)
         );
         assert_eq!(rt; full.taken.as_slice(), want.as_bytes());
         assert_eq!(rt; echo.asked, 2);
+        assert_eq!(rt; input, b"c\n".as_slice());
     }
     Ok(())
 }
@@ -181,8 +229,11 @@ fn a_slow_writer_gets_all(rt: HostRuntime) -> Result<(), Fail> {
         taken,
         is_ready: true,
     };
-    let input = b"a\nlarge\n".as_slice();
-    assert_eq!(rt; run(alloc, input, &mut slow, &mut Echo::new(alloc)), Ok(()));
+    let mut input = b"a\nlarge\n".as_slice();
+    assert_eq!(rt;
+        run(alloc, &mut input, &mut slow, &mut Echo::new(alloc)),
+        Ok(())
+    );
     assert_eq!(rt; slow.taken.as_slice(), b">a\nout of memory\n".as_slice());
     Ok(())
 }
@@ -205,7 +256,7 @@ fn starts_and_says_what_failed(rt: HostRuntime) -> Result<(), Fail> {
     ];
     let words: Vec<String> = Vec::new(alloc);
     for (input, kind, room, status, message) in cases {
-        let reader = std::io::BufReader::new(alloc, Broken(input, kind))?;
+        let mut reader = BufReader::new(alloc, Broken(input, kind))?;
         let taken = Vec::new(alloc);
         let mut full = Full {
             taken,
@@ -219,7 +270,7 @@ fn starts_and_says_what_failed(rt: HostRuntime) -> Result<(), Fail> {
             alloc,
             "echo",
             words,
-            reader,
+            &mut reader,
             &mut full,
             &mut errors,
             &mut echo,
@@ -239,13 +290,13 @@ fn starts_well_or_refuses_words(rt: HostRuntime) -> Result<(), Fail> {
         let mut out: Vec<u8> = Vec::new(alloc);
         let mut errors: Vec<u8> = Vec::new(alloc);
         let mut echo = Echo::new(alloc);
-        let input = b"a\n".as_slice();
+        let mut input = b"a\n".as_slice();
         let given = words.as_slice();
         let got = start(
             alloc,
             "echo",
             given,
-            input,
+            &mut input,
             &mut out,
             &mut errors,
             &mut echo,
@@ -270,13 +321,13 @@ fn a_failure_of_errors_changes_no_status(rt: HostRuntime) -> Result<(), Fail> {
     };
     let mut out: Vec<u8> = Vec::new(alloc);
     let mut echo = Echo::new(alloc);
-    let input = b"\xff".as_slice();
+    let mut input = b"\xff".as_slice();
     let given = words.as_slice();
     let got = start(
         alloc,
         "echo",
         given,
-        input,
+        &mut input,
         &mut out,
         &mut errors,
         &mut echo,

@@ -5,7 +5,7 @@ use Rattle.std.proofs.lemmas.Bool.{cases_lt}
 use Rattle.std.proofs.lemmas.List.{append_cancel_left}
 use Rattle.scripts.specs.Parts.{IsEval}
 use Rattle.scripts.specs.declared.outcome.CalcFault.{CalcFault}
-use Rattle.scripts.specs.Meaning.{Value, Fits, Means, means, PartMeans, is_number, is_bad, is_eval, Takes, ends, adds, overflows, fails, Deep, no_room, below, DeepIn, here, later}
+use Rattle.scripts.specs.Meaning.{Value, Fits, Means, means, PartMeans, is_number, is_bad, is_eval, Takes, ends, adds, overflows, fails, Deep, no_room, below, DeepIn, here, later, IsTooDeep}
 
 -- more knowledge keeps every meaning
 module _ (At Bt : List ℕ → List ℕ → Type 0) (more : (path text : List ℕ) → At path text → Bt path text) where
@@ -63,13 +63,13 @@ module _ (At : List ℕ → List ℕ → Type 0) where
     deep_in_of_height (fails {h = h} {g = g} p) limit room low = deep_here (deep_part_of_height p limit (omega arith))
 
 -- a part names at most one path
-same_path : {part p q : List ℕ} → IsEval part p → IsEval part q → p ≡ q
+pub same_path : {part p q : List ℕ} → IsEval part p → IsEval part q → p ≡ q
 same_path {p = p} {q = q} e f = append_cancel_left (codes "eval ") p q (sym e ∙ f)
 
-ok_is : {n m : ℤ} → (let v : Value = Ok n in v) ≡ Ok m → n ≡ m
+pub ok_is : {n m : ℤ} → (let v : Value = Ok n in v) ≡ Ok m → n ≡ m
 ok_is e = cc
 
-ok_is_no_err : {n : ℤ} {fault : CalcFault} → (let v : Value = Ok n in v) ≡ Err fault → ⊥
+pub ok_is_no_err : {n : ℤ} {fault : CalcFault} → (let v : Value = Ok n in v) ≡ Err fault → ⊥
 ok_is_no_err e = cc
 
 -- where at most one text stands at each path, a script means at most one thing
@@ -138,3 +138,7 @@ module _ (At : List ℕ → List ℕ → Type 0) (one : (path text other : List 
     not_deep_in (overflows {sum = sum} p over) limit low (later p' fits' d) = over (subst (λ n. Fits (sum +ℤ n)) (sym (ok_is (one_part_meaning p p').0)) fits')
     not_deep_in (fails {h = h} {g = g} p) limit low (here {path = path} {text = text} is at d) = not_deep_part p limit (omega arith) path text is at d
     not_deep_in (fails p) limit low (later p' fits' d) = ok_is_no_err (sym (one_part_meaning p p').0)
+
+  -- what goes deeper than the limit is higher than it, or means nothing
+  pub deep_is_too_deep : {script : List ℕ} {limit : ℕ} → Deep At script limit → IsTooDeep At script limit
+  deep_is_too_deep {limit = limit} d v h m low = not_deep m limit low d

@@ -1,3 +1,4 @@
+pub mod Calls
 pub mod Kinds
 pub mod Meaning
 pub mod Parts

@@ -1,5 +1,5 @@
 -- What a script means, where it is known which text stands at each path.
-use Rattle.std.specs.Prelude.{ℕ, zero, suc, max, List, [], ◌∷◌, ℤ, pos, ◌+ℤ◌, FitsSigned, Result, Ok, Err}
+use Rattle.std.specs.Prelude.{ℕ, zero, suc, ◌≤◌, max, List, [], ◌∷◌, ℤ, pos, ◌+ℤ◌, FitsSigned, Result, Ok, Err}
 use Rattle.std.specs.Int.{w32}
 use Rattle.scripts.specs.Parts.{parts, IsEval, IsNumber, IsBad}
 use Rattle.scripts.specs.declared.outcome.CalcFault.{CalcFault}
@@ -41,3 +41,7 @@ mutual
   pub data DeepIn (At : List ℕ → List ℕ → Type 0) : List (List ℕ) → ℤ → ℕ → Type 0 where
     here : {p path text : List ℕ} {ps : List (List ℕ)} {sum : ℤ} {limit : ℕ} → IsEval p path → At path text → Deep At text limit → DeepIn At (p ∷ ps) sum limit
     later : {p : List ℕ} {ps : List (List ℕ)} {sum n : ℤ} {g limit : ℕ} → PartMeans At p (Ok n) g → Fits (sum +ℤ n) → DeepIn At ps (sum +ℤ n) limit → DeepIn At (p ∷ ps) sum limit
+
+-- the script is higher than the limit, or it means nothing
+abbrev pub IsTooDeep : (List ℕ → List ℕ → Type 0) → List ℕ → ℕ → Type 0
+IsTooDeep At script limit = (v : Value) (h : ℕ) → Means At script v h → ¬ (h ≤ limit)
