@@ -2,11 +2,11 @@
 use Rattle.std.proofs.Common.{Bool, List, [], ◌∷◌, subst}
 use Rattle.std.specs.List.Sorted.{IsPermutation}
 use Rattle.std.specs.Cmp.{IsEquivalence}
-use Rattle.comemo_base.specs.Tree.{Stored, IsSamePath, stored}
-use Rattle.comemo.specs.Meaning.{Meaning, exactly}
-use Rattle.comemo.specs.Cache.{Kept}
+use Rattle.comemo_base.specs.Tree.{IsSamePath, stored}
 use Rattle.comemo_base.proofs.Paths.{Agrees-same, IsSamePath-turned}
-use Rattle.comemo.specs.Finish.{Ends, Gives}
+use Rattle.comemo.specs.Meaning.{Meaning, run, exactly}
+use Rattle.comemo.specs.Cache.{Entries}
+use Rattle.comemo.specs.Finish.{Ends, Gives, BreaksOffRun}
 use Rattle.comemo.specs.declared.finish.How.{How}
 use Rattle.comemo.specs.declared.finish.How.TheVariants as how
 
@@ -14,19 +14,27 @@ pub IsSamePath-itself : {C R : Type 0} {eq : C → C → Bool} {same : R → R �
 IsSamePath-itself calls answers [] = tt
 IsSamePath-itself calls answers (p ∷ ps) = (calls.refl p.0, answers.refl p.1, IsSamePath-itself calls answers ps)
 
--- what went to a sink in place of the pairs of a run
-pub given : {K C R O : Type 0} {M : Meaning K C R O} → IsEquivalence M.eq → IsEquivalence M.same → {sent : List (C × R) → List C → Type 0} (ps qs : List (C × R)) (writes : List C) → IsSamePath M.eq M.same ps qs → sent ps writes → Gives M sent qs writes
-given calls answers ps qs writes alike are_sent = record {
-  given = ps;
-  alike = alike;
-  agreeing = λ m r. (λ a. Agrees-same calls answers m r ps qs alike a, λ a. Agrees-same calls answers m r qs ps (IsSamePath-turned calls answers ps qs alike) a);
-  are_sent = are_sent;
-}
+module _ {K C R O : Type 0} {M : Meaning K C R O} (calls : IsEquivalence M.same_call) (answers : IsEquivalence M.same_answer) where
+  -- what went to a sink in place of the pairs of a run
+  pub given : {sent : List (C × R) → List C → Type 0} (ps qs : List (C × R)) (writes : List C) → IsSamePath M.same_call M.same_answer ps qs → sent ps writes → Gives M sent qs writes
+  given ps qs writes alike are_sent = record {
+    given = ps;
+    alike = alike;
+    agreeing = λ m r. (λ a. Agrees-same calls answers m r ps qs alike a, λ a. Agrees-same calls answers m r qs ps (IsSamePath-turned calls answers ps qs alike) a);
+    are_sent = are_sent;
+  }
 
-module _ {K C R O : Type 0} (M : Meaning K C R O) (es : List (Stored K C R (Kept O C))) (key : K) (pairs : List (C × R)) (output kept : O) (is : M.cloned output kept) where
-  pub Ends-cloned : (h : How) (es' : List (Stored K C R (Kept O C))) → Ends (exactly M) es key pairs kept h es' → Ends M es key pairs output h es'
+  -- what went there is the run's pairs themselves
+  pub gives_itself : {sent : List (C × R) → List C → Type 0} (ps : List (C × R)) (writes : List C) → sent ps writes → Gives M sent ps writes
+  gives_itself ps writes are_sent = given ps ps writes (IsSamePath-itself calls answers ps) are_sent
+
+  pub broken_itself : {broken : List (C × R) → Type 0} (ps : List (C × R)) → broken ps → BreaksOffRun M broken ps
+  broken_itself ps is = record { given = ps; alike = IsSamePath-itself calls answers ps; is_broken = is }
+
+module _ {K C R O : Type 0} (M : Meaning K C R O) (es : Entries K C R O) (key : K) (pairs : List (C × R)) (writes : List C) (output kept : O) (is : M.is_clone output kept) where
+  pub Ends-cloned : (h : How) (es' : Entries K C R O) → Ends (exactly M) es (run key pairs kept writes) h es' → Ends M es (run key pairs output writes) h es'
   Ends-cloned how.Hit es' e = e
-  Ends-cloned how.Stored es' e = (e.0, e.1, record { path = e.2.path; is_new = e.2.is_new; kept = kept; is_clone = is; entries = subst (λ o. IsPermutation (stored key e.2.path (record { output = o; writes = [] }) ∷ es) es') e.2.is_clone e.2.entries })
+  Ends-cloned how.Stored es' e = (e.0, e.1, record { path = e.2.path; is_new = e.2.is_new; kept = kept; is_clone = is; entries = subst (λ o. IsPermutation (stored key e.2.path (record { output = o; writes = writes }) ∷ es) es') e.2.is_clone e.2.entries })
   Ends-cloned how.AlreadyExists es' e = e
   Ends-cloned how.MissingCall es' e = e
   Ends-cloned how.NotStored es' e = e

@@ -1,11 +1,13 @@
 -- What is known of an entry that was found, and of one that is stored.
-use Rattle.std.proofs.Common.{◌≡◌, zero, suc, Bool, true, false, List, [], ◌∷◌, get_or, IsTrue, Result, Ok, Err, OnOk, is_err, subst, ◌∙◌, arith}
-use Rattle.std.specs.List.{All}
+use Rattle.std.proofs.Common.{◌≡◌, zero, suc, Bool, true, false, List, [], ◌∷◌, IsTrue, subst, ◌∙◌, arith}
+use Rattle.std.specs.List.{All, Any, AllZip}
 use Rattle.std.specs.Cmp.{IsEquivalence}
 use Rattle.comemo_base.specs.Answers.{Respects, Agrees}
 use Rattle.comemo_base.specs.Tree.{Stored, IsSamePath}
-use Rattle.comemo_base.proofs.Paths.{turned, joined, IsSamePath-turned, Agrees-same}
-use Rattle.comemo.specs.Cache.{Kept, Stands, IsLegal, Has, HasNone}
+use Rattle.comemo_base.proofs.Paths.{IsSamePath-turned, Agrees-same}
+use Rattle.comemo_base.proofs.Under.{under-alike}
+use Rattle.comemo.specs.Meaning.{Meaning, Run, run, invocation}
+use Rattle.comemo.specs.Cache.{Kept, Entries, Stands, IsLegal, IsEntryOf, Has, HasNone}
 
 pub All-cons : {X : Type 0} (P : X → Type 0) (x : X) (xs : List X) → P x → All P xs → All P (x ∷ xs)
 All-cons P x xs p h zero d l = p
@@ -18,26 +20,25 @@ reads_same eq same w kind (p ∷ ps) [] s h = absurd s
 reads_same eq same w kind (p ∷ ps) (q ∷ qs) s h =
     All-cons (λ p. w p.0 ≡ false) p ps (kind p.0 q.0 s.0 ∙ h 0 q (omega arith)) (reads_same eq same w kind ps qs s.2 (λ j e m. h (suc j) e (omega arith)))
 
-module _ {K C R O : Type 0} {eq : C → C → Bool} {same : R → R → Bool} (calls : IsEquivalence eq) (answers : IsEquivalence same) (w : C → Bool) (def : K → (C → R) → O → List C → Type 0) (eqk : K → K → Bool) (cloned : O → O → Type 0)
-    (key_alike : (j k : K) (m : C → R) (o : O) (ws : List C) → Respects eq same m → IsTrue (eqk j k) → def j m o ws → def k m o ws)
-    (output_clones : (k : K) (m : C → R) (a b : O) (ws : List C) → Respects eq same m → cloned a b → def k m a ws → def k m b ws) where
-  -- clones of a legal entry's path and output stand in the definition at an equal key
-  pub Stands-found : (e : Stored K C R (Kept O C)) (key : K) (path : List (C × R)) (output : O) → IsLegal eq same w def e → IsTrue (eqk e.key key) → IsSamePath eq same path e.path → cloned e.value.output output → e.value.writes ≡ [] → Stands eq same def key path output []
-  Stands-found e key path output legal k s c none = λ m r a.
-      subst (λ ws. def key m output ws) none (output_clones key m e.value.output output e.value.writes r c (key_alike e.key key m e.value.output e.value.writes r k (legal.stands m r (Agrees-same calls answers m r path e.path s a))))
+module _ {K C R O : Type 0} (M : Meaning K C R O) where
+  module _ (calls : IsEquivalence M.same_call) (answers : IsEquivalence M.same_answer) where
+    -- clones of a legal entry's path and output stand in the definition at an equal key
+    pub Stands-found : ((j k : K) (m : C → R) (o : O) (ws : List C) → Respects M.same_call M.same_answer m → IsTrue (M.same_key j k) → M.def j m o ws → M.def k m o ws) → ((k : K) (m : C → R) (a b : O) (ws : List C) → Respects M.same_call M.same_answer m → M.is_clone a b → M.def k m a ws → M.def k m b ws) → (e : Stored K C R (Kept O C)) (key : K) (path : List (C × R)) (output : O) → IsLegal M e → IsTrue (M.same_key e.key key) → IsSamePath M.same_call M.same_answer path e.path → M.is_clone e.value.output output → e.value.writes ≡ [] → Stands M (run key path output [])
+    Stands-found keys outputs e key path output legal k s c none = λ m r a.
+        subst (λ ws. M.def key m output ws) none (outputs key m e.value.output output e.value.writes r c (keys e.key key m e.value.output e.value.writes r k (legal.stands m r (Agrees-same calls answers m r path e.path s a))))
 
-module _ {K C R O : Type 0} (eq : C → C → Bool) (same : R → R → Bool) {eqk : K → K → Bool} (keys : IsEquivalence eqk) (es : List (Stored K C R (Kept O C))) (j k : K) (alike : IsTrue (eqk j k)) where
-  -- what is kept under a key is kept under an equal one
-  pub Has-alike : (cloned : O → O → Type 0) (m : C → R) (path : List (C × R)) (output : O) (writes : List C) → Has eq same eqk es j cloned m path output writes → Has eq same eqk es k cloned m path output writes
-  Has-alike cloned m path output writes h = (h.0, h.1, h.2, h.3, (joined keys h.1.key j k h.4.0 alike, h.4.1, h.4.2, h.4.3, h.4.4))
+    -- the path of what was found agrees with the answers
+    pub Agrees-found : (m : C → R) → Respects M.same_call M.same_answer m → (ran : Run K C R O) (us : Entries K C R O) → Any (IsEntryOf M m ran) us → Agrees M.same_answer m ran.pairs
+    Agrees-found m r ran us h = Agrees-same calls answers m r h.1.path ran.pairs (IsSamePath-turned calls answers ran.pairs h.1.path h.4.1) h.4.0
 
-  pub HasNone-alike : (m : C → R) → HasNone eq same eqk es j m → HasNone eq same eqk es k m
-  HasNone-alike m h = λ i d l t. h i d l (joined keys (get_or es i d).key k j t (turned keys j k alike))
+  module _ (keys : IsEquivalence M.same_key) (es : Entries K C R O) (j k : K) (alike : IsTrue (M.same_key j k)) (m : C → R) (b c : Bool) where
+    -- what is kept under a key is kept under an equal one
+    pub Has-alike : (ran : Run K C R O) → Has M es (invocation j m b) ran → Has M es (invocation k m c) ran
+    Has-alike ran h = subst (λ us. Any (IsEntryOf M m ran) us) (under-alike M.same_key es j keys k alike) h
 
--- the path that was found agrees with the answers
-pub Agrees-found : {K C R O : Type 0} {eq : C → C → Bool} {same : R → R → Bool} (calls : IsEquivalence eq) (answers : IsEquivalence same) (eqk : K → K → Bool) (es : List (Stored K C R (Kept O C))) (key : K) (cloned : O → O → Type 0) (m : C → R) (path : List (C × R)) (output : O) (writes : List C) → Respects eq same m → Has eq same eqk es key cloned m path output writes → Agrees same m path
-Agrees-found calls answers eqk es key cloned m path output writes r h = Agrees-same calls answers m r h.1.path path (IsSamePath-turned calls answers path h.1.path h.4.2) h.4.1
+    pub HasNone-alike : HasNone M es (invocation j m b) → HasNone M es (invocation k m c)
+    HasNone-alike h = subst (λ us. All (λ e. ¬ Agrees M.same_answer m e.path) us) (under-alike M.same_key es j keys k alike) h
 
-pub ok_from_is_err : {T E : Type 0} (P : Type 0) (r : Result T E) → is_err r ≡ false → OnOk r P → P
-ok_from_is_err P (Ok x) e h = h
-ok_from_is_err P (Err x) e h = let f : true ≡ false = e in cc
+  -- what is kept of one run is kept of the same under another key
+  pub Has-rekeyed : (es : Entries K C R O) (k : K) (m : C → R) (b : Bool) (ran : Run K C R O) (key : K) → Has M es (invocation k m b) ran → Has M es (invocation k m b) (record ran { key = key })
+  Has-rekeyed es k m b ran key h = h

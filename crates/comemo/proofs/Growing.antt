@@ -2,9 +2,9 @@
 use Rattle.std.proofs.Common.{◌≡◌, ◌++◌, ◌∷◌, [], append_assoc, List, sym, subst}
 use Rattle.std.specs.List.Sorted.{IsPermutation}
 use Rattle.std.proofs.lemmas.List.Sorted.{IsPermutation-refl, IsPermutation-trans, IsPermutation-append_right}
-use Rattle.comemo_base.specs.Tree.{Stored, stored}
-use Rattle.comemo.specs.Meaning.{Meaning}
-use Rattle.comemo.specs.Cache.{Kept, Touches}
+use Rattle.comemo_base.specs.Tree.{stored}
+use Rattle.comemo.specs.Meaning.{Meaning, Run}
+use Rattle.comemo.specs.Cache.{Entries, Touches}
 use Rattle.comemo.specs.Called.{Grows}
 use Rattle.comemo.specs.Finish.{Ends}
 use Rattle.comemo.specs.declared.finish.How.{How}
@@ -21,10 +21,10 @@ grows_on es mid es' a b =
     (b.0 ++ a.0, IsPermutation-trans _ (b.0 ++ mid) _ (subst (λ x. IsPermutation x (b.0 ++ mid)) (sym (append_assoc b.0 a.0 es)) (IsPermutation-append_right b.0 _ _ a.1)) b.1)
 
 -- a run that ended lost no entry
-pub grows_by_ends : {K C R O : Type 0} (M : Meaning K C R O) (es : List (Stored K C R (Kept O C))) (key : K) (pairs : List (C × R)) (output : O) (reply : How) (es' : List (Stored K C R (Kept O C))) → Ends M es key pairs output reply es' → Grows es es'
-grows_by_ends M es key pairs output how.Hit es' e = absurd e
-grows_by_ends M es key pairs output how.Stored es' e = (stored key e.2.path (record { output = e.2.kept; writes = [] }) ∷ [], e.2.entries)
-grows_by_ends M es key pairs output how.AlreadyExists es' e = grows_not es es' e.1
-grows_by_ends M es key pairs output how.MissingCall es' e = grows_not es es' e.1
-grows_by_ends M es key pairs output how.NotStored es' e = grows_not es es' e
-grows_by_ends M es key pairs output how.Disabled es' e = grows_not es es' e
+pub grows_by_ends : {K C R O : Type 0} (M : Meaning K C R O) (es : Entries K C R O) (ran : Run K C R O) (reply : How) (es' : Entries K C R O) → Ends M es ran reply es' → Grows es es'
+grows_by_ends M es ran how.Hit es' e = absurd e
+grows_by_ends M es ran how.Stored es' e = (stored ran.key e.2.path (record { output = e.2.kept; writes = ran.writes }) ∷ [], e.2.entries)
+grows_by_ends M es ran how.AlreadyExists es' e = grows_not es es' e.1
+grows_by_ends M es ran how.MissingCall es' e = grows_not es es' e.1
+grows_by_ends M es ran how.NotStored es' e = grows_not es es' e
+grows_by_ends M es ran how.Disabled es' e = grows_not es es' e

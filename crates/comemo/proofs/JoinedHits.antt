@@ -1,7 +1,6 @@
 -- For the authors of functions of two arguments: what a hit at joined answers says.
 use Rattle.std.proofs.Common.{Bool, List}
 use Rattle.comemo_base.specs.Answers.{Respects}
-use Rattle.comemo_base.specs.Tree.{Stored}
 use Rattle.tracking.specs.Multi.{part_answers}
 use Rattle.tracking.specs.declared.multi.MultiCall.{MultiCall}
 use Rattle.tracking.specs.declared.multi.MultiCall.TheVariants as call
@@ -9,10 +8,10 @@ use Rattle.tracking.specs.declared.multi.MultiAnswer.{MultiAnswer}
 use Rattle.tracking.specs.declared.multi.MultiAnswer.TheVariants as answer
 use Rattle.tracking.proofs.Joined.{TellsCalls, joined_respect}
 use Rattle.comemo.specs.Begin.{IsHit}
-use Rattle.comemo.specs.Meaning.{Meaning, asked}
-use Rattle.comemo.specs.Cache.{Kept}
+use Rattle.comemo.specs.Meaning.{Meaning, invocation}
+use Rattle.comemo.specs.Cache.{Entries}
 
 -- a hit at joined answers is right at them
-pub joined_hit : {K X Y P Q O : Type 0} {M : Meaning K (MultiCall X Y) (MultiAnswer P Q) O} {es : List (Stored K (MultiCall X Y) (MultiAnswer P Q) (Kept O (MultiCall X Y)))} {key : K} {m : X → P} {n : Y → Q} {enabled : Bool} {done : List (MultiCall X Y) → Type 0} {sent : List (MultiCall X Y × MultiAnswer P Q) → List (MultiCall X Y) → Type 0} {output : O}
-    → (hit : IsHit M es (asked key (part_answers m n) enabled) done sent output) → TellsCalls M.eq → Respects (λ c d. M.eq (call.A c) (call.A d)) (λ a b. M.same (answer.A a) (answer.A b)) m → Respects (λ c d. M.eq (call.B c) (call.B d)) (λ a b. M.same (answer.B a) (answer.B b)) n → M.def key (part_answers m n) output hit.writes
-joined_hit {M = M} {m = m} {n = n} hit tells p q = hit.stands (part_answers m n) (joined_respect M.same tells m n p q) hit.agrees
+pub joined_hit : {K X Y P Q O : Type 0} {M : Meaning K (MultiCall X Y) (MultiAnswer P Q) O} {es : Entries K (MultiCall X Y) (MultiAnswer P Q) O} {key : K} {m : X → P} {n : Y → Q} {enabled : Bool} {done : List (MultiCall X Y) → Type 0} {sent : List (MultiCall X Y × MultiAnswer P Q) → List (MultiCall X Y) → Type 0} {output : O}
+    → (hit : IsHit M es (invocation key (part_answers m n) enabled) done sent output) → TellsCalls M.same_call → Respects (λ c d. M.same_call (call.A c) (call.A d)) (λ a b. M.same_answer (answer.A a) (answer.A b)) m → Respects (λ c d. M.same_call (call.B c) (call.B d)) (λ a b. M.same_answer (answer.B a) (answer.B b)) n → M.def key (part_answers m n) output hit.writes
+joined_hit {M = M} {m = m} {n = n} hit tells p q = hit.stands (part_answers m n) (joined_respect M.same_answer tells m n p q) hit.agrees

@@ -1,6 +1,9 @@
+pub mod Sendings
 pub mod Entries
 pub mod NewPath
 pub mod Endings
+pub mod Looking
+pub mod PartsAsked
 pub mod Recorders
 pub mod Calls
 pub mod Closures

@@ -9,9 +9,13 @@ use Rattle.std.specs.Cmp.{IsEquivalence}
 use Rattle.comemo_base.specs.Answers.{Respects, Agrees}
 use Rattle.comemo_base.specs.Sequence.{HasDistinctCalls}
 use Rattle.comemo_base.specs.Tree.{Stored, stored}
-use Rattle.comemo_base.specs.Insertion.{Has, AllAmong, IsNewPath, outside}
+use Rattle.comemo.specs.Meaning.{Meaning, run, exactly}
+use Rattle.comemo.specs.Finish.{Stores}
+use Rattle.comemo_base.specs.Lookup.{under}
+use Rattle.std.specs.List.Sorted.{IsPermutation}
+use Rattle.comemo_base.specs.Insertion.{Has, AllAmong, Exists, Misses, IsNewPath, outside}
 use Rattle.comemo_base.proofs.Paths.{turned, joined}
-use Rattle.comemo.specs.Cache.{Kept, Stands, IsLegal}
+use Rattle.comemo.specs.Cache.{Kept, Entries, Stands, IsLegal}
 use Rattle.comemo.proofs.Entries.{All-cons}
 
 module _ {C R : Type 0} (test : C → Bool) where
@@ -78,9 +82,9 @@ module _ {C R : Type 0} {eq : C → C → Bool} {same : R → R → Bool} (calls
             | inr k ↦ let b' = rw k at b in (b'.0, covered front d h a (xs ++ p ∷ []) t more b'.1)
           ]
 
-module _ {K C R O : Type 0} {eq : C → C → Bool} {same : R → R → Bool} (calls : IsEquivalence eq) (answers : IsEquivalence same) (eqk : K → K → Bool) (es : List (Stored K C R (Kept O C))) (key : K) (s path : List (C × R)) where
+module _ {C R : Type 0} {eq : C → C → Bool} {same : R → R → Bool} (calls : IsEquivalence eq) (answers : IsEquivalence same) {K T : Type 0} (us : List (Stored K C R T)) (s path : List (C × R)) where
   -- answers that agree with the path agree with the sequence
-  pub agrees_new_path : HasDistinctCalls eq s → IsNewPath eq same eqk es key s path → (m : C → R) → Respects eq same m → Agrees same m path → Agrees same m s
+  pub agrees_new_path : HasDistinctCalls eq s → IsNewPath eq same us s path → (m : C → R) → Respects eq same m → Agrees same m path → Agrees same m s
   agrees_new_path d n m r a =
       let parts = agrees_append same m n.0 (outside eq n.0 s) (subst (λ ps. Agrees same m ps) n.2 a) in
       elim n.1 [
@@ -88,20 +92,25 @@ module _ {K C R O : Type 0} {eq : C → C → Bool} {same : R → R → Bool} (c
         | inr some ↦ covered calls answers s m r n.0 d some.0 parts.0 [] s refl parts.1
       ]
 
-  reads_new_path : (w : C → Bool) → ((x y : C) → IsTrue (eq x y) → w x ≡ w y) → All (λ p. w p.0 ≡ false) s → IsNewPath eq same eqk es key s path → All (λ p. w p.0 ≡ false) path
+  pub reads_new_path : (w : C → Bool) → ((x y : C) → IsTrue (eq x y) → w x ≡ w y) → All (λ p. w p.0 ≡ false) s → IsNewPath eq same us s path → All (λ p. w p.0 ≡ false) path
   reads_new_path w kind reads n =
       let front : All (λ p. w p.0 ≡ false) n.0 = elim n.1 [ inl none ↦ rw none.1 (All-nil (λ p. w p.0 ≡ false)) | inr some ↦ reads_front calls answers s w kind reads n.0 some.0 ] in
       rw n.2 (All-append (λ p. w p.0 ≡ false) n.0 (outside eq n.0 s) front (All-filter (λ p. not (is_some (lookup (eq p.0) n.0))) (λ p. w p.0 ≡ false) s reads))
 
-  -- the entry that is stored is legal
-  pub IsLegal-stored : (w : C → Bool) (def : K → (C → R) → O → List C → Type 0) (output : O) → ((x y : C) → IsTrue (eq x y) → w x ≡ w y) → HasDistinctCalls eq s → All (λ p. w p.0 ≡ false) s → Stands eq same def key s output [] → IsNewPath eq same eqk es key s path → IsLegal eq same w def (stored key path (record { output = output; writes = [] }))
-  IsLegal-stored w def output kind d reads stands n = record {
-    stands = λ m r a. stands m r (agrees_new_path d n m r a);
-    reads = reads_new_path w kind reads n;
-    written = All-nil (λ c. w c ≡ true);
-  }
+-- the entry that is stored is legal
+pub IsLegal-stored : {K C R O : Type 0} (M : Meaning K C R O) (calls : IsEquivalence M.same_call) (answers : IsEquivalence M.same_answer) (us : Entries K C R O) (key : K) (s path : List (C × R)) (output : O) → ((x y : C) → IsTrue (M.same_call x y) → M.is_write x ≡ M.is_write y) → HasDistinctCalls M.same_call s → All (λ p. M.is_write p.0 ≡ false) s → Stands M (run key s output []) → IsNewPath M.same_call M.same_answer us s path → IsLegal M (stored key path (record { output = output; writes = [] }))
+IsLegal-stored M calls answers us key s path output kind d reads stands n = record {
+  stands = λ m r a. stands m r (agrees_new_path calls answers us s path d n m r a);
+  reads = reads_new_path calls answers us s path M.is_write kind reads n;
+  written = All-nil (λ c. M.is_write c ≡ true);
+}
 
 -- what follows from either outcome
 pub by_result : {T E X P Q : Type 0} (r : Result T E) → OnOk r P → OnErr r Q → (P → X) → (Q → X) → X
 by_result (Ok x) p q f g = f p
 by_result (Err e) p q f g = g q
+
+-- what an insertion says, told as what a store does
+pub stores : {K C R O : Type 0} (M : Meaning K C R O) (es : Entries K C R O) (key : K) (s : List (C × R)) (output : O) (es' : Entries K C R O) {T E : Type 0} (r : Result T E) → OnOk r ((¬ Exists M.same_call M.same_answer (under M.same_key es key) s) × (¬ Misses M.same_call M.same_answer (under M.same_key es key) s)) → OnOk r ((path : List (C × R)) × IsNewPath M.same_call M.same_answer (under M.same_key es key) s path × IsPermutation (stored key path (record { output = output; writes = [] }) ∷ es) es') → OnOk r (Stores (exactly M) es (run key s output []) es')
+stores M es key s output es' (Ok x) a b = (a.0, a.1, record { path = b.0; is_new = b.1; kept = output; is_clone = refl; entries = b.2 })
+stores M es key s output es' (Err e) a b = tt

@@ -1,17 +1,21 @@
 -- What a recorder knows of its recording.
-use Rattle.std.proofs.Common.{◌≡◌, ◌∙◌, Bool, true, false, List, [], ◌∷◌, IsTrue, Result, Ok, Err, IfOk, OnErr, sym}
+use Rattle.std.proofs.Common.{◌≡◌, ◌≢◌, ◌∙◌, Bool, true, false, List, [], ◌∷◌, ◌++◌, IsTrue, Result, Ok, Err, IfOk, OnErr, IsErr, IsErrAnd, refl, sym, ap}
 use Rattle.std.specs.Cmp.{IsEquivalence}
 use Rattle.comemo_base.specs.Answers.{Respects, Agrees}
 use Rattle.comemo_base.proofs.Paths.{turned, joined}
-use Rattle.tracking.specs.Recording.{Recording, Took}
-use Rattle.tracking.specs.Sending.{Asks}
-use Rattle.comemo.specs.Meaning.{Meaning, sent}
-use Rattle.comemo.specs.Called.{Gave}
-use Rattle.comemo.specs.Function.{Fits, Learns}
+use Rattle.tracking.specs.Recording.{Recording, Took, Spoiled}
+use Rattle.tracking.specs.Sending.{Asks, BreaksOff}
+use Rattle.comemo.specs.Meaning.{Meaning, Invocation}
+use Rattle.comemo.specs.Cache.{Entries}
+use Rattle.comemo.specs.Called.{IsReply}
+use Rattle.comemo.specs.Finish.{BrokeOff}
+use Rattle.comemo.specs.Function.{Recorded, IsRecorded, Fits, Tells}
+use Rattle.comemo.specs.declared.begin.Fault.{Fault}
+use Rattle.comemo.specs.declared.begin.Fault.TheVariants as fault
 use Rattle.comemo.specs.declared.finish.Reply.{Reply}
 use Rattle.tracking.proofs.Told.{told_pairs}
 
-module _ {C R : Type 0} {eq : C → C → Bool} {same : R → R → Bool} (calls : IsEquivalence eq) (answers : IsEquivalence same) (m : C → R) (respects : Respects eq same m) {s t : Recording C R} (P : List (C × R)) (W : List C) (took : Took eq s P W t) (a : Agrees same m P) (before : s.whole ≡ true → Agrees same m s.pairs) where
+module _ {C R : Type 0} {eq : C → C → Bool} {same : R → R → Bool} (calls : IsEquivalence eq) (answers : IsEquivalence same) (m : C → R) (respects : Respects eq same m) {s t : Recording C R} (P : List (C × R)) (W : List C) (took : Took eq s t P W) (a : Agrees same m P) (before : s.whole ≡ true → Agrees same m s.pairs) where
   was_whole : t.whole ≡ true → s.whole ≡ true
   was_whole w = sym took.whole ∙ w
 
@@ -31,34 +35,59 @@ module _ {C R : Type 0} {eq : C → C → Bool} {same : R → R → Bool} (calls
   pub fits_taken : (n : C → R) → Fits eq same t n → Agrees same n P
   fits_taken n f = (told_pairs calls answers m respects s t P W (before (was_whole f.whole)) a took).told n f.respects f.agrees
 
-module _ {C R : Type 0} {eq : C → C → Bool} {same : R → R → Bool} (calls : IsEquivalence eq) (answers : IsEquivalence same) (m : C → R) (respects : Respects eq same m) (s t : Recording C R) (before : s.whole ≡ true → Agrees same m s.pairs) where
-  fitted_ask : (call : C) (answer : R) → Asks same (Took eq) m s call answer t → (n : C → R) → Fits eq same t n → Fits eq same s n
-  fitted_ask call answer k n f = fitted calls answers m respects ((call, k.noted) ∷ []) [] k.sent (k.alike, tt) before n f
+module _ {V C R : Type 0} {eq : C → C → Bool} {same : R → R → Bool} {s t : Recorded V C R} (value : t.value ≡ s.value) where
+  -- a refusal for want of memory, which doesn't say that the recording is incomplete
+  pub tells_memory : {X : Type 0} {P : X → (C → R) → Type 0} (r : Result X Fault) → IsErrAnd r (λ f. f ≡ fault.Memory) → Tells (Fits eq same) s t r P
+  tells_memory (Ok x) h = absurd h
+  tells_memory (Err f) h = record { same_value = value; before = tt; told = tt; fault = λ e. let no : fault.Memory ≡ fault.Incomplete = sym h ∙ e in cc }
 
-  fits_answer : (call : C) (answer : R) → Asks same (Took eq) m s call answer t → (n : C → R) → Fits eq same t n → IsTrue (same (n call) answer)
-  fits_answer call answer k n f =
-      joined answers (n call) k.noted answer (fits_taken calls answers m respects ((call, k.noted) ∷ []) [] k.sent (k.alike, tt) before n f).0 (joined answers k.noted (m call) answer (turned answers (m call) k.noted k.alike) k.gives)
+  -- a fault after which the recording is spoiled
+  pub tells_broken : {X : Type 0} {P : X → (C → R) → Type 0} (r : Result X Fault) → IsErr r → t.recording.whole ≡ false → Tells (Fits eq same) s t r P
+  tells_broken (Ok x) h w = let no : false ≡ true = h in cc
+  tells_broken (Err f) h w = record { same_value = value; before = tt; told = tt; fault = λ e. w }
 
-  -- answers that fit a recording fitted it before a read, and answer the read as it was answered
-  pub learns_answer : (call : C) (answer : R) → Asks same (Took eq) m s call answer t → Learns eq same s t (λ n. IsTrue (same (n call) answer))
-  learns_answer call answer k = record { before = fitted_ask call answer k; told = fits_answer call answer k }
+  module _ (calls : IsEquivalence eq) (answers : IsEquivalence same) (m : C → R) (respects : Respects eq same m) (before : s.recording.whole ≡ true → Agrees same m s.recording.pairs) where
+    -- answers that fit a recording fitted it before a read, and answer the read as it was answered
+    pub tells_answer : (call : C) (answer : R) → Asks same m call answer (Took eq s.recording t.recording) → Tells (Fits eq same) s t (Ok answer) (λ answer n. IsTrue (same (n call) answer))
+    tells_answer call answer k = record {
+      same_value = value;
+      before = fitted calls answers m respects ((call, k.noted) ∷ []) [] k.sent (k.alike, tt) before;
+      told = λ n f. joined answers (n call) k.noted answer (fits_taken calls answers m respects ((call, k.noted) ∷ []) [] k.sent (k.alike, tt) before n f).0 (joined answers k.noted (m call) answer (turned answers (m call) k.noted k.alike) k.gives);
+      fault = tt;
+    }
 
-  -- after a read, and after one that was refused, the present answers agree
-  pub asked_agrees : {E : Type 0} (call : C) (r : Result R E) → IfOk r (λ answer. Asks same (Took eq) m s call answer t) → OnErr r (Took eq s [] [] t) → t.whole ≡ true → Agrees same m t.pairs
-  asked_agrees call (Ok answer) k e = still_agrees calls answers m respects ((call, k.noted) ∷ []) [] k.sent (k.alike, tt) before
-  asked_agrees call (Err x) k e = still_agrees calls answers m respects [] [] e tt before
+no_more_writes : {C R : Type 0} {eq : C → C → Bool} {s t : Recording C R} (P : List (C × R)) (W : List C) → Took eq s t P W → W ≡ [] → s.writes ≡ [] → t.writes ≡ []
+no_more_writes P W took none before = took.writes ∙ ap (λ V. V ++ W) before ∙ none
 
-module _ {K C R O : Type 0} (M : Meaning K C R O) (calls : IsEquivalence M.eq) (answers : IsEquivalence M.same) (m : C → R) (respects : Respects M.eq M.same m) (s t : Recording C R) (before : s.whole ≡ true → Agrees M.same m s.pairs) (key : K) where
-  fitted_call : (output : O) → Gave M key m (sent (Took M.eq) s t) output → (n : C → R) → Fits M.eq M.same t n → Fits M.eq M.same s n
-  fitted_call output k n f = fitted calls answers m respects k.pairs k.writes k.are_sent k.agrees before n f
+-- after a read, and after one that was refused, a recorder keeps what it kept
+pub asked_keeps : {C R : Type 0} {eq : C → C → Bool} {same : R → R → Bool} → IsEquivalence eq → IsEquivalence same → (m : C → R) → Respects eq same m → (s t : Recording C R) → IsRecorded same m s → {E : Type 0} (call : C) (r : Result R E) → IfOk r (λ answer. Asks same m call answer (Took eq s t)) → OnErr r (Took eq s t [] []) → IsRecorded same m t
+asked_keeps calls answers m respects s t before call (Ok answer) k e = record { agrees = still_agrees calls answers m respects ((call, k.noted) ∷ []) [] k.sent (k.alike, tt) before.agrees; no_writes = no_more_writes ((call, k.noted) ∷ []) [] k.sent refl before.no_writes }
+asked_keeps calls answers m respects s t before call (Err x) k e = record { agrees = still_agrees calls answers m respects [] [] e tt before.agrees; no_writes = no_more_writes [] [] e refl before.no_writes }
 
-  fits_output : (output : O) (k : Gave M key m (sent (Took M.eq) s t) output) → (n : C → R) → Fits M.eq M.same t n → M.def key n output k.writes
-  fits_output output k n f = k.stands n f.respects (fits_taken calls answers m respects k.pairs k.writes k.are_sent k.agrees before n f)
+-- what broke off is not whole, and has the writes that it had
+pub not_whole : {C R : Type 0} {eq : C → C → Bool} {same : R → R → Bool} {m : C → R} {s t : Recording C R} → BrokeOff same m (BreaksOff (Took eq) Spoiled s t) → t.whole ≡ false
+not_whole is = is.is_broken.spoiled.whole
 
+pub broken_keeps : {C R : Type 0} {eq : C → C → Bool} {same like : R → R → Bool} {m n : C → R} (s t : Recording C R) → IsRecorded like n s → BrokeOff same m (BreaksOff (Took eq) Spoiled s t) → IsRecorded like n t
+broken_keeps s t before is =
+    let b = is.is_broken in
+    record { agrees = λ w. let f = sym w ∙ b.spoiled.whole in absurd cc; no_writes = b.spoiled.writes ∙ no_more_writes b.front [] b.taken refl before.no_writes }
+
+module _ {K C R O : Type 0} (M : Meaning K C R O) (calls : IsEquivalence M.same_call) (answers : IsEquivalence M.same_answer) (es mid es' : Entries K C R O) (call : Invocation K C R) (respects : Respects M.same_call M.same_answer call.answers) where
   -- the same of a call of another function
-  pub learns_output : {P : (C → R) → Type 0} (output : O) (k : Gave M key m (sent (Took M.eq) s t) output) → ((n : C → R) → M.def key n output k.writes → P n) → Learns M.eq M.same s t P
-  learns_output output k p = record { before = fitted_call output k; told = λ n f. p n (fits_output output k n f) }
+  pub tells_output : {V : Type 0} {s t : Recorded V C R} → t.value ≡ s.value → (s.recording.whole ≡ true → Agrees M.same_answer call.answers s.recording.pairs) → {P : O → (C → R) → Type 0} (reply : Reply O) (k : IsReply M call es mid (Took M.same_call s.recording t.recording) reply es') → ((n : C → R) → M.def call.key n reply.output k.writes → P reply.output n) → Tells (Fits M.same_call M.same_answer) s t (Ok reply.output) P
+  tells_output value before reply k p =
+      let agrees = (k.gives.agreeing call.answers respects).1 k.agrees in
+      record {
+        same_value = value;
+        before = fitted calls answers call.answers respects k.gives.given k.writes k.gives.are_sent agrees before;
+        told = λ n f. p n (k.stands n f.respects ((k.gives.agreeing n f.respects).0 (fits_taken calls answers call.answers respects k.gives.given k.writes k.gives.are_sent agrees before n f)));
+        fault = tt;
+      }
 
-  pub called_agrees : {E : Type 0} (X : Type 0) (r : Result (Reply O) E) → IfOk r (λ reply. Gave M key m (sent (Took M.eq) s t) reply.output) → OnErr r (X × (t.whole ≡ false)) → t.whole ≡ true → Agrees M.same m t.pairs
-  called_agrees X (Ok reply) k e = still_agrees calls answers m respects k.pairs k.writes k.are_sent k.agrees before
-  called_agrees X (Err x) k e = λ w. let f = sym w ∙ e.1 in absurd cc
+  pub called_keeps : (s t : Recording C R) → IsRecorded M.same_answer call.answers s → ((output : O) (writes : List C) → M.def call.key call.answers output writes → writes ≡ []) → {E : Type 0} (X : Type 0) (r : Result (Reply O) E) → IfOk r (λ reply. IsReply M call es mid (Took M.same_call s t) reply es') → OnErr r (X × BrokeOff M.same_answer call.answers (BreaksOff (Took M.same_call) Spoiled s t)) → IsRecorded M.same_answer call.answers t
+  called_keeps s t before reads X (Ok reply) k e = record {
+    agrees = still_agrees calls answers call.answers respects k.gives.given k.writes k.gives.are_sent ((k.gives.agreeing call.answers respects).1 k.agrees) before.agrees;
+    no_writes = no_more_writes k.gives.given k.writes k.gives.are_sent (reads reply.output k.writes (k.stands call.answers respects k.agrees)) before.no_writes;
+  }
+  called_keeps s t before reads X (Err x) k e = broken_keeps s t before e.1

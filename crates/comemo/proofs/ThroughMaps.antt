@@ -1,14 +1,18 @@
 -- What a call of a function of a part gave, told as a call of the whole: its calls and answers went through a map.
-use Rattle.std.proofs.Common.{◌≡◌, Bool, List, [], ◌∷◌}
-use Rattle.std.specs.Prelude.{map}
+use Rattle.std.proofs.Common.{◌≡◌, ◌∙◌, Bool, true, List, [], ◌∷◌, ◌++◌, Ok, map, sym, ap, subst}
+use Rattle.std.proofs.lemmas.List.{map-append}
+use Rattle.std.specs.Cmp.{IsEquivalence}
 use Rattle.comemo_base.specs.Answers.{Respects, Agrees}
-use Rattle.tracking.specs.Mapped.{mapped_pairs}
-use Rattle.comemo.specs.Meaning.{Meaning}
-use Rattle.comemo.specs.Called.{Gave}
-
--- right at the answers of a part, whichever they are
-abbrev pub OfPart : {C D R Q K O : Type 0} → (C → D) → (R → Q) → (K → (C → R) → O → List C → Type 0) → K → (D → Q) → O → List D → Type 0
-OfPart {C} {D} {R} f g def key n output _ = (part : C → R) → ((c : C) → n (f c) ≡ g (part c)) → def key part output []
+use Rattle.tracking.specs.Mapped.{mapped_pairs, Through}
+use Rattle.tracking.specs.Recording.{Recording, Took}
+use Rattle.tracking.specs.Sending.{BreaksOff}
+use Rattle.comemo.specs.Meaning.{Meaning, Invocation, invocation}
+use Rattle.comemo.specs.Cache.{Entries}
+use Rattle.comemo.specs.Called.{IsReply}
+use Rattle.comemo.specs.Finish.{BrokeOff}
+use Rattle.comemo.specs.Function.{Recorded, IsRecorded, Fits, Tells, OnPart}
+use Rattle.comemo.specs.declared.finish.Reply.{Reply}
+use Rattle.comemo.proofs.Recorders.{fitted, fits_taken, still_agrees}
 
 module _ {C D R Q : Type 0} (eq : C → C → Bool) (same : R → R → Bool) (eqd : D → D → Bool) (like : Q → Q → Bool) (f : C → D) (g : R → Q) (apart : (x y : C) → eqd (f x) (f y) ≡ eq x y) (answers_apart : (x y : R) → like (g x) (g y) ≡ same x y) where
   module _ (n : D → Q) (m : C → R) (each : (c : C) → n (f c) ≡ g (m c)) where
@@ -25,16 +29,46 @@ module _ {C D R Q : Type 0} (eq : C → C → Bool) (same : R → R → Bool) (e
     agrees_part [] a = tt
     agrees_part (p ∷ P) a = (rw (answers_apart (m p.0) p.1) at (rw (each p.0) at a.0), agrees_part P a.1)
 
-  module _ {K O : Type 0} (eqk : K → K → Bool) (cloned : O → O → Type 0) (def : K → (C → R) → O → List C → Type 0) (reads : (key : K) (m : C → R) (output : O) (V W : List C) → def key m output V → def key m output W) where
-    -- what a function of a part means, told as one of the whole
-    abbrev pub of_whole : Meaning K D Q O
-    of_whole = record { eq = eqd; same = like; eqk = eqk; cloned = cloned; def = OfPart f g def }
+  -- what a function of a part gave a recording of the whole, whose answers are n
+  module _ {K O : Type 0} (eqk : K → K → Bool) (w : C → Bool) (cloned : O → O → Type 0) (def : K → (C → R) → O → List C → Type 0) (calls : IsEquivalence eqd) (answers : IsEquivalence like) (n : D → Q) (respects : Respects eqd like n) (m : C → R) (each : (c : C) → n (f c) ≡ g (m c)) (key : K)
+      (es mid es' : Entries K C R O) (reply : Reply O) where
+    module _ {s t : Recording D Q} (before : s.whole ≡ true → Agrees like n s.pairs) (k : IsReply (record { same_call = eq; same_answer = same; same_key = eqk; is_write = w; is_clone = cloned; def = def }) (invocation key m true) es mid (Through f g (Took eqd s t)) reply es') where
+      given_agrees : Agrees like n (mapped_pairs f g k.gives.given)
+      given_agrees = agrees_mapped n m each k.gives.given ((k.gives.agreeing m (part_respects n m each respects)).1 k.agrees)
 
-    pub gave_through : {sent : List (C × R) → List C → Type 0} (sends : List (D × Q) → List D → Type 0) → ((P : List (C × R)) (W : List C) → sent P W → sends (mapped_pairs f g P) (map f W)) → (key : K) (n : D → Q) {m : C → R} → ((c : C) → n (f c) ≡ g (m c)) → (output : O) → Gave (record { eq = eq; same = same; eqk = eqk; cloned = cloned; def = def }) key m sent output → Gave of_whole key n sends output
-    gave_through sends are_sent key n {m = m} each output k = record {
-      pairs = mapped_pairs f g k.pairs;
-      writes = map f k.writes;
-      agrees = agrees_mapped n m each k.pairs k.agrees;
-      stands = λ o r a part e. reads key part output k.writes [] (k.stands part (part_respects o part e r) (agrees_part o part e k.pairs a));
-      are_sent = are_sent k.pairs k.writes k.are_sent;
+      pub still_agrees_through : t.whole ≡ true → Agrees like n t.pairs
+      still_agrees_through = still_agrees calls answers n respects (mapped_pairs f g k.gives.given) (map f k.writes) k.gives.are_sent given_agrees before
+
+    pub keeps_through : (s t : Recording D Q) → IsRecorded like n s → (k : IsReply (record { same_call = eq; same_answer = same; same_key = eqk; is_write = w; is_clone = cloned; def = def }) (invocation key m true) es mid (Through f g (Took eqd s t)) reply es') → ((m : C → R) (writes : List C) → def key m reply.output writes → writes ≡ []) → IsRecorded like n t
+    keeps_through s t before k reads = record {
+      agrees = still_agrees_through before.agrees k;
+      no_writes = k.gives.are_sent.writes ∙ ap (λ V. V ++ map f k.writes) before.no_writes ∙ ap (map f) (reads m k.writes (k.stands m (part_respects n m each respects) k.agrees));
     }
+
+    -- and what the run around it learnt
+    pub tells_through : {V : Type 0} {s t : Recorded V D Q} → t.value ≡ s.value → (s.recording.whole ≡ true → Agrees like n s.recording.pairs) → IsReply (record { same_call = eq; same_answer = same; same_key = eqk; is_write = w; is_clone = cloned; def = def }) (invocation key m true) es mid (Through f g (Took eqd s.recording t.recording)) reply es' → (reads : (m : C → R) (writes : List C) → def key m reply.output writes → writes ≡ []) → Tells (Fits eqd like) s t (Ok reply.output) (λ output o. OnPart f g o (λ part. def key part output []))
+    tells_through {s = s} {t = t} value before k reads = record {
+      same_value = value;
+      before = fitted calls answers n respects (mapped_pairs f g k.gives.given) (map f k.writes) k.gives.are_sent (given_agrees before k) before;
+      told = λ o fits part e.
+          let r = part_respects o part e fits.respects in
+          let all = fits_taken calls answers n respects (mapped_pairs f g k.gives.given) (map f k.writes) k.gives.are_sent (given_agrees before k) before o fits in
+          let right = k.stands part r ((k.gives.agreeing part r).0 (agrees_part o part e k.gives.given all)) in
+          subst (λ ws. def key part reply.output ws) (reads part k.writes right) right;
+      fault = tt;
+    }
+
+  -- pairs of which a beginning went through a map, before it broke off
+  pub broke_through : {S T : Type 0} {took : S → S → List (C × R) → List C → Type 0} {spoils : S → S → Type 0} {takes : T → T → List (D × Q) → List D → Type 0} {breaks : T → T → Type 0} (inner : S → T) (s : S) → ((t : S) (P : List (C × R)) → took s t P [] → takes (inner s) (inner t) (mapped_pairs f g P) []) → ((t u : S) → spoils t u → breaks (inner t) (inner u)) → (n : D → Q) (m : C → R) → ((c : C) → n (f c) ≡ g (m c)) → (t : S) → BrokeOff same m (BreaksOff took spoils s t) → BrokeOff like n (BreaksOff takes breaks (inner s) (inner t))
+  broke_through inner s sends spoiled n m each t is = record {
+    pairs = mapped_pairs f g is.pairs;
+    agrees = agrees_mapped n m each is.pairs is.agrees;
+    is_broken = record {
+      front = mapped_pairs f g is.is_broken.front;
+      rest = mapped_pairs f g is.is_broken.rest;
+      parts = ap (mapped_pairs f g) is.is_broken.parts ∙ map-append (λ (p : C × R). (f p.0, g p.1)) is.is_broken.front is.is_broken.rest;
+      mid = inner is.is_broken.mid;
+      taken = sends is.is_broken.mid is.is_broken.front is.is_broken.taken;
+      spoiled = spoiled is.is_broken.mid t is.is_broken.spoiled;
+    };
+  }

@@ -1,11 +1,10 @@
 -- How a call of a memoized function begins.
-use Rattle.std.specs.Prelude.{◌≡◌, Bool, true, List, [], IsTrue, refl}
+use Rattle.std.specs.Prelude.{◌≡◌, ◌⊎◌, Bool, true, List, [], IsTrue, refl}
 use Rattle.std.specs.Coded.{Coded, code_by, coded×, coded_bool}
 use Rattle.comemo_base.specs.Answers.{Respects, Agrees}
-use Rattle.comemo_base.specs.Tree.{Stored}
 use Rattle.tracking.specs.Recording.{Recording, recording_code}
-use Rattle.comemo.specs.Meaning.{Meaning, Asked}
-use Rattle.comemo.specs.Cache.{Kept, Stands, HasNone, Has}
+use Rattle.comemo.specs.Meaning.{Meaning, Invocation, Run, run}
+use Rattle.comemo.specs.Cache.{Entries, Stands, HasNone, Has}
 
 -- a run that began: its key, whether it is to be stored, and what it has recorded
 pub record PendingRun (K C R : Type 0) : Type 0 where
@@ -17,17 +16,21 @@ abbrev pub run_code : {K C R : Type 0} → Coded K → Coded C → Coded R → C
 run_code {K} {C} {R} k c r =
     code_by (K × (Bool × Recording C R)) (coded× k (coded× coded_bool (recording_code c r))) (λ s. (s.key, (s.enabled, s.recording))) (λ p. record { key = p.0; enabled = p.1.0; recording = p.1.1 }) (λ _. refl)
 
-module _ {K C R O : Type 0} (M : Meaning K C R O) (es : List (Stored K C R (Kept O C))) (call : Asked K C R) where
+-- what a run that ends with this output came to
+abbrev pub came_to : {K C R O : Type 0} → PendingRun K C R → O → Run K C R O
+came_to s output = run s.key s.recording.pairs output s.recording.writes
+
+module _ {K C R O : Type 0} (M : Meaning K C R O) (es : Entries K C R O) (call : Invocation K C R) where
   -- a run begins with the key, up to equality, and an empty recording that is whole, and where it is enabled no kept entry
   -- has the key and agrees
-  pub record IsRun (run : PendingRun K C R) : Type 0 where
-    pub has_key : IsTrue (M.eqk call.key run.key)
-    pub right : (n : C → R) (output : O) (writes : List C) → Respects M.eq M.same n → M.def run.key n output writes → M.def call.key n output writes
-    pub is_enabled : run.enabled ≡ call.enabled
-    pub pairs : run.recording.pairs ≡ []
-    pub writes : run.recording.writes ≡ []
-    pub whole : run.recording.whole ≡ true
-    pub none : call.enabled ≡ true → HasNone M.eq M.same M.eqk es call.key call.answers
+  pub record IsRun (begun : PendingRun K C R) : Type 0 where
+    pub has_key : IsTrue (M.same_key call.key begun.key)
+    pub right : (n : C → R) (output : O) (writes : List C) → Respects M.same_call M.same_answer n → M.def begun.key n output writes → M.def call.key n output writes
+    pub is_enabled : begun.enabled ≡ call.enabled
+    pub pairs : begun.recording.pairs ≡ []
+    pub writes : begun.recording.writes ≡ []
+    pub whole : begun.recording.whole ≡ true
+    pub none : call.enabled ≡ true → HasNone M es call
 
   -- a hit: an entry was kept that has the key and agrees with the answers; its path, and its writes in order, went to the
   -- sink, the writes were done on the input, and the output is right wherever the path agrees, so also at the answers
@@ -35,9 +38,17 @@ module _ {K C R O : Type 0} (M : Meaning K C R O) (es : List (Stored K C R (Kept
     pub pairs : List (C × R)
     pub writes : List C
     pub is_enabled : call.enabled ≡ true
-    pub kept : Has M.eq M.same M.eqk es call.key M.cloned call.answers pairs output writes
-    pub agrees : Agrees M.same call.answers pairs
-    pub stands : Stands M.eq M.same M.def call.key pairs output writes
+    pub kept : Has M es call (run call.key pairs output writes)
+    pub agrees : Agrees M.same_answer call.answers pairs
+    pub stands : Stands M (run call.key pairs output writes)
     pub are_done : done writes
     pub are_sent : sent pairs writes
     pub right : M.def call.key call.answers output writes
+
+  -- a call that did not begin: its sink, broken off, took a beginning of these pairs, which are none, or the path of an entry that
+  -- has the key and agrees with the answers
+  pub record IsBrokenOff (broken : List (C × R) → Type 0) : Type 0 where
+    pub pairs : List (C × R)
+    pub found : (pairs ≡ []) ⊎ ((output : O) × (writes : List C) × Has M es call (run call.key pairs output writes))
+    pub agrees : Agrees M.same_answer call.answers pairs
+    pub is_broken : broken pairs

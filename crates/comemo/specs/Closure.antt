@@ -1,24 +1,21 @@
 -- A call of a memoized function whose run is a closure.
 use Rattle.std.specs.Prelude.{◌≡◌, ◌↔◌, ◌⊎◌, true, false, List, [], IsTrue, Result, Ok, Err}
 use Rattle.std.specs.Borrow.{MutBor}
-use Rattle.comemo_base.specs.Answers.{Respects, Agrees}
-use Rattle.comemo_base.specs.Tree.{Stored}
 use Rattle.tracking.specs.Recording.{Recording}
-use Rattle.comemo.specs.Meaning.{Meaning, Asked}
-use Rattle.comemo.specs.Cache.{Kept, HasNone}
-use Rattle.comemo.specs.Called.{Gave}
+use Rattle.comemo.specs.Meaning.{Meaning, Invocation, run}
+use Rattle.comemo.specs.Cache.{Entries, Stands, HasNone}
 use Rattle.comemo.specs.Finish.{Ends, Gives}
 use Rattle.comemo.specs.declared.begin.Fault.{Fault}
 use Rattle.comemo.specs.declared.begin.Fault.TheVariants as fault
 use Rattle.comemo.specs.declared.finish.How.{How}
 use Rattle.comemo.specs.declared.finish.How.TheVariants as how
 
-module _ {K C R O : Type 0} (M : Meaning K C R O) (es : List (Stored K C R (Kept O C))) (call : Asked K C R) where
-  module _ {I P : Type 0} (did : I → List C → I → Type 0) (recorded : P → Recording C R) where
+module _ {K C R O : Type 0} (M : Meaning K C R O) (es : Entries K C R O) (call : Invocation K C R) where
+  module _ {I P : Type 0} (did : I → I → List C → Type 0) (recorded : P → Recording C R) where
     -- what a run is handed, where no kept entry has the key and agrees: the input, unchanged, and an empty recording that is whole
     pub record Starts (input : I) (i : MutBor I) (p : MutBor P) : Type 0 where
-      pub none : call.enabled ≡ true → HasNone M.eq M.same M.eqk es call.key call.answers
-      pub unchanged : did input [] i.now
+      pub none : call.enabled ≡ true → HasNone M es call
+      pub unchanged : did input i.now []
       pub pairs : (recorded p.now).pairs ≡ []
       pub writes : (recorded p.now).writes ≡ []
       pub whole : (recorded p.now).whole ≡ true
@@ -41,13 +38,13 @@ module _ {K C R O : Type 0} (M : Meaning K C R O) (es : List (Stored K C R (Kept
 
   -- the closure, whose runs are these, ran and gave the output; its recording, which is whole, went to the sink, and became of
   -- the entries what the reply says
-  pub record Ended (ran : Result O Fault → Recording C R → Type 0) (sent : List (C × R) → List C → Type 0) (output : O) (reply : How) (es' : List (Stored K C R (Kept O C))) : Type 0 where
+  pub record Ended (ran : Result O Fault → Recording C R → Type 0) (sent : List (C × R) → List C → Type 0) (output : O) (reply : How) (es' : Entries K C R O) : Type 0 where
     pub recording : Recording C R
     pub has_run : ran (Ok output) recording
     pub whole : recording.whole ≡ true
     pub own : K
-    pub has_key : IsTrue (M.eqk call.key own)
-    pub ends : Ends M es own recording.pairs output reply es'
+    pub has_key : IsTrue (M.same_key call.key own)
+    pub stands : Stands M (run call.key recording.pairs output recording.writes)
+    pub ends : Ends M es (run own recording.pairs output recording.writes) reply es'
     pub disabled : (reply ≡ how.Disabled) ↔ (call.enabled ≡ false)
     pub gives : Gives M sent recording.pairs recording.writes
-    pub gave : (n : C → R) → Respects M.eq M.same n → Agrees M.same n recording.pairs → Gave M call.key n sent output

@@ -1,35 +1,64 @@
 -- How a run of a memoized function ends.
-use Rattle.std.specs.Prelude.{◌≡◌, ◌↔◌, List, [], ◌∷◌}
+use Rattle.std.specs.Prelude.{◌≡◌, ◌↔◌, Bool, true, false, List, ◌∷◌}
 use Rattle.std.specs.List.Sorted.{IsPermutation}
 use Rattle.comemo_base.specs.Answers.{Respects, Agrees}
-use Rattle.comemo_base.specs.Tree.{Stored, IsSamePath, stored}
+use Rattle.comemo_base.specs.Tree.{IsSamePath, stored}
+use Rattle.comemo_base.specs.Lookup.{under}
 use Rattle.comemo_base.specs.Insertion.{Exists, Misses, IsNewPath}
-use Rattle.comemo.specs.Meaning.{Meaning}
-use Rattle.comemo.specs.Cache.{Kept}
+use Rattle.comemo.specs.Meaning.{Meaning, Run}
+use Rattle.comemo.specs.Cache.{Entries}
+use Rattle.comemo.specs.Begin.{PendingRun, came_to}
 use Rattle.comemo.specs.declared.finish.How.{How}
 use Rattle.comemo.specs.declared.finish.How.TheVariants as how
+use Rattle.comemo.specs.declared.finish.Reply.{Reply}
 
-module _ {K C R O : Type 0} (M : Meaning K C R O) (es : List (Stored K C R (Kept O C))) (key : K) (pairs : List (C × R)) (output : O) where
-  -- one more entry: the key, the path that the pairs take, and a clone of the output
-  pub record Adds (es' : List (Stored K C R (Kept O C))) : Type 0 where
-    pub path : List (C × R)
-    pub is_new : IsNewPath M.eq M.same M.eqk es key pairs path
-    pub kept : O
-    pub is_clone : M.cloned output kept
-    pub entries : IsPermutation (stored key path (record { output = kept; writes = [] }) ∷ es) es'
+module _ {K C R O : Type 0} (M : Meaning K C R O) (es : Entries K C R O) where
+  module _ (ran : Run K C R O) where
+    -- one more entry: the key, the path that the pairs take, a clone of the output, and the writes
+    pub record Adds (es' : Entries K C R O) : Type 0 where
+      pub path : List (C × R)
+      pub is_new : IsNewPath M.same_call M.same_answer (under M.same_key es ran.key) ran.pairs path
+      pub kept : O
+      pub is_clone : M.is_clone ran.output kept
+      pub entries : IsPermutation (stored ran.key path (record { output = kept; writes = ran.writes }) ∷ es) es'
 
-  -- the entries after a run of these pairs and this output, by what became of it; only a stored run adds one
-  abbrev pub Ends : How → List (Stored K C R (Kept O C)) → Type 0
-  Ends how.Hit es' = ⊥
-  Ends how.Stored es' = (¬ Exists M.eq M.same M.eqk es key pairs) × (¬ Misses M.eq M.same M.eqk es key pairs) × Adds es'
-  Ends how.AlreadyExists es' = Exists M.eq M.same M.eqk es key pairs × (es' ≡ es)
-  Ends how.MissingCall es' = Misses M.eq M.same M.eqk es key pairs × (es' ≡ es)
-  Ends how.NotStored es' = es' ≡ es
-  Ends how.Disabled es' = es' ≡ es
+    -- so a run is stored: no entry has all its pairs among those of the run, none lacks a call of it, and there is one more
+    abbrev pub Stores : Entries K C R O → Type 0
+    Stores es' = (¬ Exists M.same_call M.same_answer (under M.same_key es ran.key) ran.pairs) × (¬ Misses M.same_call M.same_answer (under M.same_key es ran.key) ran.pairs) × Adds es'
 
--- the pairs went to the sink, up to equality, so that the same answers agree with what went there
+    -- the entries after a run that came to this, by what became of it; only a stored run adds one
+    abbrev pub Ends : How → Entries K C R O → Type 0
+    Ends how.Hit es' = ⊥
+    Ends how.Stored es' = Stores es'
+    Ends how.AlreadyExists es' = Exists M.same_call M.same_answer (under M.same_key es ran.key) ran.pairs × (es' ≡ es)
+    Ends how.MissingCall es' = Misses M.same_call M.same_answer (under M.same_key es ran.key) ran.pairs × (es' ≡ es)
+    Ends how.NotStored es' = es' ≡ es
+    Ends how.Disabled es' = es' ≡ es
+
+-- the pairs went to the sink, up to equality, so that the same answers agree with what went there, and the writes
 pub record Gives {K C R O : Type 0} (M : Meaning K C R O) (sent : List (C × R) → List C → Type 0) (pairs : List (C × R)) (writes : List C) : Type 0 where
   pub given : List (C × R)
-  pub alike : IsSamePath M.eq M.same given pairs
-  pub agreeing : (m : C → R) → Respects M.eq M.same m → Agrees M.same m given ↔ Agrees M.same m pairs
+  pub alike : IsSamePath M.same_call M.same_answer given pairs
+  pub agreeing : (m : C → R) → Respects M.same_call M.same_answer m → Agrees M.same_answer m given ↔ Agrees M.same_answer m pairs
   pub are_sent : sent given writes
+
+-- the run was finished with this output, which is the reply's: its recording, which is whole, went to the sink, and became of
+-- the entries what the reply says
+pub record Finished {K C R O : Type 0} (M : Meaning K C R O) (es : Entries K C R O) (pending : PendingRun K C R) (sent : List (C × R) → List C → Type 0) (output : O) (reply : Reply O) (es' : Entries K C R O) : Type 0 where
+  pub whole : pending.recording.whole ≡ true
+  pub same : reply.output ≡ output
+  pub ends : Ends M es (came_to pending output) reply.how es'
+  pub disabled : (reply.how ≡ how.Disabled) ↔ (pending.enabled ≡ false)
+  pub gives : Gives M sent pending.recording.pairs pending.recording.writes
+
+-- a sink, broken off, took a beginning of these pairs, up to equality
+pub record BreaksOffRun {K C R O : Type 0} (M : Meaning K C R O) (broken : List (C × R) → Type 0) (pairs : List (C × R)) : Type 0 where
+  pub given : List (C × R)
+  pub alike : IsSamePath M.same_call M.same_answer given pairs
+  pub is_broken : broken given
+
+-- a sink, broken off, took a beginning of pairs that the answers agree with
+pub record BrokeOff {C R : Type 0} (same : R → R → Bool) (m : C → R) (broken : List (C × R) → Type 0) : Type 0 where
+  pub pairs : List (C × R)
+  pub agrees : Agrees same m pairs
+  pub is_broken : broken pairs

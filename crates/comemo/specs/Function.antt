@@ -1,7 +1,23 @@
--- What a memoized function of a key and a tracked value means.
-use Rattle.std.specs.Prelude.{◌≡◌, Bool, true, IsTrue}
+-- What a memoized function of a key and a tracked value means, and what its run is told.
+use Rattle.std.specs.Prelude.{◌≡◌, Bool, true, false, IsTrue, List, [], Result, IfOk, OnOk, IfErr, refl}
+use Rattle.std.specs.Coded.{Coded, code_by, coded×}
 use Rattle.comemo_base.specs.Answers.{Respects, Agrees}
-use Rattle.tracking.specs.Recording.{Recording}
+use Rattle.tracking.specs.Recording.{Recording, recording_code}
+use Rattle.comemo.specs.declared.begin.Fault.{Fault}
+use Rattle.comemo.specs.declared.begin.Fault.TheVariants as fault
+
+-- a recorder: the value that is asked, and what it was asked
+pub record Recorded (V C R : Type 0) : Type 0 where
+  pub value : V
+  pub recording : Recording C R
+
+abbrev pub recorded_code : {V C R : Type 0} → Coded V → Coded C → Coded R → Coded (Recorded V C R)
+recorded_code {V} {C} {R} v c r = code_by (V × Recording C R) (coded× v (recording_code c r)) (λ s. (s.value, s.recording)) (λ p. record { value = p.0; recording = p.1 }) (λ _. refl)
+
+-- what a recorder keeps of its recording: while nothing is lost, the value's answers agree with it, and there are no writes
+pub record IsRecorded {C R : Type 0} (same : R → R → Bool) (m : C → R) (recording : Recording C R) : Type 0 where
+  pub agrees : recording.whole ≡ true → Agrees same m recording.pairs
+  pub no_writes : recording.writes ≡ []
 
 module _ {C R : Type 0} (eq : C → C → Bool) (same : R → R → Bool) where
   -- nothing is lost of the recording, and the answers, which tell no equal calls apart, agree with it
@@ -20,6 +36,15 @@ module _ {C R : Type 0} (eq : C → C → Bool) (same : R → R → Bool) where
     pub outputs : (key : K) (m : C → R) (a b : O) → Respects eq same m → cloned a b → means key m a → means key m b
     pub keys : (j k : K) (m : C → R) (output : O) → Respects eq same m → IsTrue (eqk j k) → means j m output → means k m output
     pub clones : (x y : K) → key_clone x y → IsTrue (eqk x y)
+
+-- what a run is told by a question or a call, which took its recorder from s to t: of the same value, where it is answered, what
+-- fits the recording fitted it before, and P holds of the answer and of whatever fits; and it says that the recording is
+-- incomplete only where it is spoiled
+pub record Tells {V C R X : Type 0} (fits : Recording C R → (C → R) → Type 0) (s t : Recorded V C R) (r : Result X Fault) (P : X → (C → R) → Type 0) : Type 0 where
+  pub same_value : t.value ≡ s.value
+  pub before : OnOk r ((m : C → R) → fits t.recording m → fits s.recording m)
+  pub told : IfOk r (λ answer. (m : C → R) → fits t.recording m → P answer m)
+  pub fault : IfErr r (λ f. f ≡ fault.Incomplete → t.recording.whole ≡ false)
 
 -- what holds of the answers of a part, whichever they are: the part's calls are calls of the whole by f, and its answers
 -- answers by g

@@ -6,7 +6,6 @@ pub mod Finish
 pub mod Called
 pub mod Closure
 pub mod Function
-pub mod FunctionLaws
 pub use Rattle.tracking.specs.Sending
 pub use Rattle.tracking.specs.Recording
 pub use Rattle.tracking.specs.RecordingLaws

@@ -1,32 +1,41 @@
 -- What a memoized function means, and how it is called, each as one value.
-use Rattle.std.specs.Prelude.{◌≡◌, Bool, List}
+use Rattle.std.specs.Prelude.{◌≡◌, Bool, List, []}
 
--- when two calls, two answers and two keys are equal and an output is a clone; and which outputs and writes are right
+-- when two calls, two answers and two keys are equal, which calls are writes, and when an output is a clone of another; and
+-- which outputs and writes are right at a key and at answers
 pub record Meaning (K C R O : Type 0) : Type 1 where
-  pub eq : C → C → Bool
-  pub same : R → R → Bool
-  pub eqk : K → K → Bool
-  pub cloned : O → O → Type 0
+  pub same_call : C → C → Bool
+  pub same_answer : R → R → Bool
+  pub same_key : K → K → Bool
+  pub is_write : C → Bool
+  pub is_clone : O → O → Type 0
   pub def : K → (C → R) → O → List C → Type 0
 
 -- the same, where an output has no clone but itself
 abbrev pub exactly : {K C R O : Type 0} → Meaning K C R O → Meaning K C R O
-exactly M = record { eq = M.eq; same = M.same; eqk = M.eqk; cloned = λ a b. b ≡ a; def = M.def }
+exactly M = record M { is_clone = λ a b. b ≡ a }
 
--- a call of a memoized function: its key, what its input answers, and whether the cache is looked up
-pub record Asked (K C R : Type 0) : Type 0 where
+-- what a function that only reads means, where these outputs are right: that there are no writes, and such an output
+abbrev pub reading : {K C R O : Type 0} → (K → (C → R) → O → Type 0) → K → (C → R) → O → List C → Type 0
+reading right key m output writes = (writes ≡ []) × right key m output
+
+-- a call of a memoized function: its key, what its input answers, and whether the cache is looked up and the run kept
+pub record Invocation (K C R : Type 0) : Type 0 where
   pub key : K
   pub answers : C → R
   pub enabled : Bool
 
 -- that record
-abbrev pub asked : {K C R : Type 0} → K → (C → R) → Bool → Asked K C R
-asked k m b = record { key = k; answers = m; enabled = b }
+abbrev pub invocation : {K C R : Type 0} → K → (C → R) → Bool → Invocation K C R
+invocation k m b = record { key = k; answers = m; enabled = b }
 
--- the writes that were done from i to j
-abbrev pub done : {I C : Type 0} → (I → List C → I → Type 0) → I → I → List C → Type 0
-done did i j writes = did i writes j
+-- what a run came to: under a key, by the reads that it recorded with their answers, an output, and the writes that it did
+pub record Run (K C R O : Type 0) : Type 0 where
+  pub key : K
+  pub pairs : List (C × R)
+  pub output : O
+  pub writes : List C
 
--- the pairs and the writes that went to a sink from s to t
-abbrev pub sent : {S C R : Type 0} → (S → List (C × R) → List C → S → Type 0) → S → S → List (C × R) → List C → Type 0
-sent took s t pairs writes = took s pairs writes t
+-- that record
+abbrev pub run : {K C R O : Type 0} → K → List (C × R) → O → List C → Run K C R O
+run k ps o ws = record { key = k; pairs = ps; output = o; writes = ws }

@@ -1,9 +1,9 @@
 //! How a call of a memoized function begins: with a hit, or with a run.
-ghost use Rattle.std.specs.Prelude.{◌≡◌, [], ◌∷◌, ◌++◌, List, Bool, true, false, IsTrue, IfOk, IfErr, OnOk, OnErr};
+ghost use Rattle.std.specs.Prelude.{◌≡◌, [], ◌∷◌, ◌++◌, List, Bool, true, false, IsTrue, IfOk, IfErr, OnOk, OnErr, ⊤};
 ghost use Rattle.std.specs.List.{All};
-ghost use Rattle.comemo.specs.Meaning.{asked, done, sent};
+ghost use Rattle.comemo.specs.Meaning.{Invocation, invocation};
 ghost use Rattle.comemo.specs.Cache.{Touches};
-ghost use Rattle.comemo.specs.Begin.{IsHit, IsRun};
+ghost use Rattle.comemo.specs.Begin.{IsHit, IsRun, IsBrokenOff};
 ghost use Rattle.comemo.specs.Begun.{OnBegun};
 
 use crate::memoize::{CacheData, Found, Meant, Memo};
@@ -11,7 +11,7 @@ use std::alloc::{AllocError, Global};
 use std::marker::Model;
 use tracking::constraint::Constraint;
 use tracking::input::Input;
-use tracking::track::{Call, Sink};
+use tracking::track::{Breaking, Call, Sink};
 
 /// Why a call failed. Each fault spoils the sink.
 ///
@@ -78,16 +78,15 @@ pub enum Begun<M: Memo> {
     Run(Pending<M>),
 }
 
-/// Sends reads with their answers to a sink.
-fn send_pairs<S: Sink>(pairs: Vec<(S::Call, S::Answer)>, sink: &mut S) -> Result<(), AllocError>
-    requires { All (λ p. S.Call.is_write p.0 ≡ false) pairs.items }
-    ensures ok { OnOk result (S.took sink.old pairs.items [] sink.new) }
-    ensures err { OnErr result ((t : S) → S.spoils sink.new t → S.spoils sink.old t) }
-{
-    for (call, answer) in pairs {
-        let _ = sink.emit(call, Some(answer))?;
-    }
-    Ok(())
+/// A call at an input, as one value, for contracts to cite: `⟦<In as Invoked>⟧.invoked`.
+///
+/// There is nothing to implement. This project's own.
+pub trait Invoked: Input {
+    ghost invoked: { Self → Bool → Invocation Self.Key Self.Call Self.Answer };
+}
+
+impl<In: Input> Invoked for In {
+    ghost invoked = { λ s enabled. invocation (In.key_of s) (In.answers s) enabled };
 }
 
 /// Gives reads with their answers to a sink, and spoils it where there is no memory.
@@ -96,12 +95,15 @@ pub(crate) fn give_pairs<S: Sink>(
     sink: &mut S,
 ) -> Result<(), Fault>
     requires { All (λ p. S.Call.is_write p.0 ≡ false) pairs.items }
-    ensures ok { OnOk result (S.took sink.old pairs.items [] sink.new) }
-    ensures err { IfErr result (λ fault. (fault ≡ Fault.Memory) × S.spoils sink.old sink.new) }
+    ensures ok { OnOk result (S.took sink.old sink.new pairs.items []) }
+    ensures fault { IfErr result (λ fault. fault ≡ Fault.Memory) }
+    ensures err { OnErr result (⟦<S as Breaking>⟧.breaks_off sink.old sink.new pairs.items) }
 {
-    if send_pairs(pairs, sink).is_err() {
-        sink.spoil();
-        return Err(Fault::Memory);
+    for (call, answer) in pairs {
+        let Ok(_) = sink.emit(call, Some(answer)) else {
+            sink.spoil();
+            return Err(Fault::Memory);
+        };
     }
     Ok(())
 }
@@ -122,16 +124,20 @@ pub fn begin<
     sink: &mut S,
     enabled: bool,
 ) -> Result<Begun<M>, Fault>
-    ensures begun { IfOk result (λ b. OnBegun b
+    ensures hit { IfOk result (λ b. OnBegun b
         (λ output. IsHit ⟦<M as Meant>⟧.meaning cache.old
-        (asked (In.key_of input.old) (In.answers input.old) enabled)
-        (done In.did input.old input.new) (sent S.took sink.old sink.new) output)
+        (⟦<In as Invoked>⟧.invoked input.old enabled)
+        (In.did input.old input.new) (S.took sink.old sink.new) output
+        × Touches cache.old cache.new)
+        (λ _. ⊤)) }
+    ensures run { IfOk result (λ b. OnBegun b (λ _. ⊤)
         (λ run. IsRun ⟦<M as Meant>⟧.meaning cache.old
-        (asked (In.key_of input.old) (In.answers input.old) enabled) run
-        × In.did input.old [] input.new × (sink.new ≡ sink.old))) }
-    ensures kept { IfOk result (λ b. OnBegun b (λ _. Touches cache.old cache.new) (λ _. cache.new ≡ cache.old)) }
-    ensures err { IfErr result (λ fault. (fault ≡ Fault.Memory) × S.spoils sink.old sink.new
-        × In.did input.old [] input.new × (cache.new ≡ cache.old)) }
+        (⟦<In as Invoked>⟧.invoked input.old enabled) run
+        × In.did input.old input.new [] × (sink.new ≡ sink.old) × (cache.new ≡ cache.old))) }
+    ensures fault { IfErr result (λ fault. fault ≡ Fault.Memory) }
+    ensures err { OnErr result ((cache.new ≡ cache.old) × In.did input.old input.new []
+        × IsBrokenOff ⟦<M as Meant>⟧.meaning cache.old (⟦<In as Invoked>⟧.invoked input.old enabled)
+        (⟦<S as Breaking>⟧.breaks_off sink.old sink.new)) }
 {
     let Ok(key) = input.key() else {
         sink.spoil();

@@ -1,19 +1,19 @@
 //! A call of a memoized function whose run is a closure.
-ghost use Rattle.std.specs.Prelude.{◌≡◌, [], true, IfOk, IfErr, OnErr, Ok};
+ghost use Rattle.std.specs.Prelude.{◌≡◌, [], List, true, IfOk, IfErr, OnErr, Ok};
 ghost use Rattle.std.specs.Borrow.{MutBor};
 ghost use Rattle.comemo.specs.Begin.{IsHit};
 ghost use Rattle.tracking.specs.Recording.{Recording};
-ghost use Rattle.comemo.specs.Meaning.{asked, done, sent};
+ghost use Rattle.comemo.specs.Meaning.{run};
 ghost use Rattle.comemo.specs.Cache.{Stands, Touches};
 ghost use Rattle.comemo.specs.Closure.{Starts, Ran, Ended, IsFault};
 
-use crate::begin::{Begun, Fault, begin};
+use crate::begin::{Begun, Fault, Invoked, begin};
 use crate::finish::{How, Reply};
 use crate::memoize::{CacheData, Meant, Memo};
 use std::alloc::Global;
 use tracking::constraint::Constraint;
 use tracking::input::Input;
-use tracking::track::{Call, Sink};
+use tracking::track::{Breaking, Call, Sink};
 
 /// The recording that a closure is handed. `Constraint` is one, and there is no other.
 ///
@@ -73,30 +73,32 @@ pub fn memoize<
     mut input: In,
     sink: &mut S,
     enabled: bool,
-    run: F,
+    func: F,
 ) -> Result<Reply<M::Out>, Fault>
     requires callable { (i : MutBor In) (p : MutBor P)
-        → Starts ⟦<M as Meant>⟧.meaning cache.now (asked (In.key_of input) (In.answers input) enabled)
+        → Starts ⟦<M as Meant>⟧.meaning cache.now (⟦<In as Invoked>⟧.invoked input enabled)
         In.did P.recorded input i p
-        → F.pre run i p }
+        → F.pre func i p }
     requires right { (output : M.Out) (t : Recording M.Call M.Answer)
-        → Ran ⟦<M as Meant>⟧.meaning cache.now (asked (In.key_of input) (In.answers input) enabled)
-        In.did P.recorded (F.post run) input (Ok output) t
+        → Ran ⟦<M as Meant>⟧.meaning cache.now (⟦<In as Invoked>⟧.invoked input enabled)
+        In.did P.recorded (F.post func) input (Ok output) t
         → t.whole ≡ true
-        → Stands M.Call.eq M.Answer.eq M.def (In.key_of input) t.pairs output t.writes }
+        → Stands ⟦<M as Meant>⟧.meaning (run (In.key_of input) t.pairs output t.writes) }
     ensures hit { IfOk result (λ reply. reply.how ≡ How.Hit → ((j : In)
-        × IsHit ⟦<M as Meant>⟧.meaning cache.old (asked (In.key_of input) (In.answers input) enabled)
-        (done In.did input j) (sent S.took sink.old sink.new) reply.output)
+        × IsHit ⟦<M as Meant>⟧.meaning cache.old (⟦<In as Invoked>⟧.invoked input enabled)
+        (In.did input j) (S.took sink.old sink.new) reply.output)
         × Touches cache.old cache.new) }
     ensures run { IfOk result (λ reply. (reply.how ≡ How.Hit → ⊥)
-        → Ended ⟦<M as Meant>⟧.meaning cache.old (asked (In.key_of input) (In.answers input) enabled)
-        (Ran ⟦<M as Meant>⟧.meaning cache.old (asked (In.key_of input) (In.answers input) enabled)
-        In.did P.recorded (F.post run) input)
-        (sent S.took sink.old sink.new) reply.output reply.how cache.new) }
+        → Ended ⟦<M as Meant>⟧.meaning cache.old (⟦<In as Invoked>⟧.invoked input enabled)
+        (Ran ⟦<M as Meant>⟧.meaning cache.old (⟦<In as Invoked>⟧.invoked input enabled)
+        In.did P.recorded (F.post func) input)
+        (S.took sink.old sink.new) reply.output reply.how cache.new) }
     ensures fault { IfErr result (λ fault.
-        IsFault ⟦<M as Meant>⟧.meaning cache.old (asked (In.key_of input) (In.answers input) enabled)
-        In.did P.recorded (F.post run) input fault) }
-    ensures err { OnErr result ((cache.new ≡ cache.old) × S.spoils sink.old sink.new) }
+        IsFault ⟦<M as Meant>⟧.meaning cache.old (⟦<In as Invoked>⟧.invoked input enabled)
+        In.did P.recorded (F.post func) input fault) }
+    ensures err { OnErr result ((cache.new ≡ cache.old)
+        × (pairs : List (M.Call × M.Answer))
+        × ⟦<S as Breaking>⟧.breaks_off sink.old sink.new pairs) }
 {
     match begin(alloc, cache, &mut input, sink, enabled)? {
         Begun::Hit(output) => Ok(Reply {
@@ -105,7 +107,7 @@ pub fn memoize<
         }),
         Begun::Run(mut pending) => {
             let mut recording = P::empty(alloc);
-            let ran = run(&mut input, &mut recording);
+            let ran = func(&mut input, &mut recording);
             pending.recording = recording.into_constraint();
             pending.end(cache, sink, ran)
         }

@@ -1,19 +1,18 @@
 //! How a run of a memoized function ends: it is finished, and stored where it can be, or given up.
 ghost use Rattle.std.specs.Prelude.{◌≡◌, [], ◌∷◌, ◌++◌, ◌↔◌, List, Bool, true, false, IsTrue, IfOk, IfErr, OnOk, OnErr, Ok, Err};
 ghost use Rattle.std.specs.List.{All};
-ghost use Rattle.comemo_base.specs.Answers.{Respects, Agrees};
 ghost use Rattle.comemo_base.specs.Tree.{IsSamePath};
-ghost use Rattle.comemo.specs.Meaning.{exactly, sent};
+ghost use Rattle.comemo.specs.Meaning.{exactly, run};
 ghost use Rattle.comemo.specs.Cache.{Stands};
-ghost use Rattle.comemo.specs.Called.{Gave, Grows, Finished};
-ghost use Rattle.comemo.specs.Finish.{Ends, Gives};
+ghost use Rattle.comemo.specs.Begin.{came_to};
+ghost use Rattle.comemo.specs.Finish.{Ends, Gives, Finished, BreaksOffRun};
 
 use crate::begin::{Fault, Pending, give_pairs};
 use crate::memoize::{CacheData, Meant, Memo};
 use comemo_base::{CallSequence, InsertError};
 use std::alloc::{AllocError, Global};
 use tracking::constraint::Constraint;
-use tracking::track::{Call, Sink};
+use tracking::track::{Breaking, Call, Sink};
 
 /// What became of a call of a memoized function. With all but `Hit` the sink has the run's recording.
 ///
@@ -66,7 +65,8 @@ fn copy_run<M: Memo>(
     reads: &CallSequence<M::Call, M::Answer>,
     output: &M::Out,
 ) -> Result<(Vec<(M::Call, M::Answer)>, M::Out), AllocError>
-    ensures pairs { IfOk result (λ copies. IsSamePath M.Call.eq M.Answer.eq copies.0.items reads.now.pairs) }
+    ensures pairs { IfOk result
+        (λ copies. IsSamePath M.Call.eq M.Answer.eq copies.0.items reads.now.pairs) }
     ensures output { IfOk result (λ copies. M.Out.is_clone output.now copies.1) }
 {
     let pairs = copy_pairs(alloc, reads)?;
@@ -74,30 +74,21 @@ fn copy_run<M: Memo>(
     Ok((pairs, kept))
 }
 
-/// Sends the pairs of a sequence of reads to a sink.
-fn send_reads<S: Sink>(
+/// Gives the pairs of a sequence of reads to a sink, and spoils it where there is no memory.
+fn give_reads<S: Sink>(
     mut reads: CallSequence<S::Call, S::Answer>,
     sink: &mut S,
-) -> Result<(), AllocError>
+) -> Result<(), Fault>
     requires { All (λ p. S.Call.is_write p.0 ≡ false) reads.pairs }
-    ensures ok { OnOk result (S.took sink.old reads.pairs [] sink.new) }
-    ensures err { OnErr result ((t : S) → S.spoils sink.new t → S.spoils sink.old t) }
+    ensures ok { OnOk result (S.took sink.old sink.new reads.pairs []) }
+    ensures fault { IfErr result (λ fault. fault ≡ Fault.Memory) }
+    ensures err { OnErr result (⟦<S as Breaking>⟧.breaks_off sink.old sink.new reads.pairs) }
 {
     while let Some((call, answer)) = reads.next() {
-        let _ = sink.emit(call, Some(answer))?;
-    }
-    Ok(())
-}
-
-/// Gives the pairs of a sequence of reads to a sink, and spoils it where there is no memory.
-fn give_reads<S: Sink>(reads: CallSequence<S::Call, S::Answer>, sink: &mut S) -> Result<(), Fault>
-    requires { All (λ p. S.Call.is_write p.0 ≡ false) reads.pairs }
-    ensures ok { OnOk result (S.took sink.old reads.pairs [] sink.new) }
-    ensures err { IfErr result (λ fault. (fault ≡ Fault.Memory) × S.spoils sink.old sink.new) }
-{
-    if send_reads(reads, sink).is_err() {
-        sink.spoil();
-        return Err(Fault::Memory);
+        let Ok(_) = sink.emit(call, Some(answer)) else {
+            sink.spoil();
+            return Err(Fault::Memory);
+        };
     }
     Ok(())
 }
@@ -110,8 +101,9 @@ fn keep<M: Memo>(
     output: M::Out,
 ) -> How
     requires reads { All (λ p. M.Call.is_write p.0 ≡ false) reads.pairs }
-    requires stands { Stands M.Call.eq M.Answer.eq M.def key reads.pairs output [] }
-    ensures ends { Ends (exactly ⟦<M as Meant>⟧.meaning) cache.old key reads.pairs output result cache.new }
+    requires stands { Stands ⟦<M as Meant>⟧.meaning (run key reads.pairs output []) }
+    ensures ends { Ends (exactly ⟦<M as Meant>⟧.meaning) cache.old
+        (run key reads.pairs output []) result cache.new }
     ensures enabled { result ≡ How.Disabled → ⊥ }
 {
     match cache.store(key, reads, output) {
@@ -132,11 +124,16 @@ fn end_run<M: Memo, S: Sink<Call = M::Call, Answer = M::Answer>>(
     output: &M::Out,
 ) -> Result<How, Fault>
     requires reads { All (λ p. M.Call.is_write p.0 ≡ false) reads.pairs }
-    requires stands { Stands M.Call.eq M.Answer.eq M.def key reads.pairs output.now [] }
-    ensures ends { IfOk result (λ how. Ends ⟦<M as Meant>⟧.meaning cache.old key reads.pairs output.now how cache.new) }
+    requires stands { Stands ⟦<M as Meant>⟧.meaning (run key reads.pairs output.now []) }
+    ensures ends { IfOk result (λ how. Ends ⟦<M as Meant>⟧.meaning cache.old
+        (run key reads.pairs output.now []) how cache.new) }
     ensures enabled { IfOk result (λ how. how ≡ How.Disabled → ⊥) }
-    ensures gives { OnOk result (Gives ⟦<M as Meant>⟧.meaning (sent S.took sink.old sink.new) reads.pairs []) }
-    ensures err { IfErr result (λ fault. (fault ≡ Fault.Memory) × (cache.new ≡ cache.old) × S.spoils sink.old sink.new) }
+    ensures gives { OnOk result
+        (Gives ⟦<M as Meant>⟧.meaning (S.took sink.old sink.new) reads.pairs []) }
+    ensures fault { IfErr result (λ fault. fault ≡ Fault.Memory) }
+    ensures err { OnErr result ((cache.new ≡ cache.old)
+        × BreaksOffRun ⟦<M as Meant>⟧.meaning
+        (⟦<S as Breaking>⟧.breaks_off sink.old sink.new) reads.pairs) }
 {
     let Ok((pairs, kept)) = copy_run::<M>(alloc, &reads, output) else {
         give_reads(reads, sink)?;
@@ -159,19 +156,15 @@ impl<M: Memo> Pending<M> {
         sink: &mut S,
         output: M::Out,
     ) -> Result<Reply<M::Out>, Fault>
-        requires { self.recording.whole ≡ true → Stands M.Call.eq M.Answer.eq M.def self.key self.recording.pairs output self.recording.writes }
-        ensures output { IfOk result (λ reply. reply.output ≡ output) }
-        ensures ends { IfOk result (λ reply. Ends ⟦<M as Meant>⟧.meaning cache.old self.key
-            self.recording.pairs output reply.how cache.new) }
-        ensures disabled { IfOk result (λ reply. (reply.how ≡ How.Disabled) ↔ (self.enabled ≡ false)) }
-        ensures gives { OnOk result (Gives ⟦<M as Meant>⟧.meaning (sent S.took sink.old sink.new)
-            self.recording.pairs self.recording.writes) }
-        ensures gave { IfOk result (λ reply. (m : M.Call → M.Answer) → Respects M.Call.eq M.Answer.eq m
-            → Agrees M.Answer.eq m self.recording.pairs
-            → Gave ⟦<M as Meant>⟧.meaning self.key m (sent S.took sink.old sink.new) reply.output) }
-        ensures grows { Grows cache.old cache.new }
+        requires { self.recording.whole ≡ true
+            → Stands ⟦<M as Meant>⟧.meaning (came_to self output) }
+        ensures finished { IfOk result (λ reply. Finished ⟦<M as Meant>⟧.meaning cache.old self
+            (S.took sink.old sink.new) output reply cache.new) }
         ensures incomplete { (result ≡ Err Fault.Incomplete) ↔ (self.recording.whole ≡ false) }
-        ensures err { OnErr result ((cache.new ≡ cache.old) × S.spoils sink.old sink.new) }
+        ensures spoils { self.recording.whole ≡ false → S.spoils sink.old sink.new }
+        ensures err { OnErr result ((cache.new ≡ cache.old)
+            × BreaksOffRun ⟦<M as Meant>⟧.meaning (⟦<S as Breaking>⟧.breaks_off sink.old sink.new)
+            self.recording.pairs) }
     {
         let Pending {
             alloc,
@@ -203,12 +196,17 @@ impl<M: Memo> Pending<M> {
         ran: Result<M::Out, Fault>,
     ) -> Result<Reply<M::Out>, Fault>
         requires { (output : M.Out) → ran ≡ Ok output → self.recording.whole ≡ true
-            → Stands M.Call.eq M.Answer.eq M.def self.key self.recording.pairs output self.recording.writes }
+            → Stands ⟦<M as Meant>⟧.meaning (came_to self output) }
         ensures finished { IfOk result (λ reply. (output : M.Out) × (ran ≡ Ok output)
-            × Finished ⟦<M as Meant>⟧.meaning cache.old self (sent S.took sink.old sink.new) output reply cache.new) }
-        ensures incomplete { IfOk ran (λ _. (result ≡ Err Fault.Incomplete) ↔ (self.recording.whole ≡ false)) }
-        ensures fault { IfErr ran (λ fault. result ≡ Err fault) }
-        ensures err { OnErr result ((cache.new ≡ cache.old) × S.spoils sink.old sink.new) }
+            × Finished ⟦<M as Meant>⟧.meaning cache.old self
+            (S.took sink.old sink.new) output reply cache.new) }
+        ensures incomplete { IfOk ran
+            (λ _. (result ≡ Err Fault.Incomplete) ↔ (self.recording.whole ≡ false)) }
+        ensures fault { IfErr ran (λ fault. (result ≡ Err fault) × S.spoils sink.old sink.new) }
+        ensures spoils { self.recording.whole ≡ false → S.spoils sink.old sink.new }
+        ensures err { OnErr result ((cache.new ≡ cache.old)
+            × BreaksOffRun ⟦<M as Meant>⟧.meaning (⟦<S as Breaking>⟧.breaks_off sink.old sink.new)
+            self.recording.pairs) }
     {
         match ran {
             Ok(output) => self.finish(cache, sink, output),

@@ -1,37 +1,45 @@
 //! The library's front door: a memoized function of a key and a tracked value, as one trait and one call.
 ghost use Rattle.std.specs.Prelude.{◌≡◌, [], List, true, false, IsTrue, IfOk, IfErr, OnOk, OnErr};
-ghost use Rattle.comemo_base.specs.Answers.{Agrees};
-ghost use Rattle.comemo.specs.Meaning.{asked, sent};
-ghost use Rattle.comemo.specs.Called.{Gave, Came};
-ghost use Rattle.tracking.specs.Recording.{Recording};
-ghost use Rattle.comemo.specs.Function.{Fits, Learns, Laws};
-ghost use Rattle.comemo.specs.FunctionLaws.{agrees_if_prop};
+ghost use Rattle.comemo.specs.Meaning.{invocation, reading};
+ghost use Rattle.comemo.specs.Called.{IsReply};
+ghost use Rattle.comemo.specs.Finish.{BrokeOff};
+ghost use Rattle.tracking.specs.Recording.{Recording, Took, Spoiled};
+ghost use Rattle.tracking.specs.Sending.{Asks, BreaksOff};
+ghost use Rattle.comemo.specs.Function.{Recorded, Fits, Tells, Laws};
 
 use crate::begin::{Begun, Fault, begin};
 use crate::finish::{How, Reply};
 use crate::memoize::{CacheData, Meant, Memo};
 use std::alloc::Global;
 use std::hash::Hash;
-use std::marker::PhantomData;
+use std::marker::{Model, PhantomData};
 use tracking::constraint::Constraint;
 use tracking::input::Keyed;
-use tracking::track::{Call, Sink, Track, Tracked};
+use tracking::track::{Breaking, Call, Sink, Track, Tracked};
 
-/// What a recording tells of a tracked value's answers, for contracts to cite, as `⟦<T as Told>⟧.learns`.
+/// What a recorder tells of a tracked value's answers, for contracts to cite, as `⟦<T as Told>⟧.fits`.
 ///
 /// There is nothing to implement. This project's own.
 pub trait Told: Track {
     // nothing is lost of the recording, and the answers agree with it
     ghost fits: { Recording Self.Call Self.Answer → (Self.Call → Self.Answer) → Type 0 };
 
-    // answers that fit the second recording fit the first, from which it went on, and this holds of them
-    ghost learns: { Recording Self.Call Self.Answer → Recording Self.Call Self.Answer → ((Self.Call → Self.Answer) → Type 0) → Type 0 };
+    // the recording of the second is that of the first after it took these pairs and these writes
+    ghost took: { Recorded Self Self.Call Self.Answer → Recorded Self Self.Call Self.Answer
+        → List (Self.Call × Self.Answer) → List Self.Call → Type 0 };
+
+    // it is that of the first after it took a beginning of pairs that the value's answers agree with, and then was spoiled
+    ghost broke_off: { Recorded Self Self.Call Self.Answer → Recorded Self Self.Call Self.Answer
+        → Type 0 };
 }
 
 impl<T: Track> Told for T {
     ghost fits = { Fits T.Call.eq T.Answer.eq };
 
-    ghost learns = { Learns T.Call.eq T.Answer.eq };
+    ghost took = { λ s t. Took T.Call.eq s.recording t.recording };
+
+    ghost broke_off = { λ s t. BrokeOff T.Answer.eq (T.answers s.value)
+        (BreaksOff (Took T.Call.eq) Spoiled s.recording t.recording) };
 }
 
 /// A memoized function of a key and a tracked value.
@@ -61,13 +69,15 @@ pub trait Function {
         of: &mut Recorder<'_, Self::Of>,
         needs: &mut Self::Needs,
     ) -> Result<Self::Out, Fault>
-        ensures same { of.new.view ≡ of.old.view }
+        ensures same { of.new.value ≡ of.old.value }
         ensures right { IfOk result (λ output. (m : Self.Of.Call → Self.Of.Answer)
             → ⟦<Self::Of as Told>⟧.fits of.new.recording m → means key.now m output) }
-        ensures fault { IfErr result (λ fault. fault ≡ Fault.Incomplete → of.new.recording.whole ≡ false) };
+        ensures fault { IfErr result
+            (λ fault. fault ≡ Fault.Incomplete → of.new.recording.whole ≡ false) };
 
     // clones of keys are equal, and the meaning tells apart neither equal keys nor an output from its clone
-    ghost laws: { Laws Self.Of.Call.eq Self.Of.Answer.eq Self.Key.eq Self.Key.is_clone Self.Out.is_clone means };
+    ghost laws: { Laws Self.Of.Call.eq Self.Of.Answer.eq Self.Key.eq Self.Key.is_clone
+        Self.Out.is_clone means };
 }
 
 /// A view of a tracked value that records what it is asked. A run is handed one.
@@ -78,14 +88,24 @@ pub struct Recorder<'a, T: Track> {
     pub(crate) alloc: Global,
     pub(crate) view: Tracked<'a, T>,
     pub(crate) recording: Constraint<T::Call, T::Answer>,
-    // while nothing is lost, the value's answers agree with what is recorded
-    ghost agrees: { recording.whole ≡ true → Agrees T.Answer.eq (T.answers view) recording.pairs } by { agrees_if_prop T.Answer.eq (T.answers view) recording.whole recording.pairs },
+}
+
+impl<'a, T: Track> Model for Recorder<'a, T> {
+    ghost use Rattle.comemo.specs.Function.{Recorded, recorded_code, IsRecorded};
+
+    ghost Value = { Recorded T T.Call T.Answer };
+
+    ghost coded = { recorded_code T.code T.Call.code T.Answer.code };
+
+    ghost view = { λ s. record { value = s.view; recording = s.recording } };
+
+    ghost invariant = { λ s. IsRecorded T.Answer.eq (T.answers s.view) s.recording };
 }
 
 impl<'a, T: Track> Recorder<'a, T> {
     /// A recorder of nothing.
     fn new(alloc: Global, view: Tracked<'a, T>) -> Self
-        ensures view { result.view ≡ view.entry }
+        ensures value { result.value ≡ view.entry }
         ensures pairs { result.recording.pairs ≡ [] }
         ensures writes { result.recording.writes ≡ [] }
         ensures whole { result.recording.whole ≡ true }
@@ -103,12 +123,13 @@ impl<'a, T: Track> Recorder<'a, T> {
     /// which is as it was then.
     pub fn ask(&mut self, call: T::Call) -> Result<T::Answer, Fault>
         requires { T.Call.is_write call ≡ false }
-        ensures same { self.new.view ≡ self.old.view }
-        ensures learns { IfOk result (λ answer. ⟦<T as Told>⟧.learns self.old.recording self.new.recording
-            (λ m. IsTrue (T.Answer.eq (m call) answer))) }
-        ensures answer { IfOk result (λ answer. IsTrue (T.Answer.eq (T.answers self.old.view call) answer)) }
-        ensures whole { self.new.recording.whole ≡ self.old.recording.whole }
-        ensures err { IfErr result (λ fault. (fault ≡ Fault.Memory) × (self.new.recording.pairs ≡ self.old.recording.pairs)) }
+        ensures tells { Tells ⟦<T as Told>⟧.fits self.old self.new result
+            (λ answer m. IsTrue (T.Answer.eq (m call) answer)) }
+        ensures asks { IfOk result
+            (λ answer. Asks T.Answer.eq (T.answers self.old.value) call answer
+            (⟦<T as Told>⟧.took self.old self.new)) }
+        ensures err { IfErr result (λ fault. (fault ≡ Fault.Memory)
+            × ⟦<T as Told>⟧.took self.old self.new [] []) }
     {
         Ok(self.view.ask(call, &mut self.recording)?)
     }
@@ -122,13 +143,13 @@ impl<'a, T: Track> Recorder<'a, T> {
         needs: &mut G::Needs,
         key: G::Key,
     ) -> Result<G::Out, Fault>
-        ensures same { self.new.view ≡ self.old.view }
-        ensures learns { IfOk result (λ output. ⟦<T as Told>⟧.learns self.old.recording self.new.recording
-            (λ m. G.def key m output [])) }
-        ensures whole { OnOk result (self.new.recording.whole ≡ self.old.recording.whole) }
-        ensures came { IfOk result (λ output. (how : How) × Came ⟦<G as Meant>⟧.meaning
-            (asked key (T.answers self.old.view) true) output cache.old cache.old how cache.new) }
-        ensures err { OnErr result ((cache.new ≡ cache.old) × (self.new.recording.whole ≡ false)) }
+        ensures tells { Tells ⟦<T as Told>⟧.fits self.old self.new result
+            (λ output m. G.def key m output []) }
+        ensures reply { IfOk result (λ output. (reply : Reply G.Out) × (reply.output ≡ output)
+            × IsReply ⟦<G as Meant>⟧.meaning (invocation key (T.answers self.old.value) true)
+            cache.old cache.old (⟦<T as Told>⟧.took self.old self.new) reply cache.new) }
+        ensures err { OnErr result ((cache.new ≡ cache.old)
+            × ⟦<T as Told>⟧.broke_off self.old self.new) }
     {
         let reply = memoized(
             self.alloc,
@@ -159,9 +180,14 @@ impl<F: Function> Memo for MemoOf<F> {
 
     type Out = F::Out;
 
-    ghost def = { λ key m output _. F.means key m output };
+    ghost def = { reading F.means };
 
-    ghost laws = { record { outputs = λ key m a b _. F.laws.outputs key m a b; keys = λ j k m output _. F.laws.keys j k m output; key_clones = F.laws.clones; answer_clones = F.Of.clones } };
+    ghost laws = { record {
+      outputs = λ key m a b _ r c right. (right.0, F.laws.outputs key m a b r c right.1);
+      keys = λ j k m output _ r e right. (right.0, F.laws.keys j k m output r e right.1);
+      key_clones = F.laws.clones;
+      answer_clones = F.Of.clones;
+    } };
 }
 
 /// A memoized function of a key and `T`, where `T` may borrow: several tracked values as one, by `Both`, or a view of a
@@ -178,19 +204,22 @@ pub trait FunctionOf<T: Track>: Memo<Call = T::Call, Answer = T::Answer> {
         of: &mut Recorder<'_, T>,
         needs: &mut Self::Needs,
     ) -> Result<Self::Out, Fault>
-        ensures same { of.new.view ≡ of.old.view }
+        ensures same { of.new.value ≡ of.old.value }
         ensures right { IfOk result (λ output. (m : T.Call → T.Answer)
             → ⟦<T as Told>⟧.fits of.new.recording m → Self.def key.now m output []) }
-        ensures fault { IfErr result (λ fault. fault ≡ Fault.Incomplete → of.new.recording.whole ≡ false) };
+        ensures fault { IfErr result
+            (λ fault. fault ≡ Fault.Incomplete → of.new.recording.whole ≡ false) };
 
-    // a run reads alone, so that what the function means is the same whatever was written
-    ghost reads: { (key : Self.Key) (m : T.Call → T.Answer) (output : Self.Out) (V W : List T.Call) → Self.Memo.def key m output V → Self.Memo.def key m output W };
+    // a run reads alone: the function means that there are no writes
+    ghost reads: { (key : Self.Key) (m : T.Call → T.Answer)
+        (output : Self.Out) (writes : List T.Call)
+        → Self.Memo.def key m output writes → writes ≡ [] };
 }
 
 impl<F: Function> FunctionOf<F::Of> for MemoOf<F> {
     type Needs = F::Needs;
 
-    ghost reads = { λ key m output V W right. right };
+    ghost reads = { λ key m output writes right. right.0 };
 
     fn run(
         key: &F::Key,
@@ -218,15 +247,16 @@ pub fn memoized<M: FunctionOf<T>, T: Track, S: Sink<Call = T::Call, Answer = T::
     enabled: bool,
 ) -> Result<Reply<M::Out>, Fault>
     ensures right { IfOk result (λ reply. M.def key (T.answers of.now) reply.output []) }
-    ensures gave { IfOk result (λ reply. Gave ⟦<M as Meant>⟧.meaning key (T.answers of.now)
-        (sent S.took sink.old sink.new) reply.output) }
-    ensures came { IfOk result (λ reply. Came ⟦<M as Meant>⟧.meaning (asked key (T.answers of.now) enabled)
-        reply.output cache.old cache.old reply.how cache.new) }
-    ensures err { OnErr result ((cache.new ≡ cache.old) × S.spoils sink.old sink.new) }
+    ensures reply { IfOk result (λ reply. IsReply ⟦<M as Meant>⟧.meaning
+        (invocation key (T.answers of.now) enabled) cache.old cache.old
+        (S.took sink.old sink.new) reply cache.new) }
+    ensures err { OnErr result ((cache.new ≡ cache.old)
+        × BrokeOff T.Answer.eq (T.answers of.now)
+        (⟦<S as Breaking>⟧.breaks_off sink.old sink.new)) }
 {
     let mut input = Keyed {
         key,
-        view: of.fork(),
+        view: of.fork(alloc),
     };
     match begin(alloc, cache, &mut input, sink, enabled)? {
         Begun::Hit(output) => Ok(Reply {
@@ -234,7 +264,7 @@ pub fn memoized<M: FunctionOf<T>, T: Track, S: Sink<Call = T::Call, Answer = T::
             how: How::Hit,
         }),
         Begun::Run(mut pending) => {
-            let mut recorder = Recorder::new(alloc, of.fork());
+            let mut recorder = Recorder::new(alloc, of.fork(alloc));
             let ran = M::run(&input.key, &mut recorder, needs);
             let Recorder {
                 alloc: _,

@@ -1,17 +1,18 @@
 //! Memoized functions, and the cache of what their runs gave.
-ghost use Rattle.std.specs.Prelude.{◌≡◌, [], ◌∷◌, List, false, IfOk, IfErr, OnOk, OnErr, IfSome, MatchOption, length};
-ghost use Rattle.std.specs.List.{All};
-ghost use Rattle.std.specs.List.Sorted.{IsPermutation};
-ghost use Rattle.comemo_base.specs.Tree.{stored};
-ghost use Rattle.comemo_base.specs.Insertion.{Exists, Misses, IsNewPath, IsReason};
-ghost use Rattle.comemo.specs.Meaning.{Meaning};
-ghost use Rattle.comemo.specs.Cache.{MemoLaws, Kept, Stands, HasNone, Has};
+ghost use Rattle.std.specs.Prelude.{◌≡◌, ◌⊎◌, [], List, true, false, IsTrue, option_map, IfOk, IfErr, OnOk, OnErr, IfSome, IfNone, MatchOption, length};
+ghost use Rattle.std.specs.List.{All, Any};
+ghost use Rattle.comemo_base.specs.Answers.{Agrees};
+ghost use Rattle.comemo_base.specs.Lookup.{under, IsAsked, IsRefused, FindsAgreeingPath};
+ghost use Rattle.comemo_base.specs.Insertion.{IsReason};
+ghost use Rattle.comemo.specs.Meaning.{Meaning, exactly, invocation, run};
+ghost use Rattle.comemo.specs.Cache.{MemoLaws, Stands, HasNone, Has, IsMiss, IsRefusedLook};
+ghost use Rattle.comemo.specs.Finish.{Stores};
 
 use comemo_base::{CallSequence, CallTree, InsertError};
 use std::alloc::{AllocError, Global};
 use std::hash::Hash;
 use std::marker::Model;
-use tracking::input::{Input, find_agreeing};
+use tracking::input::Input;
 use tracking::track::Call;
 
 /// A memoized function: the types of its calls, keys, answers and outputs, and what it means.
@@ -31,7 +32,8 @@ pub trait Memo {
     ghost def: { Self.Key → (Self.Call → Self.Answer) → Self.Out → List Self.Call → Type 0 };
 
     // clones of keys and of answers are equal, and the definition tells apart neither equal keys nor an output from its clone
-    ghost laws: { MemoLaws Self.Call.eq Self.Answer.eq Self.Key.eq Self.Key.is_clone Self.Answer.is_clone Self.Out.is_clone def };
+    ghost laws: { MemoLaws Self.Call.eq Self.Answer.eq Self.Key.eq
+        Self.Key.is_clone Self.Answer.is_clone Self.Out.is_clone def };
 }
 
 /// What a memoized function means, as one value, for contracts to cite: `⟦<M as Meant>⟧.meaning`.
@@ -42,7 +44,14 @@ pub trait Meant: Memo {
 }
 
 impl<M: Memo> Meant for M {
-    ghost meaning = { record { eq = M.Call.eq; same = M.Answer.eq; eqk = M.Key.eq; cloned = M.Out.is_clone; def = M.def } };
+    ghost meaning = { record {
+      same_call = M.Call.eq;
+      same_answer = M.Answer.eq;
+      same_key = M.Key.eq;
+      is_write = M.Call.is_write;
+      is_clone = M.Out.is_clone;
+      def = M.def;
+    } };
 }
 
 /// What a run gave, as the cache keeps it.
@@ -73,25 +82,68 @@ pub struct CacheData<M: Memo> {
 
 impl<M: Memo> Model for CacheData<M> {
     ghost use Rattle.std.specs.Prelude.{List};
-    ghost use Rattle.std.specs.List.{All};
+    ghost use Rattle.std.specs.List.{All, Any};
     ghost use Rattle.std.specs.Coded.{coded_list};
     ghost use Rattle.comemo_base.specs.Tree.{Stored, stored_code};
     ghost use Rattle.comemo.specs.Cache.{Kept, kept_code, IsLegal};
 
     ghost Value = { List (Stored M.Key M.Call M.Answer (Kept M.Out M.Call)) };
 
-    ghost coded = { coded_list (stored_code M.Key.code M.Call.code M.Answer.code (kept_code M.Out.code M.Call.code)) };
+    ghost coded = { coded_list (stored_code M.Key.code M.Call.code M.Answer.code
+        (kept_code M.Out.code M.Call.code)) };
 
     ghost view = { λ s. s.tree };
 
-    ghost invariant = { λ s. All (IsLegal M.Call.eq M.Answer.eq M.Call.is_write M.def) s.tree };
+    ghost invariant = { λ s. All (IsLegal (record {
+      same_call = M.Call.eq;
+      same_answer = M.Answer.eq;
+      same_key = M.Key.eq;
+      is_write = M.Call.is_write;
+      is_clone = M.Out.is_clone;
+      def = M.def;
+    })) s.tree };
 }
 
-/// What a look-up found: clones of an entry's path, output and writes.
+/// What a look-up found: clones of the path and the output of an entry.
 #[derive(Drop)]
 pub struct Found<M: Memo> {
     pub pairs: Vec<(M::Call, M::Answer)>,
     pub output: M::Out,
+}
+
+/// The path under a key of a tree of reads that an input's answers agree with, cloned, with its value.
+fn find_agreeing<'a, K: Clone + Eq + Hash, In: Input, T>(
+    tree: &'a CallTree<K, In::Call, In::Answer, T>,
+    key: &K,
+    input: &mut In,
+) -> Result<Option<(Vec<(In::Call, In::Answer)>, &'a T)>, AllocError>
+    requires clones { (x y : In.Answer) → In.Answer.is_clone x y → IsTrue (In.Answer.eq x y) }
+    requires reads { All (λ e. All (λ p. In.Call.is_write p.0 ≡ false) e.path) tree.now }
+    ensures same { In.did input.old input.new [] }
+    ensures found { IfOk result (λ found. FindsAgreeingPath In.Call.eq In.Answer.eq
+        (under K.eq tree.now key.now) (In.answers input.old)
+        (option_map (λ p. (p.0.items, p.1.now)) found)) }
+    ensures asked { IfOk result (λ found. (asked : List (In.Call × In.Answer))
+        × Agrees In.Answer.eq (In.answers input.old) asked
+        × IsAsked In.Call.eq In.Answer.eq (under K.eq tree.now key.now) asked
+        (option_map (λ p. p.1.now) found)) }
+    ensures err { OnErr result (((asked : List (In.Call × In.Answer)) × (next : In.Call)
+        × Agrees In.Answer.eq (In.answers input.old) asked
+        × IsRefused In.Call.eq In.Answer.eq (under K.eq tree.now key.now) asked next)
+        ⊎ Any (λ e. Agrees In.Answer.eq (In.answers input.old) e.path)
+        (under K.eq tree.now key.now)) }
+{
+    tree.is_parted();
+    tree.find(
+        key,
+        &mut |call: &In::Call| -> Result<In::Answer, AllocError>
+            requires { In.Call.is_write call.now ≡ false }
+            ensures answer { IfOk result
+                (λ answer. IsTrue (In.Answer.eq (In.answers input.entry.now call.now) answer)) }
+            ensures same { In.did input.entry.now input.exit.now [] }
+            ensures name { input.exit.ghost_name ≡ input.entry.ghost_name }
+        { input.call(call) },
+    )
 }
 
 impl<M: Memo> CacheData<M> {
@@ -123,10 +175,23 @@ impl<M: Memo> CacheData<M> {
         key: &M::Key,
         input: &mut In,
     ) -> Result<Option<Found<M>>, AllocError>
-        ensures same { In.did input.old [] input.new }
-        ensures found { IfOk result (λ found. MatchOption found (HasNone M.Call.eq M.Answer.eq M.Key.eq self.now key.now (In.answers input.old)) (λ f. Has M.Call.eq M.Answer.eq M.Key.eq self.now key.now M.Out.is_clone (In.answers input.old) f.pairs.items f.output [])) }
-        ensures stands { IfOk result (λ found. IfSome found (λ f. Stands M.Call.eq M.Answer.eq M.def key.now f.pairs.items f.output [])) }
-        ensures reads { IfOk result (λ found. IfSome found (λ f. All (λ p. M.Call.is_write p.0 ≡ false) f.pairs.items)) }
+        ensures same { In.did input.old input.new [] }
+        ensures found { IfOk result (λ found. MatchOption found
+            (HasNone ⟦<M as Meant>⟧.meaning self.now
+            (invocation key.now (In.answers input.old) true))
+            (λ f. Has ⟦<M as Meant>⟧.meaning self.now
+            (invocation key.now (In.answers input.old) true)
+            (run key.now f.pairs.items f.output []))) }
+        ensures asked { IfOk result (λ found. IfNone found ((asked : List (M.Call × M.Answer))
+            × IsMiss ⟦<M as Meant>⟧.meaning self.now
+            (invocation key.now (In.answers input.old) true) asked)) }
+        ensures stands { IfOk result (λ found. IfSome found (λ f.
+            Stands ⟦<M as Meant>⟧.meaning (run key.now f.pairs.items f.output []))) }
+        ensures reads { IfOk result (λ found. IfSome found (λ f.
+            All (λ p. M.Call.is_write p.0 ≡ false) f.pairs.items)) }
+        ensures err { OnErr result
+            (IsRefusedLook ⟦<M as Meant>⟧.meaning self.now
+            (invocation key.now (In.answers input.old) true)) }
     {
         let found = find_agreeing(&self.tree, key, input)?;
         let Some((pairs, kept)) = found else {
@@ -148,10 +213,11 @@ impl<M: Memo> CacheData<M> {
         output: M::Out,
     ) -> Result<(), InsertError>
         requires reads { All (λ p. M.Call.is_write p.0 ≡ false) sequence.pairs }
-        requires stands { Stands M.Call.eq M.Answer.eq M.def key sequence.pairs output [] }
-        ensures ok { OnOk result ((¬ Exists M.Call.eq M.Answer.eq M.Key.eq self.old key sequence.pairs) × (¬ Misses M.Call.eq M.Answer.eq M.Key.eq self.old key sequence.pairs)) }
-        ensures stored { OnOk result ((path : List (M.Call × M.Answer)) × IsNewPath M.Call.eq M.Answer.eq M.Key.eq self.old key sequence.pairs path × IsPermutation (stored key path (record { output = output; writes = [] }) ∷ self.old) self.new) }
-        ensures reason { IfErr result (IsReason M.Call.eq M.Answer.eq M.Key.eq self.old key sequence.pairs) }
+        requires stands { Stands ⟦<M as Meant>⟧.meaning (run key sequence.pairs output []) }
+        ensures stored { OnOk result (Stores (exactly ⟦<M as Meant>⟧.meaning) self.old
+            (run key sequence.pairs output []) self.new) }
+        ensures reason { IfErr result
+            (IsReason M.Call.eq M.Answer.eq (under M.Key.eq self.old key) sequence.pairs) }
         ensures err { OnErr result (self.new ≡ self.old) }
     {
         sequence.has_distinct_calls();

@@ -1,11 +1,13 @@
 //! What a run asks of two tracked values that are one.
 ghost use Rattle.std.specs.Prelude.{◌≡◌, [], true, false, IsTrue, IfOk, IfErr, OnOk, OnErr};
-ghost use Rattle.comemo.specs.Meaning.{asked};
-ghost use Rattle.comemo.specs.Called.{Came};
-ghost use Rattle.comemo.specs.Function.{OnPart};
+ghost use Rattle.comemo.specs.Meaning.{invocation};
+ghost use Rattle.comemo.specs.Called.{IsReply};
+ghost use Rattle.tracking.specs.Sending.{Asks};
+ghost use Rattle.tracking.specs.Mapped.{Through};
+ghost use Rattle.comemo.specs.Function.{Tells, OnPart};
 
 use crate::begin::Fault;
-use crate::finish::How;
+use crate::finish::Reply;
 use crate::function::{FunctionOf, Recorder, Told, memoized};
 use crate::memoize::{CacheData, Meant};
 use tracking::both::Both;
@@ -30,14 +32,18 @@ impl<'a, T: Track> Recorder<'a, T> {
         of: &Tracked<'_, A>,
         map: P,
     ) -> Result<G::Out, Fault>
-        requires { (c : A.Call) → T.answers self.old.view (P.maps map c) ≡ P.maps_answer map (A.answers of.now c) }
-        ensures same { self.new.view ≡ self.old.view }
-        ensures learns { IfOk result (λ output. ⟦<T as Told>⟧.learns self.old.recording self.new.recording
-            (λ m. OnPart (P.maps map) (P.maps_answer map) m (λ part. G.def key part output []))) }
-        ensures whole { OnOk result (self.new.recording.whole ≡ self.old.recording.whole) }
-        ensures came { IfOk result (λ output. (how : How) × Came ⟦<G as Meant>⟧.meaning (asked key (A.answers of.now) true)
-            output cache.old cache.old how cache.new) }
-        ensures err { OnErr result ((cache.new ≡ cache.old) × (self.new.recording.whole ≡ false)) }
+        requires { (c : A.Call)
+            → T.answers self.old.value (P.maps map c) ≡ P.maps_answer map (A.answers of.now c) }
+        ensures tells { Tells ⟦<T as Told>⟧.fits self.old self.new result
+            (λ output m. OnPart (P.maps map) (P.maps_answer map) m
+            (λ part. G.def key part output [])) }
+        ensures reply { IfOk result (λ output. (reply : Reply G.Out) × (reply.output ≡ output)
+            × IsReply ⟦<G as Meant>⟧.meaning
+            (invocation key (A.answers of.now) true) cache.old cache.old
+            (Through (P.maps map) (P.maps_answer map) (⟦<T as Told>⟧.took self.old self.new))
+            reply cache.new) }
+        ensures err { OnErr result ((cache.new ≡ cache.old)
+            × ⟦<T as Told>⟧.broke_off self.old self.new) }
     {
         let alloc = self.alloc;
         let mut sink = MappedSink::new(&mut self.recording, map);
@@ -55,12 +61,15 @@ impl<'a, 'b, A: Track, B: Track> Recorder<'a, Both<'b, A, B>> {
     /// Asks the first value a read, and records it as a call of both. Else it is as `ask`.
     pub fn ask_first(&mut self, call: A::Call) -> Result<A::Answer, Fault>
         requires { A.Call.is_write call ≡ false }
-        ensures same { self.new.view ≡ self.old.view }
-        ensures learns { IfOk result (λ answer. ⟦<Both<'b, A, B> as Told>⟧.learns self.old.recording self.new.recording
-            (λ m. OnPart first_call first_answer m (λ part. IsTrue (A.Answer.eq (part call) answer)))) }
-        ensures answer { IfOk result (λ answer. IsTrue (A.Answer.eq (A.answers self.old.view.first call) answer)) }
-        ensures whole { self.new.recording.whole ≡ self.old.recording.whole }
-        ensures err { IfErr result (λ fault. (fault ≡ Fault.Memory) × (self.new.recording.pairs ≡ self.old.recording.pairs)) }
+        ensures tells { Tells ⟦<Both<'b, A, B> as Told>⟧.fits self.old self.new result
+            (λ answer m. OnPart first_call first_answer m
+            (λ part. IsTrue (A.Answer.eq (part call) answer))) }
+        ensures asks { IfOk result
+            (λ answer. Asks A.Answer.eq (A.answers self.old.value.first) call answer
+            (Through first_call first_answer
+            (⟦<Both<'b, A, B> as Told>⟧.took self.old self.new))) }
+        ensures err { IfErr result (λ fault. (fault ≡ Fault.Memory)
+            × ⟦<Both<'b, A, B> as Told>⟧.took self.old self.new [] []) }
     {
         match self.ask(MultiCall::A(call))? {
             MultiAnswer::A(answer) => Ok(answer),
@@ -71,12 +80,15 @@ impl<'a, 'b, A: Track, B: Track> Recorder<'a, Both<'b, A, B>> {
     /// Asks the second value a read, and records it as a call of both. Else it is as `ask`.
     pub fn ask_second(&mut self, call: B::Call) -> Result<B::Answer, Fault>
         requires { B.Call.is_write call ≡ false }
-        ensures same { self.new.view ≡ self.old.view }
-        ensures learns { IfOk result (λ answer. ⟦<Both<'b, A, B> as Told>⟧.learns self.old.recording self.new.recording
-            (λ m. OnPart second_call second_answer m (λ part. IsTrue (B.Answer.eq (part call) answer)))) }
-        ensures answer { IfOk result (λ answer. IsTrue (B.Answer.eq (B.answers self.old.view.second call) answer)) }
-        ensures whole { self.new.recording.whole ≡ self.old.recording.whole }
-        ensures err { IfErr result (λ fault. (fault ≡ Fault.Memory) × (self.new.recording.pairs ≡ self.old.recording.pairs)) }
+        ensures tells { Tells ⟦<Both<'b, A, B> as Told>⟧.fits self.old self.new result
+            (λ answer m. OnPart second_call second_answer m
+            (λ part. IsTrue (B.Answer.eq (part call) answer))) }
+        ensures asks { IfOk result
+            (λ answer. Asks B.Answer.eq (B.answers self.old.value.second) call answer
+            (Through second_call second_answer
+            (⟦<Both<'b, A, B> as Told>⟧.took self.old self.new))) }
+        ensures err { IfErr result (λ fault. (fault ≡ Fault.Memory)
+            × ⟦<Both<'b, A, B> as Told>⟧.took self.old self.new [] []) }
     {
         match self.ask(MultiCall::B(call))? {
             MultiAnswer::B(answer) => Ok(answer),
@@ -91,15 +103,17 @@ impl<'a, 'b, A: Track, B: Track> Recorder<'a, Both<'b, A, B>> {
         needs: &mut G::Needs,
         key: G::Key,
     ) -> Result<G::Out, Fault>
-        ensures same { self.new.view ≡ self.old.view }
-        ensures learns { IfOk result (λ output. ⟦<Both<'b, A, B> as Told>⟧.learns self.old.recording self.new.recording
-            (λ m. OnPart first_call first_answer m (λ part. G.def key part output []))) }
-        ensures whole { OnOk result (self.new.recording.whole ≡ self.old.recording.whole) }
-        ensures came { IfOk result (λ output. (how : How) × Came ⟦<G as Meant>⟧.meaning
-            (asked key (A.answers self.old.view.first) true) output cache.old cache.old how cache.new) }
-        ensures err { OnErr result ((cache.new ≡ cache.old) × (self.new.recording.whole ≡ false)) }
+        ensures tells { Tells ⟦<Both<'b, A, B> as Told>⟧.fits self.old self.new result
+            (λ output m. OnPart first_call first_answer m (λ part. G.def key part output [])) }
+        ensures reply { IfOk result (λ output. (reply : Reply G.Out) × (reply.output ≡ output)
+            × IsReply ⟦<G as Meant>⟧.meaning (invocation key (A.answers self.old.value.first) true)
+            cache.old cache.old
+            (Through first_call first_answer
+            (⟦<Both<'b, A, B> as Told>⟧.took self.old self.new)) reply cache.new) }
+        ensures err { OnErr result ((cache.new ≡ cache.old)
+            × ⟦<Both<'b, A, B> as Told>⟧.broke_off self.old self.new) }
     {
-        let first = self.view.first();
+        let first = self.view.first(self.alloc);
         self.call_through(cache, needs, key, &first, First::new())
     }
 
@@ -110,15 +124,17 @@ impl<'a, 'b, A: Track, B: Track> Recorder<'a, Both<'b, A, B>> {
         needs: &mut G::Needs,
         key: G::Key,
     ) -> Result<G::Out, Fault>
-        ensures same { self.new.view ≡ self.old.view }
-        ensures learns { IfOk result (λ output. ⟦<Both<'b, A, B> as Told>⟧.learns self.old.recording self.new.recording
-            (λ m. OnPart second_call second_answer m (λ part. G.def key part output []))) }
-        ensures whole { OnOk result (self.new.recording.whole ≡ self.old.recording.whole) }
-        ensures came { IfOk result (λ output. (how : How) × Came ⟦<G as Meant>⟧.meaning
-            (asked key (B.answers self.old.view.second) true) output cache.old cache.old how cache.new) }
-        ensures err { OnErr result ((cache.new ≡ cache.old) × (self.new.recording.whole ≡ false)) }
+        ensures tells { Tells ⟦<Both<'b, A, B> as Told>⟧.fits self.old self.new result
+            (λ output m. OnPart second_call second_answer m (λ part. G.def key part output [])) }
+        ensures reply { IfOk result (λ output. (reply : Reply G.Out) × (reply.output ≡ output)
+            × IsReply ⟦<G as Meant>⟧.meaning (invocation key (B.answers self.old.value.second) true)
+            cache.old cache.old
+            (Through second_call second_answer
+            (⟦<Both<'b, A, B> as Told>⟧.took self.old self.new)) reply cache.new) }
+        ensures err { OnErr result ((cache.new ≡ cache.old)
+            × ⟦<Both<'b, A, B> as Told>⟧.broke_off self.old self.new) }
     {
-        let second = self.view.second();
+        let second = self.view.second(self.alloc);
         self.call_through(cache, needs, key, &second, Second::new())
     }
 }

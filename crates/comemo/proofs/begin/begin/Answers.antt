@@ -1,37 +1,44 @@
-use Rattle.std.proofs.Common.{◌≡◌, ◌∙◌, [], true, false, refl, sym, subst}
+use Rattle.std.proofs.Common.{◌≡◌, ◌∙◌, [], inl, inr, true, false, refl, sym, subst}
 use Rattle.comemo_base.proofs.Paths.{turned}
+use Rattle.comemo.specs.Meaning.{Meaning, run}
+use Rattle.comemo.proofs.Sendings.{on_err, breaks_at_once}
 use Rattle.comemo.proofs.Entries.{Has-alike, HasNone-alike, Agrees-found}
 use Rattle.comemo.proofs.begin.begin.Goals as goal
 use Rattle.comemo.proofs.begin.begin.Goals.{then-enabled+in-Ok-look+in_default-looked, else-enabled}
 
-pub returns-in-Some-clause-begun : goal.returns-in-Some-clause-begun
-returns-in-Some-clause-begun g c =
+pub returns-in-Some-clause-hit : goal.returns-in-Some-clause-hit
+returns-in-Some-clause-hit g c =
+    let M : Meaning g.row.M-Key.Denot g.row.M-Call.Denot g.row.M-Answer.Denot g.row.M-Out.Denot = record { same_call = g.M.Call.PartialEq.eq; same_answer = g.M.Answer.PartialEq.eq; same_key = g.M.Key.PartialEq.eq; is_write = g.M.Call.Call.is_write; is_clone = g.M.Out.Clone.is_clone; def = g.M.Memo.def } in
     let m = g.In.Input.answers c.args.input.now in
     let alike = turned g.met.M.Key.Eq.laws _ _ c.in-Ok.ensures in
     let found = rw c.in-Some.is at c.in-Ok-look.ensures.found in
     let stands = rw c.in-Some.is at c.in-Ok-look.ensures.stands in
     let respects = g.met.In.Input.alike c.args.input.now in
-    let agrees = Agrees-found g.met.M.Call.Eq.laws g.met.M.Answer.Eq.laws g.M.Key.PartialEq.eq c.args.cache.now c.in-Ok.key g.M.Out.Clone.is_clone m c.in-Some.found.pairs.items c.in-Some.found.output [] respects found in
-    record {
-      pairs = c.in-Some.found.pairs.items;
-      writes = [];
-      is_enabled = c.if-enabled.true;
-      kept = Has-alike g.M.Call.PartialEq.eq g.M.Answer.PartialEq.eq g.met.M.Key.Eq.laws c.args.cache.now c.in-Ok.key _ alike g.M.Out.Clone.is_clone m c.in-Some.found.pairs.items c.in-Some.found.output [] found;
-      agrees = agrees;
-      stands = λ n r a. g.met.M.Memo.laws.keys c.in-Ok.key _ n c.in-Some.found.output [] r alike (stands n r a);
-      are_done = c.look.ensures.same;
-      are_sent = c.in_ok-give_pairs.ensures.ok;
-      right = g.met.M.Memo.laws.keys c.in-Ok.key _ m c.in-Some.found.output [] respects alike (stands m respects agrees);
-    }
+    let ran = run c.in-Ok.key c.in-Some.found.pairs.items c.in-Some.found.output [] in
+    let agrees = Agrees-found M g.met.M.Call.Eq.laws g.met.M.Answer.Eq.laws m respects ran _ found in (
+      record {
+        pairs = c.in-Some.found.pairs.items;
+        writes = [];
+        is_enabled = c.if-enabled.true;
+        kept = Has-alike M g.met.M.Key.Eq.laws c.args.cache.now c.in-Ok.key _ alike m true true ran found;
+        agrees = agrees;
+        stands = λ n r a. g.met.M.Memo.laws.keys c.in-Ok.key _ n c.in-Some.found.output [] r alike (stands n r a);
+        are_done = c.look.ensures.same;
+        are_sent = c.in_ok-give_pairs.ensures.ok;
+        right = g.met.M.Memo.laws.keys c.in-Ok.key _ m c.in-Some.found.output [] respects alike (stands m respects agrees);
+      },
+      record { same = refl },
+    )
 
-pub returns-clause-begun : goal.returns-clause-begun
-returns-clause-begun g c =
+pub returns-clause-run : goal.returns-clause-run
+returns-clause-run g c =
+    let M : Meaning g.row.M-Key.Denot g.row.M-Call.Denot g.row.M-Answer.Denot g.row.M-Out.Denot = record { same_call = g.M.Call.PartialEq.eq; same_answer = g.M.Answer.PartialEq.eq; same_key = g.M.Key.PartialEq.eq; is_write = g.M.Call.Call.is_write; is_clone = g.M.Out.Clone.is_clone; def = g.M.Memo.def } in
     let m = g.In.Input.answers c.args.input.now in
     let alike = turned g.met.M.Key.Eq.laws _ _ c.in-Ok.ensures in
-    let did : g.In.Input.did c.args.input.now [] c.if-enabled.input =
+    let did : g.In.Input.did c.args.input.now c.if-enabled.input [] =
     elim c.if-enabled.branch [
-      | then-enabled+in-Ok-look+in_default-looked w ↦ subst (λ s. g.In.Input.did c.args.input.now [] s) (sym w.input-is) w.look.ensures.same
-      | else-enabled w ↦ subst (λ s. g.In.Input.did c.args.input.now [] s) (sym w.input-is) (g.met.In.Input.starts c.args.input.now)
+      | then-enabled+in-Ok-look+in_default-looked w ↦ subst (λ s. g.In.Input.did c.args.input.now s []) (sym w.input-is) w.look.ensures.same
+      | else-enabled w ↦ subst (λ s. g.In.Input.did c.args.input.now s []) (sym w.input-is) (g.met.In.Input.starts c.args.input.now)
     ] in (
       record {
         has_key = c.in-Ok.ensures;
@@ -42,13 +49,35 @@ returns-clause-begun g c =
         whole = c.new.ensures.whole;
         none = λ e.
             elim c.if-enabled.branch [
-              | then-enabled+in-Ok-look+in_default-looked w ↦ HasNone-alike g.M.Call.PartialEq.eq g.M.Answer.PartialEq.eq g.met.M.Key.Eq.laws c.args.cache.now c.in-Ok.key _ alike m (rw w.in_default-looked.is at w.in-Ok-look.ensures.found)
+              | then-enabled+in-Ok-look+in_default-looked w ↦ HasNone-alike M g.met.M.Key.Eq.laws c.args.cache.now c.in-Ok.key _ alike m true c.args.enabled (rw w.in_default-looked.is at w.in-Ok-look.ensures.found)
               | else-enabled w ↦ let f : true ≡ false = sym e ∙ w.if-enabled.false in cc
             ];
       },
       did,
       refl,
+      refl,
     )
 
-pub returns-in-Some-clause-kept : goal.returns-in-Some-clause-kept
-returns-in-Some-clause-kept g c = record { same = refl }
+pub returns-in_default-clause-err : goal.returns-in_default-clause-err
+returns-in_default-clause-err g c = (refl, g.met.In.Input.starts _, record { pairs = []; found = inl refl; agrees = tt; is_broken = breaks_at_once g.met.S.Sink.starts _ _ [] c.spoil.ensures })
+
+pub returns-in_default-look-clause-err : goal.returns-in_default-look-clause-err
+returns-in_default-look-clause-err g c = (refl, c.look.ensures.same, record { pairs = []; found = inl refl; agrees = tt; is_broken = breaks_at_once g.met.S.Sink.starts _ _ [] c.spoil-in_default-look.ensures })
+
+pub returns-in_err-give_pairs-clause-err : goal.returns-in_err-give_pairs-clause-err
+returns-in_err-give_pairs-clause-err g c =
+    let M : Meaning g.row.M-Key.Denot g.row.M-Call.Denot g.row.M-Answer.Denot g.row.M-Out.Denot = record { same_call = g.M.Call.PartialEq.eq; same_answer = g.M.Answer.PartialEq.eq; same_key = g.M.Key.PartialEq.eq; is_write = g.M.Call.Call.is_write; is_clone = g.M.Out.Clone.is_clone; def = g.M.Memo.def } in
+    let m = g.In.Input.answers c.args.input.now in
+    let alike = turned g.met.M.Key.Eq.laws _ _ c.in-Ok.ensures in
+    let found = rw c.in-Some.is at c.in-Ok-look.ensures.found in
+    let ran = run c.in-Ok.key c.in-Some.found.pairs.items c.in-Some.found.output [] in
+    on_err c.from_residual.result (
+      refl,
+      c.look.ensures.same,
+      record {
+        pairs = c.in-Some.found.pairs.items;
+        found = inr (c.in-Some.found.output, [], Has-alike M g.met.M.Key.Eq.laws c.args.cache.now c.in-Ok.key _ alike m true c.args.enabled ran found);
+        agrees = Agrees-found M g.met.M.Call.Eq.laws g.met.M.Answer.Eq.laws m (g.met.In.Input.alike c.args.input.now) ran _ found;
+        is_broken = c.in_err-give_pairs.ensures.err;
+      },
+    )

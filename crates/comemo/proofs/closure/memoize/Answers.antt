@@ -1,24 +1,25 @@
-use Rattle.std.proofs.Common.{Ok}
+use Rattle.std.proofs.Common.{◌≡◌, true, Ok, Err, OnErr, refl}
+use Rattle.comemo.proofs.Sendings.{on_err}
 use Rattle.comemo.proofs.Calls.{run_seen}
 use Rattle.comemo.proofs.Closures.{mapped, ran_from, ended, failed}
 use Rattle.comemo.proofs.closure.memoize.Goals as goal
 
 pub end-requires : goal.end-requires
 end-requires g c =
-    let run = rw c.in-Run.is at c.in_ok-output.ensures.begun in
+    let run = rw c.in-Run.is at c.in_ok-output.ensures.run in
     let is = run_seen c.pending.view_is run.0 in
-    λ output ok w m r a. g.met.M.Memo.laws.keys _ _ m output _ r is.has_key (c.requires.right output c.into_constraint.result (ran_from run.0 g.In.Input.did g.P.Record.recorded _ c.args.input c.into_constraint.result (Ok output) run.1 c.empty-recording.ensures.pairs c.empty-recording.ensures.writes c.empty-recording.ensures.whole (rw ok at c.run-ran.ensures) c.into_constraint.ensures) w m r a)
+    λ output ok w m r a. g.met.M.Memo.laws.keys _ _ m output _ r is.has_key (c.requires.right output c.into_constraint.result (ran_from run.0 g.In.Input.did g.P.Record.recorded _ c.args.input c.into_constraint.result (Ok output) run.1 c.empty-recording.ensures.pairs c.empty-recording.ensures.writes c.empty-recording.ensures.whole (rw ok at c.func-ran.ensures) c.into_constraint.ensures) w m r a)
 
 pub returns-clause-hit : goal.returns-clause-hit
 returns-clause-hit g c = mapped (λ reply ended h. absurd (rw h at ended.2.ends)) c.end.result c.end.ensures.finished
 
 pub returns-clause-run : goal.returns-clause-run
 returns-clause-run g c =
-    let run = rw c.in-Run.is at c.in_ok-output.ensures.begun in
+    let run = rw c.in-Run.is at c.in_ok-output.ensures.run in
     let is = run_seen c.pending.view_is run.0 in
-    mapped (λ reply done _. ended is g.In.Input.did g.P.Record.recorded _ c.args.input c.into_constraint.result (ran_from is g.In.Input.did g.P.Record.recorded _ c.args.input c.into_constraint.result (Ok done.0) run.1 c.empty-recording.ensures.pairs c.empty-recording.ensures.writes c.empty-recording.ensures.whole (rw done.1 at c.run-ran.ensures) c.into_constraint.ensures) done.2) c.end.result (rw (rw c.in-Run.is at c.in_ok-output.ensures.kept) at (rw run.2 at c.end.ensures.finished))
+    mapped (λ reply done _. ended is g.In.Input.did g.P.Record.recorded _ c.args.input c.into_constraint.result (ran_from is g.In.Input.did g.P.Record.recorded _ c.args.input c.into_constraint.result (Ok done.0) run.1 c.empty-recording.ensures.pairs c.empty-recording.ensures.writes c.empty-recording.ensures.whole (rw done.1 at c.func-ran.ensures) c.into_constraint.ensures) (λ m r a. g.met.M.Memo.laws.keys _ _ m done.0 _ r is.has_key (c.requires.right done.0 c.into_constraint.result (ran_from run.0 g.In.Input.did g.P.Record.recorded _ c.args.input c.into_constraint.result (Ok done.0) run.1 c.empty-recording.ensures.pairs c.empty-recording.ensures.writes c.empty-recording.ensures.whole (rw done.1 at c.func-ran.ensures) c.into_constraint.ensures) done.2.whole m r a)) done.2) c.end.result (rw run.3 at (rw run.2 at c.end.ensures.finished))
 
 pub returns-clause-fault : goal.returns-clause-fault
 returns-clause-fault g c =
-    let run = rw c.in-Run.is at c.in_ok-output.ensures.begun in
-    failed run.0 g.In.Input.did g.P.Record.recorded _ c.args.input c.into_constraint.result c.run-ran.result (ran_from run.0 g.In.Input.did g.P.Record.recorded _ c.args.input c.into_constraint.result c.run-ran.result run.1 c.empty-recording.ensures.pairs c.empty-recording.ensures.writes c.empty-recording.ensures.whole c.run-ran.ensures c.into_constraint.ensures) c.end.result c.end.ensures.incomplete c.end.ensures.fault
+    let run = rw c.in-Run.is at c.in_ok-output.ensures.run in
+    failed run.0 g.In.Input.did g.P.Record.recorded _ c.args.input c.into_constraint.result _ c.func-ran.result (ran_from run.0 g.In.Input.did g.P.Record.recorded _ c.args.input c.into_constraint.result c.func-ran.result run.1 c.empty-recording.ensures.pairs c.empty-recording.ensures.writes c.empty-recording.ensures.whole c.func-ran.ensures c.into_constraint.ensures) c.end.result c.end.ensures.incomplete c.end.ensures.fault

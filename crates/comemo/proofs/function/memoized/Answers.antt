@@ -1,41 +1,62 @@
-use Rattle.std.proofs.Common.{◌≡◌, ◌∙◌, true, [], sym, subst}
+use Rattle.std.proofs.Common.{◌≡◌, ◌∙◌, true, [], sym, subst, ap}
 use Rattle.comemo_base.specs.Answers.{Agrees}
-use Rattle.comemo.proofs.Calls.{run_seen, came_by_hit, gave_at_key, came_by_reply}
+use Rattle.comemo.specs.Function.{Recorded}
+use Rattle.comemo.specs.Meaning.{Meaning}
+use Rattle.comemo.proofs.Sendings.{on_err, breaks_at_once}
+use Rattle.comemo.proofs.Calls.{run_seen, reply_by_hit, reply_by_run, broke_at_begin, broke_by_run}
 use Rattle.comemo.proofs.Closures.{mapped}
 use Rattle.comemo.proofs.function.memoized.Goals as goal
 
-pub returns-in-Hit-clause-came : goal.returns-in-Hit-clause-came
-returns-in-Hit-clause-came g c =
-    let hit = rw c.in-Hit.is at c.in_ok-output.ensures.begun in
-    rw (← c.fork.ensures) (came_by_hit c.args.cache.now c.begin.new.cache hit (rw c.in-Hit.is at c.in_ok-output.ensures.kept))
+pub end-requires : goal.end-requires
+end-requires g c =
+    let run = rw c.in-Run.is at c.in_ok-output.ensures.run in
+    let is = run_seen c.pending.view_is run.0 in
+    λ output ok w m r a.
+    let right = (rw (ok, ← c.recorder.view_is) at c.run-ran.ensures.right) m (record { whole = w; respects = r; agrees = a }) in
+    g.met.M.Memo.laws.keys c.args.key c.pending.inside.key m output c.recorder.inside.recording.writes r is.has_key (subst (λ ws. g.M.Memo.def c.args.key m output ws) (sym c.recorder.invariant.no_writes) (subst (λ k. g.M.Memo.def k m output []) run.1.0 right))
+
+pub returns-in-Hit-clause-reply : goal.returns-in-Hit-clause-reply
+returns-in-Hit-clause-reply g c =
+    let hit = rw c.in-Hit.is at c.in_ok-output.ensures.hit in
+    rw (← c.fork.ensures) (reply_by_hit g.met.T.Call.Eq.laws g.met.T.Answer.Eq.laws c.args.cache.now c.begin.new.cache hit.0 hit.1)
 
 pub returns-in-Hit-clause-right : goal.returns-in-Hit-clause-right
 returns-in-Hit-clause-right g c =
-    let hit = rw c.in-Hit.is at c.in_ok-output.ensures.begun in
-    rw (← c.fork.ensures) (g.met.M.FunctionOf.reads c.args.key (g.T.Track.answers c.fork.result) c.in-Hit.output hit.writes [] hit.right)
-
-pub end-requires : goal.end-requires
-end-requires g c =
-    let run = rw c.in-Run.is at c.in_ok-output.ensures.begun in
-    let is = run_seen c.pending.view_is run.0 in
-    λ output ok w m r a. g.met.M.Memo.laws.keys c.args.key c.pending.inside.key m output c.run-ran.new.of.recording.writes r is.has_key (g.met.M.FunctionOf.reads c.args.key m output [] c.run-ran.new.of.recording.writes (subst (λ k. g.M.Memo.def k m output []) run.1.0 ((rw ok at c.run-ran.ensures.right) m (record { whole = w; respects = r; agrees = a }))))
+    let hit = (rw c.in-Hit.is at c.in_ok-output.ensures.hit).0 in
+    rw (← c.fork.ensures) (subst (λ ws. g.M.Memo.def c.args.key (g.T.Track.answers c.fork.result) c.in-Hit.output ws) (g.met.M.FunctionOf.reads c.args.key (g.T.Track.answers c.fork.result) c.in-Hit.output hit.writes hit.right) hit.right)
 
 pub returns-clause-right : goal.returns-clause-right
 returns-clause-right g c =
-    let run = rw c.in-Run.is at c.in_ok-output.ensures.begun in
-    let m = g.T.Track.answers c.fork.result in
-    let agrees = λ (w : c.run-ran.new.of.recording.whole ≡ true). subst (λ v. Agrees g.T.Answer.PartialEq.eq (g.T.Track.answers v) c.run-ran.new.of.recording.pairs) (c.run-ran.ensures.same ∙ c.new-recorder.ensures.view ∙ c.fork-in-Run.ensures ∙ sym c.fork.ensures) (c.run-ran.new.of.agrees w) in
-    rw (← c.fork.ensures) (mapped (λ reply ended. subst (λ o. g.M.Memo.def c.args.key m o []) (sym ended.2.same) (subst (λ k. g.M.Memo.def k m ended.0 []) run.1.0 ((rw ended.1 at c.run-ran.ensures.right) m (record { whole = ended.2.whole; respects = g.met.T.Track.alike c.fork.result; agrees = agrees ended.2.whole })))) c.end.result c.end.ensures.finished)
+    let run = rw c.in-Run.is at c.in_ok-output.ensures.run in
+    let m = g.T.Track.answers c.args.of.now in
+    let view = ap (λ (s : Recorded _ _ _). s.value) c.recorder.view_is ∙ c.run-ran.ensures.same ∙ c.new-recorder.ensures.value ∙ c.fork-in-Run.ensures in
+    mapped (λ reply done.
+    let agrees = subst (λ v. Agrees g.T.Answer.PartialEq.eq (g.T.Track.answers v) c.recorder.inside.recording.pairs) view (c.recorder.invariant.agrees done.2.whole) in
+    let right = (rw (done.1, ← c.recorder.view_is) at c.run-ran.ensures.right) m (record { whole = done.2.whole; respects = g.met.T.Track.alike c.args.of.now; agrees = agrees }) in
+    subst (λ o. g.M.Memo.def c.args.key m o []) (sym done.2.same) (subst (λ k. g.M.Memo.def k m done.0 []) run.1.0 right)) c.end.result c.end.ensures.finished
 
-pub returns-clause-gave : goal.returns-clause-gave
-returns-clause-gave g c =
-    let run = rw c.in-Run.is at c.in_ok-output.ensures.begun in
+pub returns-clause-reply : goal.returns-clause-reply
+returns-clause-reply g c =
+    let run = rw c.in-Run.is at c.in_ok-output.ensures.run in
     let is = run_seen c.pending.view_is run.0 in
-    let agrees = λ (w : c.run-ran.new.of.recording.whole ≡ true). subst (λ v. Agrees g.T.Answer.PartialEq.eq (g.T.Track.answers v) c.run-ran.new.of.recording.pairs) (c.run-ran.ensures.same ∙ c.new-recorder.ensures.view ∙ c.fork-in-Run.ensures ∙ sym c.fork.ensures) (c.run-ran.new.of.agrees w) in
-    rw (← c.fork.ensures, ← run.2) (mapped (λ reply ended. gave_at_key is (ended.2.gave _ (g.met.T.Track.alike c.fork.result) (agrees ended.2.whole))) c.end.result c.end.ensures.finished)
+    let view = ap (λ (s : Recorded _ _ _). s.value) c.recorder.view_is ∙ c.run-ran.ensures.same ∙ c.new-recorder.ensures.value ∙ c.fork-in-Run.ensures ∙ sym c.fork.ensures in
+    rw (← c.fork.ensures) (mapped (λ reply done. reply_by_run is
+    (subst (λ v. Agrees g.T.Answer.PartialEq.eq (g.T.Track.answers v) c.recorder.inside.recording.pairs) view (c.recorder.invariant.agrees done.2.whole))
+    (λ m r a.
+    let right = (rw (done.1, ← c.recorder.view_is) at c.run-ran.ensures.right) m (record { whole = done.2.whole; respects = r; agrees = a }) in
+    g.met.M.Memo.laws.keys c.args.key c.pending.inside.key m done.0 c.recorder.inside.recording.writes r is.has_key (subst (λ ws. g.M.Memo.def c.args.key m done.0 ws) (sym c.recorder.invariant.no_writes) (subst (λ k. g.M.Memo.def k m done.0 []) run.1.0 right)))
+    done.2) c.end.result (rw run.3 at (rw run.2 at c.end.ensures.finished)))
 
-pub returns-clause-came : goal.returns-clause-came
-returns-clause-came g c =
-    let run = rw c.in-Run.is at c.in_ok-output.ensures.begun in
-    let is = run_seen c.pending.view_is run.0 in
-    rw (← c.fork.ensures) (mapped (λ reply ended. came_by_reply is _ c.args.cache.now _ _ reply ended.2.same ended.2.ends ended.2.disabled) c.end.result (rw (rw c.in-Run.is at c.in_ok-output.ensures.kept) at c.end.ensures.finished))
+pub returns-clause-err : goal.returns-clause-err
+returns-clause-err g c =
+    let run = rw c.in-Run.is at c.in_ok-output.ensures.run in
+    let view = ap (λ (s : Recorded _ _ _). s.value) c.recorder.view_is ∙ c.run-ran.ensures.same ∙ c.new-recorder.ensures.value ∙ c.fork-in-Run.ensures in
+    broke_by_run (record { same_call = g.T.Call.PartialEq.eq; same_answer = g.T.Answer.PartialEq.eq; same_key = g.M.Key.PartialEq.eq; is_write = g.T.Call.Call.is_write; is_clone = g.M.Out.Clone.is_clone; def = g.M.Memo.def }) (g.T.Track.answers c.args.of.now) g.met.T.Call.Eq.laws g.met.T.Answer.Eq.laws (g.met.T.Track.alike c.args.of.now) _ c.recorder.inside.recording.pairs c.recorder.inside.recording.whole
+    (λ w. subst (λ v. Agrees g.T.Answer.PartialEq.eq (g.T.Track.answers v) c.recorder.inside.recording.pairs) view (c.recorder.invariant.agrees w))
+    (λ w. breaks_at_once g.met.S.Sink.starts _ _ [] (rw run.2 at (c.end.ensures.spoils w)))
+    _ c.end.result (rw run.3 at (rw run.2 at c.end.ensures.err))
+
+pub returns-in_err-output-clause-err : goal.returns-in_err-output-clause-err
+returns-in_err-output-clause-err g c =
+    let err = c.in_err-output.ensures.err in
+    on_err c.from_residual.result (err.0, rw (← c.fork.ensures) (broke_at_begin err.2))

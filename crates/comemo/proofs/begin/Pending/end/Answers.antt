@@ -1,5 +1,7 @@
-use Rattle.comemo.proofs.Closures.{finished_by}
+use Rattle.std.proofs.Common.{refl}
+use Rattle.comemo.proofs.Sendings.{breaks_at_once}
+use Rattle.comemo.proofs.Endings.{broken_itself}
 use Rattle.comemo.proofs.begin.Pending.end.Goals as goal
 
-pub returns-in-Ok-clause-finished : goal.returns-in-Ok-clause-finished
-returns-in-Ok-clause-finished g c = finished_by (record { eq = g.M.Call.PartialEq.eq; same = g.M.Answer.PartialEq.eq; eqk = g.M.Key.PartialEq.eq; cloned = g.M.Out.Clone.is_clone; def = g.M.Memo.def }) _ _ c.args.self _ c.args.ran c.in-Ok.output c.in-Ok.is c.finish.result c.finish.ensures.incomplete c.finish.ensures.output c.finish.ensures.ends c.finish.ensures.disabled c.finish.ensures.gives c.finish.ensures.gave
+pub returns-in-Err-clause-err : goal.returns-in-Err-clause-err
+returns-in-Err-clause-err g c = (refl, broken_itself g.met.M.Call.Eq.laws g.met.M.Answer.Eq.laws c.args.self.recording.pairs (breaks_at_once g.met.S.Sink.starts _ _ _ c.give_up.ensures))

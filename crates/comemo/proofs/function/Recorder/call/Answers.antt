@@ -1,14 +1,25 @@
-use Rattle.std.proofs.Common.{[]}
-use Rattle.comemo.proofs.Recorders.{called_agrees, learns_output}
+use Rattle.std.proofs.Common.{[], refl, subst}
+use Rattle.comemo.proofs.Recorders.{called_keeps, tells_output, tells_broken, not_whole}
 use Rattle.comemo.proofs.function.Recorder.call.Goals as goal
 
 pub invariant_of-self : goal.invariant_of-self
 invariant_of-self g c =
-    let old = c.args.self.now in
-    record { agrees = called_agrees _ g.met.T.Call.Eq.laws g.met.T.Answer.Eq.laws (g.T.Track.answers old.view) (g.met.T.Track.alike old.view) old.recording c.memoized.new.sink old.agrees c.args.key _ c.memoized.result c.memoized.ensures.gave c.memoized.ensures.err }
+    let i = c.self.inside in
+    called_keeps _ g.met.T.Call.Eq.laws g.met.T.Answer.Eq.laws _ _ _ _ (g.met.T.Track.alike i.view) i.recording c.memoized.new.sink c.self.invariant (λ output writes d. g.met.G.FunctionOf.reads c.args.key (g.T.Track.answers i.view) output writes d) _ c.memoized.result c.memoized.ensures.reply c.memoized.ensures.err
 
-pub returns-clause-learns : goal.returns-clause-learns
-returns-clause-learns g c =
-    let old = c.args.self.now in
-    let gave = c.in_ok-reply.ensures.gave in
-    learns_output _ g.met.T.Call.Eq.laws g.met.T.Answer.Eq.laws (g.T.Track.answers old.view) (g.met.T.Track.alike old.view) old.recording c.memoized.new.sink old.agrees c.args.key c.in_ok-reply.reply.output gave (λ n d. g.met.G.FunctionOf.reads c.args.key n c.in_ok-reply.reply.output gave.writes [] d)
+pub invariant_of-self-2 : goal.invariant_of-self-2
+invariant_of-self-2 g c =
+    let i = c.self.inside in
+    called_keeps _ g.met.T.Call.Eq.laws g.met.T.Answer.Eq.laws _ _ _ _ (g.met.T.Track.alike i.view) i.recording c.memoized.new.sink c.self.invariant (λ output writes d. g.met.G.FunctionOf.reads c.args.key (g.T.Track.answers i.view) output writes d) _ c.memoized.result c.memoized.ensures.reply c.memoized.ensures.err
+
+pub returns-clause-tells : goal.returns-clause-tells
+returns-clause-tells g c =
+    let i = c.self.inside in
+    let k = c.in_ok-reply.ensures.reply in
+    rw (← c.self.view_is) (tells_output _ g.met.T.Call.Eq.laws g.met.T.Answer.Eq.laws _ _ _ _ (g.met.T.Track.alike i.view) refl c.self.invariant.agrees c.in_ok-reply.reply k (λ n d. subst (λ ws. g.G.Memo.def c.args.key n c.in_ok-reply.reply.output ws) (g.met.G.FunctionOf.reads c.args.key n c.in_ok-reply.reply.output k.writes d) d))
+
+pub returns-in_err-reply-clause-tells : goal.returns-in_err-reply-clause-tells
+returns-in_err-reply-clause-tells g c = rw (← c.self.view_is) (tells_broken refl c.from_residual.result c.from_residual.ensures.0 (not_whole c.in_err-reply.ensures.err.1))
+
+pub returns-clause-reply : goal.returns-clause-reply
+returns-clause-reply g c = (c.in_ok-reply.reply, refl, rw (← c.self.view_is) c.in_ok-reply.ensures.reply)

@@ -1,17 +1,26 @@
-use Rattle.comemo.specs.Meaning.{sent}
-use Rattle.tracking.specs.Recording.{Took}
-use Rattle.comemo.proofs.Recorders.{still_agrees, learns_output}
-use Rattle.comemo.proofs.ThroughMaps.{gave_through}
+use Rattle.std.proofs.Common.{refl}
+use Rattle.tracking.specs.Recording.{Took, Spoiled}
+use Rattle.comemo.proofs.Calls.{resent}
+use Rattle.comemo.proofs.Sendings.{on_err}
+use Rattle.comemo.proofs.ThroughMaps.{keeps_through, tells_through, broke_through}
 use Rattle.comemo.proofs.function.Recorder.call_through.Goals as goal
 
 pub invariant_of-self-2 : goal.invariant_of-self-2
 invariant_of-self-2 g c =
-    let old = c.args.self.now in
-    let gave = gave_through g.A.Call.PartialEq.eq g.A.Answer.PartialEq.eq g.T.Call.PartialEq.eq g.T.Answer.PartialEq.eq (g.P.CallMap.maps c.args.map) (g.P.CallMap.maps_answer c.args.map) (g.met.P.CallMap.apart c.args.map) (g.met.P.CallMap.answers_apart c.args.map) g.G.Key.PartialEq.eq g.G.Out.Clone.is_clone g.G.Memo.def g.met.G.FunctionOf.reads (sent (Took g.T.Call.PartialEq.eq) old.recording c.drop-sink-2.new.self.0) (λ P W took. rw c.drop-sink-2.ensures (rw c.new-sink.ensures.value at (rw c.new-sink.ensures.map at took.sent))) c.args.key (g.T.Track.answers old.view) c.requires c.in_ok-reply.reply.output c.in_ok-reply.ensures.gave in
-    record { agrees = still_agrees g.met.T.Call.Eq.laws g.met.T.Answer.Eq.laws (g.T.Track.answers old.view) (g.met.T.Track.alike old.view) gave.pairs gave.writes gave.are_sent gave.agrees old.agrees }
+    let i = c.self.inside in
+    keeps_through g.A.Call.PartialEq.eq g.A.Answer.PartialEq.eq g.T.Call.PartialEq.eq g.T.Answer.PartialEq.eq (g.P.CallMap.maps c.args.map) (g.P.CallMap.maps_answer c.args.map) (g.met.P.CallMap.apart c.args.map) (g.met.P.CallMap.answers_apart c.args.map) g.G.Key.PartialEq.eq g.A.Call.Call.is_write g.G.Out.Clone.is_clone g.G.Memo.def g.met.T.Call.Eq.laws g.met.T.Answer.Eq.laws (g.T.Track.answers i.view) (g.met.T.Track.alike i.view) (g.A.Track.answers c.args.of.now) (rw (← c.self.view_is) at c.requires) c.args.key _ _ _ c.in_ok-reply.reply i.recording _ c.self.invariant (resent (λ P W took. rw c.drop-sink-2.ensures (rw c.new-sink.ensures.value at (rw c.new-sink.ensures.map at took.sent))) c.in_ok-reply.ensures.reply) (λ m writes d. g.met.G.FunctionOf.reads c.args.key m c.in_ok-reply.reply.output writes d)
 
-pub returns-clause-learns : goal.returns-clause-learns
-returns-clause-learns g c =
-    let old = c.args.self.now in
-    let gave = gave_through g.A.Call.PartialEq.eq g.A.Answer.PartialEq.eq g.T.Call.PartialEq.eq g.T.Answer.PartialEq.eq (g.P.CallMap.maps c.args.map) (g.P.CallMap.maps_answer c.args.map) (g.met.P.CallMap.apart c.args.map) (g.met.P.CallMap.answers_apart c.args.map) g.G.Key.PartialEq.eq g.G.Out.Clone.is_clone g.G.Memo.def g.met.G.FunctionOf.reads (sent (Took g.T.Call.PartialEq.eq) old.recording c.drop-sink-2.new.self.0) (λ P W took. rw c.drop-sink-2.ensures (rw c.new-sink.ensures.value at (rw c.new-sink.ensures.map at took.sent))) c.args.key (g.T.Track.answers old.view) c.requires c.in_ok-reply.reply.output c.in_ok-reply.ensures.gave in
-    learns_output _ g.met.T.Call.Eq.laws g.met.T.Answer.Eq.laws (g.T.Track.answers old.view) (g.met.T.Track.alike old.view) old.recording c.drop-sink-2.new.self.0 old.agrees c.args.key c.in_ok-reply.reply.output gave (λ n d. d)
+pub returns-clause-tells : goal.returns-clause-tells
+returns-clause-tells g c =
+    let i = c.self.inside in
+    rw (← c.self.view_is) (tells_through g.A.Call.PartialEq.eq g.A.Answer.PartialEq.eq g.T.Call.PartialEq.eq g.T.Answer.PartialEq.eq (g.P.CallMap.maps c.args.map) (g.P.CallMap.maps_answer c.args.map) (g.met.P.CallMap.apart c.args.map) (g.met.P.CallMap.answers_apart c.args.map) g.G.Key.PartialEq.eq g.A.Call.Call.is_write g.G.Out.Clone.is_clone g.G.Memo.def g.met.T.Call.Eq.laws g.met.T.Answer.Eq.laws (g.T.Track.answers i.view) (g.met.T.Track.alike i.view) (g.A.Track.answers c.args.of.now) (rw (← c.self.view_is) at c.requires) c.args.key _ _ _ c.in_ok-reply.reply refl c.self.invariant.agrees (resent (λ P W took. rw c.drop-sink-2.ensures (rw c.new-sink.ensures.value at (rw c.new-sink.ensures.map at took.sent))) c.in_ok-reply.ensures.reply) (λ m writes d. g.met.G.FunctionOf.reads c.args.key m c.in_ok-reply.reply.output writes d))
+
+pub returns-clause-reply : goal.returns-clause-reply
+returns-clause-reply g c = (c.in_ok-reply.reply, refl, rw (← c.self.view_is) (resent (λ P W took. rw c.drop-sink-2.ensures (rw c.new-sink.ensures.value at (rw c.new-sink.ensures.map at took.sent))) c.in_ok-reply.ensures.reply))
+
+pub returns-in_err-reply-clause-err : goal.returns-in_err-reply-clause-err
+returns-in_err-reply-clause-err g c =
+    let i = c.self.inside in
+    let err = c.in_err-reply.ensures.err in
+    let broke = broke_through g.A.Call.PartialEq.eq g.A.Answer.PartialEq.eq g.T.Call.PartialEq.eq g.T.Answer.PartialEq.eq (g.P.CallMap.maps c.args.map) (g.P.CallMap.maps_answer c.args.map) (g.met.P.CallMap.apart c.args.map) (g.met.P.CallMap.answers_apart c.args.map) {takes = Took g.T.Call.PartialEq.eq} {breaks = Spoiled} (λ s. s.sink.now) c.new-sink.result (λ t P took. rw c.new-sink.ensures.map at took.sent) (λ t u spoils. spoils.spoiled) (g.T.Track.answers i.view) (g.A.Track.answers c.args.of.now) (rw (← c.self.view_is) at c.requires) c.memoized.new.sink err.1 in
+    on_err c.from_residual.result (err.0, rw (← c.self.view_is, c.drop-sink.ensures) (rw c.new-sink.ensures.value at broke))
