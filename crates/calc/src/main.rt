@@ -31,11 +31,17 @@ fn main(rt: HostRuntime) -> ExitCode {
         let _ = errors.write_all(OUT_OF_MEMORY);
         return ExitCode::from(1);
     };
-    let Ok(reader) = BufReader::new(alloc, rt.reader()) else {
+    let Ok(mut reader) = BufReader::new(alloc, rt.reader()) else {
         let _ = errors.write_all(OUT_OF_MEMORY);
         return ExitCode::from(1);
     };
     let mut writer = io::writer(&rt);
-    let status = interpreter::start(alloc, words.as_slice(), reader, &mut writer, &mut errors);
+    let status = interpreter::start(
+        alloc,
+        words.as_slice(),
+        &mut reader,
+        &mut writer,
+        &mut errors,
+    );
     ExitCode::from(status)
 }

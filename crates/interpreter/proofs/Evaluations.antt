@@ -1,60 +1,128 @@
 -- What a part of a script comes to where it calls another one, and what a run of a script learnt.
-use Rattle.std.proofs.Common.{◌≡◌, ◌&&◌, true, IsTrue, ℕ, List, Result, Ok, Err, IsErrAnd, ◌∙◌, String, string_bytes, string_eq, refl, sym, ap, subst}
+use Rattle.std.proofs.Common.{◌≡◌, ◌≤◌, Bool, true, IsTrue, ℕ, List, [], ◌++◌, Result, Ok, Err, IsErrAnd, OnErr, ◌∙◌, ◌↔◌, ◌≢◌, String, string_bytes, string_eq, refl, sym, ap, subst, append-nil}
 use Rattle.std.specs.Bool.{⊤}
 use Rattle.std.specs.Global.{Global}
 use Rattle.comemo_base.specs.Answers.{Respects, Agrees}
-use Rattle.comemo.specs.Meaning.{sent}
-use Rattle.comemo.specs.Called.{Gave}
+use Rattle.comemo.specs.Function.{Learns}
+use Rattle.comemo.specs.Called.{IsReply}
+use Rattle.comemo.specs.Finish.{BrokeOff}
 use Rattle.comemo.specs.Mapped.{Through}
-use Rattle.comemo.specs.Multi.{OnParts, second_call, second_answer}
+use Rattle.comemo.specs.Multi.{second_call, second_answer}
 use Rattle.comemo.specs.Recording.{Recording, Took}
-use Rattle.comemo.specs.Sending.{Asks}
-use Rattle.tracking.proofs.KeyedViews.{keyed_calls, keyed_answers, respects_with_key, on_parts, told_read}
-use Rattle.tracking.proofs.Told.{told_pairs}
-use Rattle.scripts.specs.Meaning.{Means, Deep, is_eval}
+use Rattle.comemo.specs.Sending.{Asks, BreaksOff}
+use Rattle.comemo.specs.declared.finish.Reply.{Reply}
+use Rattle.tracking.proofs.KeyedViews.{keyed_calls, keyed_answers, respects_with_key}
+use Rattle.tracking.proofs.Through.{asked_through}
+use Rattle.tracking.proofs.Told.{ToldAnswer, told_answer, Told, told_pairs}
+use Rattle.scripts.specs.Meaning.{Deep, IsTooDeep, is_eval}
 use Rattle.scripts.specs.Parts.{IsEval}
+use Rattle.scripts.proofs.Meanings.{means_map, deep_map, deep_is_too_deep}
 use Rattle.scripts.specs.declared.outcome.Outcome.{Outcome}
 use Rattle.interpreter.specs.declared.files.Files.{Files}
-use Rattle.interpreter.specs.Files.{JoinedCall, JoinedAnswer, with_key, text_at, answers_of}
-use Rattle.interpreter.specs.Sessions.{Reads, texts_of}
+use Rattle.interpreter.specs.Files.{JoinedCall, JoinedAnswer, OnFiles, Reads, texts_of, with_key, text_at, answers_of}
 use Rattle.interpreter.specs.declared.evaluation.EvalFault.{EvalFault}
-use Rattle.interpreter.specs.Evaluations.{At, ComesTo, PartComesTo, CallsDeep, Learnt, evaluating}
+use Rattle.interpreter.specs.declared.evaluation.EvalFault.TheVariants.{TooDeep, Memory}
+use Rattle.interpreter.specs.Evaluations.{At, ComesTo, PartComesTo, FilesFit, IsOutcome, Outcomes, evaluating}
 use Rattle.interpreter.specs.declared.files.FileCall.{FileCall}
 use Rattle.interpreter.specs.declared.files.FileCall.TheVariants.{Read}
-use Rattle.interpreter.specs.contracts.files.FileCallPartialEq.TheImpl.{ghosts}
-use Rattle.interpreter.proofs.FileCalls.{same_bytes, same_key}
-use Rattle.interpreter.specs.Joined.{same_call, same_answer}
+use Rattle.interpreter.proofs.FileCalls.{same_bytes, answers_alike}
+use Rattle.interpreter.specs.Joined.{same_call, same_answer, same_key, with_files}
+use Rattle.interpreter.proofs.FileCalls.{key_bytes}
 use Rattle.interpreter.proofs.JoinedCalls.{tests}
 
+-- what a key joined with files answers tells no equal calls apart
+pub files_respect : (files : Files) → Respects same_call same_answer (with_key (answers_of files))
+files_respect files = respects_with_key tests (answers_of files) (answers_alike files)
+
+-- files fit what has no pair
+pub files_fit_none : (files : Files) (s : Recording JoinedCall JoinedAnswer) → s.whole ≡ true → s.pairs ≡ [] → FilesFit files s
+files_fit_none files s whole none = record {
+  whole = whole;
+  respects = files_respect files;
+  agrees = subst (λ ps. Agrees same_answer (with_key (answers_of files)) ps) (sym none) tt;
+}
+
+-- what was learnt before is still known, and what is learnt in the end is this
+pub learns_on : {s t u : Recording JoinedCall JoinedAnswer} {P Q R : (JoinedCall → JoinedAnswer) → Type 0} → Learns same_call same_answer s t P → Learns same_call same_answer t u Q → ((m : JoinedCall → JoinedAnswer) → P m → Q m → R m) → Learns same_call same_answer s u R
+learns_on first next both = record {
+  before = λ m f. first.before m (next.before m f);
+  told = λ m f. both m (first.told m (next.before m f)) (next.told m f);
+}
+
+-- what follows from what was learnt was learnt
+pub learns_more : {s t : Recording JoinedCall JoinedAnswer} {P Q : (JoinedCall → JoinedAnswer) → Type 0} → Learns same_call same_answer s t P → ((m : JoinedCall → JoinedAnswer) → P m → Q m) → Learns same_call same_answer s t Q
+learns_more learns more = record { before = learns.before; told = λ m f. more m (learns.told m f) }
+
+-- what was learnt holds of the files that fit
+pub of_files : (files : Files) {s t : Recording JoinedCall JoinedAnswer} {P : (FileCall → String Global) → Type 0} → Learns same_call same_answer s t (OnFiles P) → FilesFit files t → P (answers_of files)
+of_files files learns fits = learns.told (with_key (answers_of files)) fits (answers_of files) (λ c. refl)
+
 -- nothing was recorded, and P holds whatever is answered
-pub learnt_nothing : (m : FileCall → String Global) (s : Recording JoinedCall JoinedAnswer) (P : (FileCall → String Global) → Type 0) → Agrees same_answer (with_key m) s.pairs → ((n : FileCall → String Global) → P n) → Learnt m s s P
-learnt_nothing m s P a p = (a, λ n r b. (b, p n))
+pub learns_nothing : (s : Recording JoinedCall JoinedAnswer) {P : (JoinedCall → JoinedAnswer) → Type 0} → ((m : JoinedCall → JoinedAnswer) → P m) → Learns same_call same_answer s s P
+learns_nothing s p = record { before = λ m f. f; told = λ m f. p m }
 
-module _ (m : FileCall → String Global) (respects : Respects ghosts.eq string_eq m) {s t : Recording JoinedCall JoinedAnswer} {part path : List ℕ} {own text : String Global} (is : IsEval part path) (named : string_bytes own ≡ path) (asks : Asks string_eq (Through (Took same_call) second_call second_answer) m s (Read own) text t) where
-  -- a script was read and came to this, so the part does
-  pub learnt_by_call : {u : Recording JoinedCall JoinedAnswer} {key : String Global} {outcome : Outcome} → Agrees same_answer (with_key m) s.pairs → string_bytes key ≡ string_bytes text → Gave evaluating (key, tt) (with_key m) (sent (Took same_call) t u) outcome → Learnt m s u (λ n. PartComesTo n part outcome)
-  learnt_by_call {u = u} {outcome = outcome} agrees same gave =
-      let read = told_read tests m respects s t (Read own) text agrees asks in
-      let ran = told_pairs (keyed_calls tests) (keyed_answers tests) (with_key m) (respects_with_key tests m respects) t u gave.pairs gave.writes read.agrees gave.agrees gave.are_sent in (
-        ran.agrees,
-        λ n r a.
-            let both = respects_with_key tests n r in
-            let b = ran.before (with_key n) both a in
-            let means : Means (At n) (string_bytes text) outcome.value outcome.height = subst (λ script. Means (At n) script outcome.value outcome.height) same (gave.stands (with_key n) both (ran.told (with_key n) both a) (λ _. tt) n (λ c. refl) (λ c. refl)) in
-            (read.before n r b, is_eval is (own, named, same_bytes (n (Read own)) text (read.told n r b)) means),
-      )
+module _ (files : Files) {s t : Recording JoinedCall JoinedAnswer} {own text : String Global} (asks : Asks string_eq (answers_of files) (Read own) text (Through second_call second_answer (Took same_call s t))) where
+  pub asked : Asks same_answer (with_key (answers_of files)) (second_call (Read own)) (second_answer text) (Took same_call s t)
+  asked = asked_through same_answer second_call second_answer (answers_of files) (with_key (answers_of files)) (Read own) text refl (λ x y. refl) asks
 
-  -- a script was read that goes deeper than the limit
-  pub calls_deep : {limit : ℕ} → Deep (At m) (string_bytes text) limit → CallsDeep m part limit
-  calls_deep d = (path, string_bytes text, is, (own, named, same_bytes (m (Read own)) text asks.gives), d)
+  read : Agrees same_answer (with_key (answers_of files)) s.pairs → ToldAnswer same_call same_answer (with_key (answers_of files)) s.pairs (second_call (Read own)) (second_answer text) t.pairs
+  read agrees = told_answer (keyed_calls tests) (keyed_answers tests) (with_key (answers_of files)) (files_respect files) s t (second_call (Read own)) (second_answer text) agrees asked
+
+  -- the files fit a recording of what was read of them
+  pub fits_read : FilesFit files s → FilesFit files t
+  fits_read fits = record { whole = asked.sent.whole ∙ fits.whole; respects = fits.respects; agrees = (read fits.agrees).agrees }
+
+  -- what was read is what is answered to the read
+  pub learns_read : FilesFit files s → Learns same_call same_answer s t (OnFiles (λ n. string_bytes (n (Read own)) ≡ string_bytes text))
+  learns_read fits = record {
+    before = λ m f. record { whole = sym asked.sent.whole ∙ f.whole; respects = f.respects; agrees = (read fits.agrees).before m f.respects f.agrees };
+    told = λ m f part second. same_bytes (part (Read own)) text (subst (λ a. IsTrue (same_answer a (second_answer text))) (second (Read own)) ((read fits.agrees).told m f.respects f.agrees));
+  }
+
+  pub writes_read : t.writes ≡ s.writes
+  writes_read = asked.sent.writes ∙ append-nil s.writes
+
+  pub text_read : string_bytes (answers_of files (Read own)) ≡ string_bytes text
+  text_read = same_bytes (answers_of files (Read own)) text asks.gives
+
+-- what a call of a script gave a recording
+module _ (files : Files) {t u : Recording JoinedCall JoinedAnswer} {key : String Global} {es mid es' : Outcomes} {reply : Reply Outcome} (replied : IsReply evaluating (with_files key files) es mid (Took same_call t u) reply es') where
+  given : Agrees same_answer (with_key (answers_of files)) replied.gives.given
+  given = (replied.gives.agreeing (with_key (answers_of files)) (files_respect files)).1 replied.agrees
+
+  ran : Agrees same_answer (with_key (answers_of files)) t.pairs → Told same_call same_answer (with_key (answers_of files)) t.pairs replied.gives.given u.pairs
+  ran agrees = told_pairs (keyed_calls tests) (keyed_answers tests) (with_key (answers_of files)) (files_respect files) t u replied.gives.given replied.writes agrees given replied.gives.are_sent
+
+  pub fits_call : FilesFit files t → FilesFit files u
+  fits_call fits = record { whole = replied.gives.are_sent.whole ∙ fits.whole; respects = fits.respects; agrees = (ran fits.agrees).agrees }
+
+  pub learns_call : FilesFit files t → Learns same_call same_answer t u (OnFiles (λ n. ComesTo n (string_bytes key) reply.output))
+  learns_call fits = record {
+    before = λ m f. record { whole = sym replied.gives.are_sent.whole ∙ f.whole; respects = f.respects; agrees = (ran fits.agrees).before m f.respects f.agrees };
+    told = λ m f. (replied.stands m f.respects ((replied.gives.agreeing m f.respects).0 ((ran fits.agrees).told m f.respects f.agrees))).1;
+  }
+
+  pub writes_call : u.writes ≡ t.writes
+  writes_call =
+      let none : replied.writes ≡ [] = (replied.stands (with_key (answers_of files)) (files_respect files) replied.agrees).0 in
+      replied.gives.are_sent.writes ∙ ap (λ ws. t.writes ++ ws) none ∙ append-nil t.writes
 
 -- what a call gave its sink stands for what it gave its caller
-pub script_given : {sent : List (JoinedCall × JoinedAnswer) → List JoinedCall → Type 0} (m : FileCall → String Global) → Respects ghosts.eq string_eq m → {key : String Global} {script : List ℕ} {outcome : Outcome} → string_bytes key ≡ script → Gave evaluating (key, tt) (with_key m) sent outcome → ComesTo m script outcome
-script_given m respects {outcome = outcome} same gave = subst (λ script. ComesTo m script outcome) same (gave.stands (with_key m) (respects_with_key tests m respects) gave.agrees (λ _. tt) m (λ c. refl) (λ c. refl))
+pub script_given : {sent : List (JoinedCall × JoinedAnswer) → List JoinedCall → Type 0} (files : Files) {key : String Global} {script : List ℕ} {es mid es' : Outcomes} {reply : Reply Outcome} → string_bytes key ≡ script → IsReply evaluating (with_files key files) es mid sent reply es' → ComesTo (answers_of files) script reply.output
+script_given files {reply = reply} same replied =
+    subst (λ script. ComesTo (answers_of files) script reply.output) same ((replied.stands (with_key (answers_of files)) (files_respect files) replied.agrees).1 (answers_of files) (λ c. refl))
+
+-- a part that calls a script comes to what that script comes to
+pub part_called : (key text : String Global) {part path : List ℕ} {own : String Global} {outcome : Outcome} → IsEval part path → string_bytes own ≡ path → string_bytes key ≡ string_bytes text → (m : JoinedCall → JoinedAnswer) → OnFiles (λ n. string_bytes (n (Read own)) ≡ string_bytes text) m → OnFiles (λ n. ComesTo n (string_bytes key) outcome) m → OnFiles (λ n. PartComesTo n part outcome) m
+part_called key text {own = own} {outcome = outcome} is named same m told comes n second =
+    is_eval is (own, named, told n second) (subst (λ script. ComesTo n script outcome) same (comes n second))
 
 -- what was learnt of a script, which is the run's key, stands where the run is finished
-pub script_stands : (s : List ℕ) (before after : List (JoinedCall × JoinedAnswer)) (key : String Global) (own : String Global × ⊤) (outcome : Outcome) → string_bytes key ≡ s → IsTrue (string_eq key own.0 && true) → ((n : FileCall → String Global) → Respects ghosts.eq string_eq n → Agrees same_answer (with_key n) after → Agrees same_answer (with_key n) before × ComesTo n s outcome) → (m : JoinedCall → JoinedAnswer) → Respects same_call same_answer m → Agrees same_answer m after → OnParts m (λ _ n. ComesTo n (string_bytes own.0) outcome)
-script_stands s before after key own outcome same has learnt = on_parts tests after (λ n. ComesTo n (string_bytes own.0) outcome) (λ n r a. subst (λ script. ComesTo n script outcome) (sym same ∙ same_key key own.0 has) (learnt n r a).1)
+pub run_stands : (script : List ℕ) (s t : Recording JoinedCall JoinedAnswer) (key : String Global) (own : String Global × ⊤) (outcome : Outcome) → string_bytes key ≡ script → IsTrue (same_key (key, tt) own) → s.writes ≡ [] → t.writes ≡ s.writes → Learns same_call same_answer s t (OnFiles (λ n. ComesTo n script outcome)) → t.whole ≡ true → (m : JoinedCall → JoinedAnswer) → Respects same_call same_answer m → Agrees same_answer m t.pairs → IsOutcome own m outcome t.writes
+run_stands script s t key own outcome same has none writes learns whole m respects agrees = (
+  writes ∙ none,
+  λ n second. subst (λ script. ComesTo n script outcome) (sym same ∙ key_bytes key own.0 has) (learns.told m (record { whole = whole; respects = respects; agrees = agrees }) n second),
+)
 
 abbrev fault_or : {A : Type 0} → EvalFault → Result A EvalFault → EvalFault
 fault_or d (Ok x) = d
@@ -68,3 +136,33 @@ handed_on (Err x) f g h e = sym h ∙ ap (fault_or f) e
 -- what is answered when a path is read is the text there
 pub reads : (files : Files) (path text : List ℕ) → At (answers_of files) path text → Reads (texts_of files) path text
 reads files path text (own, named, gives) = subst (λ p. string_bytes (text_at files p) ≡ text) named gives
+
+-- what goes deeper than the limit is too deep for it
+pub too_deep : (files : Files) {script : List ℕ} {limit : ℕ} → Deep (At (answers_of files)) script limit → IsTooDeep (Reads (texts_of files)) script limit
+too_deep files deep = deep_is_too_deep (Reads (texts_of files)) (λ path text other is other_is. sym is ∙ other_is) (deep_map (At (answers_of files)) (Reads (texts_of files)) (reads files) deep)
+
+-- what has an outcome within the limit is not, so it is answered exactly where it is so
+pub exact_at_ok : {A : Type 0} (files : Files) {script : List ℕ} {limit : ℕ} {outcome : Outcome} {x : A} → ComesTo (answers_of files) script outcome → outcome.height ≤ limit → (let r : Result A EvalFault = Ok x in r) ≢ Err Memory → ((let r : Result A EvalFault = Ok x in r) ≡ Err TooDeep) ↔ IsTooDeep (Reads (texts_of files)) script limit
+exact_at_ok files {outcome = outcome} comes_to low no_memory =
+    (λ e. absurd (let never : ⊥ = cc in never), λ deep. absurd (deep outcome.value outcome.height (means_map (At (answers_of files)) (Reads (texts_of files)) (reads files) comes_to) low))
+
+pub exact_at_fault : {A : Type 0} (files : Files) {script : List ℕ} {limit : ℕ} (r : Result A EvalFault) (f : EvalFault) → IsErrAnd r (λ e. e ≡ f) → (f ≡ TooDeep → Deep (At (answers_of files)) script limit) → r ≢ Err Memory → (r ≡ Err TooDeep) ↔ IsTooDeep (Reads (texts_of files)) script limit
+exact_at_fault files (Ok x) f is deep no_memory = absurd is
+exact_at_fault files (Err TooDeep) f is deep no_memory = (λ _. too_deep files (deep (sym is)), λ _. refl)
+exact_at_fault files (Err Memory) f is deep no_memory = absurd (no_memory refl)
+
+pub on_err : {A E P : Type 0} (r : Result A E) → P → OnErr r P
+on_err (Ok x) p = tt
+on_err (Err e) p = p
+
+-- a sink that took pairs which the answers agree with, and no write, and then was spoiled, was broken off after them
+pub broke_after : {S C R : Type 0} {took : S → S → List (C × R) → List C → Type 0} {spoils : S → S → Type 0} (same : R → R → Bool) (m : C → R) (s mid t : S) (pairs : List (C × R)) (writes : List C) → Agrees same m pairs → writes ≡ [] → took s mid pairs writes → spoils mid t → BrokeOff same m (BreaksOff took spoils s t)
+broke_after {took = took} same m s mid t pairs writes agrees none taken spoiled = record {
+  pairs = pairs;
+  agrees = agrees;
+  is_broken = record { front = pairs; rest = []; parts = sym (append-nil pairs); mid = mid; taken = subst (λ ws. took s mid pairs ws) none taken; spoiled = spoiled };
+}
+
+-- one that was spoiled as it was took nothing
+pub broke_at_once : {S C R : Type 0} {took : S → S → List (C × R) → List C → Type 0} {spoils : S → S → Type 0} → ((s : S) → took s s [] []) → (same : R → R → Bool) (m : C → R) (s t : S) → spoils s t → BrokeOff same m (BreaksOff took spoils s t)
+broke_at_once starts same m s t spoiled = broke_after same m s s t [] [] tt refl (starts s) spoiled

@@ -15,8 +15,8 @@ pub same_text : (a b : String Global) → string_bytes a ≡ string_bytes b → 
 same_text a b h = search rules
 
 -- the same of two keys, each a text and nothing more
-pub same_key : (a b : String Global) → IsTrue (string_eq a b && true) → string_bytes a ≡ string_bytes b
-same_key a b h = search rules
+pub key_bytes : (a b : String Global) → IsTrue (string_eq a b && true) → string_bytes a ≡ string_bytes b
+key_bytes a b h = search rules
 
 pub same_texts : IsEquivalence (string_eq {Z = Global})
 same_texts = search rules
@@ -26,3 +26,6 @@ same_calls = search rules
 
 pub answers_alike : (files : Files) → Respects ghosts.eq string_eq (answers_of files)
 answers_alike files (Read p) (Read q) h = search rules
+
+pub key_alike : (a b : String Global) → string_bytes a ≡ string_bytes b → IsTrue (string_eq a b && true)
+key_alike a b h = search rules

@@ -1,34 +1,98 @@
 -- The size that a run finds stands for all answers that agree with its recording.
-use Rattle.std.proofs.Common.{Result, Ok, Err, IfOk, ◌≡◌, [], String, string_bytes, string_eq, length, ◌∙◌, sym, ap, subst}
+use Rattle.std.proofs.Common.{◌≡◌, ◌∙◌, ℕ, true, List, [], ◌∷◌, Result, Ok, Err, IfOk, OnErr, refl, subst, inr, String, string_bytes, string_eq, length, sym, ap}
 use Rattle.std.specs.Bool.{⊤}
 use Rattle.std.specs.Global.{Global}
 use Rattle.comemo_base.specs.Answers.{Respects, Agrees}
-use Rattle.comemo.specs.Cache.{Stands}
+use Rattle.comemo_base.specs.Sequence.{absorbed}
+use Rattle.comemo.specs.Begin.{PendingRun, IsHit, IsRun}
+use Rattle.comemo.specs.Cache.{Stands, Touches}
+use Rattle.comemo.specs.Meaning.{run as came}
+use Rattle.comemo.specs.Finish.{Ends, Finished}
 use Rattle.comemo.specs.Mapped.{Through}
-use Rattle.comemo.specs.Multi.{OnParts, second_call, second_answer}
+use Rattle.comemo.specs.Multi.{second_call, second_answer}
 use Rattle.comemo.specs.Recording.{Recording, Took}
 use Rattle.comemo.specs.Sending.{Asks}
-use Rattle.tracking.proofs.KeyedViews.{on_parts, ToldRead, told_read}
-use Rattle.interpreter.specs.Files.{JoinedCall, JoinedAnswer, with_key}
-use Rattle.interpreter.specs.Size.{IsSize}
-use Rattle.interpreter.specs.declared.files.FileCall.{FileCall}
+use Rattle.comemo.specs.declared.finish.How.TheVariants as how
+use Rattle.comemo.specs.declared.finish.Reply.{Reply}
+use Rattle.comemo.proofs.Calls.{recorded, reply_by_hit, stands_at_call}
+use Rattle.tracking.proofs.KeyedViews.{keyed_calls, keyed_answers}
+use Rattle.tracking.specs.MultiLaws.{second_respects}
+use Rattle.interpreter.specs.declared.files.Files.{Files}
 use Rattle.interpreter.specs.declared.files.FileCall.TheVariants.{Read}
-use Rattle.interpreter.specs.contracts.files.FileCallPartialEq.TheImpl.{ghosts}
-use Rattle.interpreter.proofs.FileCalls.{same_bytes, same_text}
-use Rattle.interpreter.specs.Joined.{same_call, same_answer}
+use Rattle.interpreter.specs.Files.{JoinedCall, JoinedAnswer, text_at, answers_of}
+use Rattle.interpreter.specs.Joined.{same_call, same_answer, with_files}
+use Rattle.interpreter.specs.Evaluations.{FilesFit}
+use Rattle.interpreter.specs.Size.{IsSizeOf, ReadsAlone, SizeReply, Sizes, sizing}
+use Rattle.interpreter.proofs.Evaluations.{files_fit_none, fits_read, learns_read, writes_read, text_read}
+use Rattle.interpreter.proofs.FileCalls.{same_bytes, same_text, key_bytes}
 use Rattle.interpreter.proofs.JoinedCalls.{tests}
 
-module _ (m : FileCall → String Global) (respects : Respects ghosts.eq string_eq m) (own text : String Global) (s t : Recording JoinedCall JoinedAnswer) (empty : s.pairs ≡ []) (asked : Asks string_eq (Through (Took same_call) second_call second_answer) m s (Read own) text t) where
-  read : ToldRead same_call same_answer m s.pairs (Read own) text t.pairs
-  read = told_read tests m respects s t (Read own) text (subst (λ ps. Agrees same_answer (with_key m) ps) (sym empty) tt) asked
+module _ (files : Files) {own text : String Global} {s t : Recording JoinedCall JoinedAnswer} (asks : Asks string_eq (answers_of files) (Read own) text (Through second_call second_answer (Took same_call s t))) (whole : s.whole ≡ true) (none : s.pairs ≡ []) where
+  -- the files fit what a run has recorded that read one text
+  pub size_fits : FilesFit files t
+  size_fits = fits_read files asks (files_fit_none files s whole none)
 
-  pub run_stands : (key : String Global × ⊤) → string_bytes own ≡ string_bytes key.0 → Stands same_call same_answer (λ key answers out _. OnParts answers (λ _ n. IsSize key.0 n out)) key t.pairs (length (string_bytes text)) t.writes
-  run_stands key named = on_parts tests t.pairs (λ n. IsSize key.0 n (length (string_bytes text))) (λ n r a. ap length (sym (same_bytes (n (Read own)) text (read.told n r a)) ∙ same_bytes (n (Read own)) (n (Read key.0)) (r (Read own) (Read key.0) (same_text own key.0 named))))
+  -- the length of that text is the size wherever the recording agrees
+  pub size_stands : s.writes ≡ [] → (key : String Global × ⊤) → string_bytes own ≡ string_bytes key.0 → {output : ℕ} → output ≡ length (string_bytes text) → t.whole ≡ true → (m : JoinedCall → JoinedAnswer) → Respects same_call same_answer m → Agrees same_answer m t.pairs → IsSizeOf key m output t.writes
+  size_stands unwritten key named long ended m respects agrees = (
+    writes_read files asks ∙ unwritten,
+    λ n second.
+        let told = (learns_read files asks (files_fit_none files s whole none)).told m (record { whole = ended; respects = respects; agrees = agrees }) n second in
+        let alike = second_respects same_call same_answer m n respects second (Read own) (Read key.0) (same_text own key.0 named) in
+        long ∙ ap length (sym told ∙ same_bytes (n (Read own)) (n (Read key.0)) alike),
+  )
 
-  -- what is recorded agrees with the answers of which the text came
-  pub run_agrees : Agrees same_answer (with_key m) t.pairs
-  run_agrees = read.agrees
+  -- the recording is that read
+  pub read_alone : {path : List ℕ} → string_bytes own ≡ path → ReadsAlone path t.pairs
+  read_alone named = (own, asks.noted, named, asks.sent.pairs ∙ ap (λ ps. absorbed same_call ps ((second_call (Read own), second_answer asks.noted) ∷ [])) none)
+
+  -- its text is the one at the path
+  pub size_read : {path : List ℕ} → string_bytes own ≡ path → length (string_bytes text) ≡ length (string_bytes (text_at files path))
+  size_read named = ap length (sym (text_read files asks) ∙ ap (λ p. string_bytes (text_at files p)) named)
+
+-- a hit is replied so
+pub size_by_hit : (files : Files) {path : List ℕ} {es es' : Sizes} {key : String Global} {done : List JoinedCall → Type 0} {sent : List (JoinedCall × JoinedAnswer) → List JoinedCall → Type 0} {output : ℕ} → string_bytes key ≡ path → IsHit sizing es (with_files key files) done sent output → Touches es es' → SizeReply files path es sent (record { output = output; how = how.Hit }) es'
+size_by_hit files {es = es} {es' = es'} {key = key} names hit touched = record {
+  key = key;
+  names = names;
+  is_reply = reply_by_hit (keyed_calls tests) (keyed_answers tests) es es' hit touched;
+  asks = λ not. absurd (not refl);
+}
+
+-- a run that read one text and was finished with its length is replied so
+pub size_by_run : (files : Files) {path : List ℕ} {es es' : Sizes} {key own text : String Global} {begun : PendingRun (String Global × ⊤) JoinedCall JoinedAnswer} {s t : Recording JoinedCall JoinedAnswer} {sent : List (JoinedCall × JoinedAnswer) → List JoinedCall → Type 0} {output : ℕ} {reply : Reply ℕ}
+    → string_bytes key ≡ path → IsRun sizing es (with_files key files) begun → s ≡ begun.recording → string_bytes own ≡ path → Asks string_eq (answers_of files) (Read own) text (Through second_call second_answer (Took same_call s t)) → output ≡ length (string_bytes text)
+    → Finished sizing es (recorded begun t) sent output reply es' → SizeReply files path es sent reply es'
+size_by_run files {es = es} {es' = es'} {key = key} {begun = begun} {t = t} {output = output} {reply = reply} names run is named asks long finished =
+    let whole = subst (λ r. r.whole ≡ true) (sym is) run.whole in
+    let none = subst (λ r. r.pairs ≡ []) (sym is) run.pairs in
+    let unwritten = subst (λ r. r.writes ≡ []) (sym is) run.writes in
+    let fits = size_fits files asks whole none in
+    let stands = size_stands files asks whole none unwritten begun.key (named ∙ sym names ∙ key_bytes key begun.key.0 run.has_key) long fits.whole in
+    record {
+      key = key;
+      names = names;
+      is_reply = record {
+        pairs = t.pairs;
+        writes = t.writes;
+        agrees = fits.agrees;
+        stands = subst (λ o. Stands sizing (came (key, tt) t.pairs o t.writes)) (sym finished.same) (stands_at_call run t.pairs output t.writes stands);
+        gives = finished.gives;
+        came = inr (record {
+          none = run.none;
+          own = begun.key;
+          has_key = run.has_key;
+          ends = subst (λ o. Ends sizing es (came begun.key t.pairs o t.writes) reply.how es') (sym finished.same) finished.ends;
+          disabled = rw (← run.is_enabled) finished.disabled;
+        });
+      };
+      asks = λ _. read_alone files asks whole none named;
+    }
 
 pub mapped : {A E : Type 0} {P Q : A → Type 0} → ((a : A) → P a → Q a) → (r : Result A E) → IfOk r P → IfOk r Q
 mapped f (Ok a) p = f a p
 mapped f (Err e) p = tt
+
+pub mapped_err : {A E P Q : Type 0} → (P → Q) → (r : Result A E) → OnErr r P → OnErr r Q
+mapped_err f (Ok a) p = tt
+mapped_err f (Err e) p = f p

@@ -1,5 +1,5 @@
 -- Calls and answers of a key joined with files, and when two are equal.
-use Rattle.std.specs.Prelude.{◌≡◌, Bool, true, ◌&&◌, ⊤, List, String, string_eq}
+use Rattle.std.specs.Prelude.{◌≡◌, Bool, true, false, ◌&&◌, ⊤, List, String, string_eq}
 use Rattle.std.specs.Global.{Global}
 use Rattle.std.specs.contracts.prelude.UnitPartialEq.TheImpl as unit
 use Rattle.std.specs.contracts.string.String as string
@@ -7,7 +7,8 @@ use Rattle.std.specs.contracts.alloc.Global as global
 use Rattle.std.specs.contracts.impls.GlobalAllocator.TheImpl as allocator
 use Rattle.tracking.specs.contracts.multi.MultiCallPartialEq.TheImpl as multi_call
 use Rattle.tracking.specs.contracts.multi.MultiAnswerPartialEq.TheImpl as multi_answer
-use Rattle.comemo.specs.Meaning.{Meaning, Asked, asked}
+use Rattle.comemo.specs.Meaning.{Meaning, Invocation, invocation}
+use Rattle.comemo.specs.Multi.{by_part}
 use Rattle.interpreter.specs.declared.files.Files.{Files}
 use Rattle.interpreter.specs.contracts.files.FileCall as file_call
 use Rattle.interpreter.specs.contracts.files.FileCallPartialEq.TheImpl as call
@@ -23,10 +24,10 @@ same_answer = (multi_answer.ghosts denote.Builtin.unit (string.the_row global.th
 abbrev pub same_key : String Global × ⊤ → String Global × ⊤ → Bool
 same_key a b = string_eq a.0 b.0 && true
 
--- what a function of a text and the files means, where it means this and its outputs are plain values
+-- what a function of a text and the files means, where it means this and its outputs are plain values; no call is a write
 abbrev pub joined : {O : Type 0} → (String Global × ⊤ → (JoinedCall → JoinedAnswer) → O → List JoinedCall → Type 0) → Meaning (String Global × ⊤) JoinedCall JoinedAnswer O
-joined def = record { eq = same_call; same = same_answer; eqk = same_key; cloned = λ a b. b ≡ a; def = def }
+joined def = record { same_call = same_call; same_answer = same_answer; same_key = same_key; is_write = by_part (λ _. false) (λ _. false); is_clone = λ a b. b ≡ a; def = def }
 
 -- its call at a text and these files
-abbrev pub with_files : String Global → Files → Asked (String Global × ⊤) JoinedCall JoinedAnswer
-with_files key files = asked (key, tt) (with_key (answers_of files)) true
+abbrev pub with_files : String Global → Files → Invocation (String Global × ⊤) JoinedCall JoinedAnswer
+with_files key files = invocation (key, tt) (with_key (answers_of files)) true

@@ -2,5 +2,6 @@ pub mod Files
 pub mod Joined
 pub mod Size
 pub mod SizeLaws
-pub mod Sessions
 pub mod Evaluations
+pub mod Calls
+pub mod Sessions

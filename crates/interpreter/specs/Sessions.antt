@@ -1,29 +1,21 @@
 -- What a session answers.
 use Rattle.comemo.specs.declared.finish.How.{How}
 use Rattle.comemo.specs.declared.finish.How.TheVariants as how
-use Rattle.std.specs.Prelude.{Bool, true, false, ◌≡◌, ◌≤◌, ◌⊎◌, ℕ, List, [], ◌∷◌, bytes_eq, length, string_bytes, String, if◌then◌else◌}
-use Rattle.std.specs.Global.{Global}
+use Rattle.std.specs.Prelude.{Bool, true, false, ◌≡◌, ◌≤◌, ℕ, List, [], ◌∷◌, bytes_eq, length, if◌then◌else◌}
 use Rattle.commands.specs.Requests.{Request, write, eval, size, IsLineOf, IsNoCommand}
 use Rattle.commands.specs.Printed.{printed, bad_command}
 use Rattle.commands.specs.declared.answer.Answer.{Answer}
 use Rattle.commands.specs.declared.answer.Answer.TheVariants as answer
-use Rattle.scripts.specs.Meaning.{Means, Deep}
-use Rattle.interpreter.specs.declared.files.Files.{Files}
-use Rattle.interpreter.specs.Files.{text_at}
+use Rattle.scripts.specs.Meaning.{Value, Means, IsTooDeep}
+use Rattle.interpreter.specs.declared.state.State.{State}
+use Rattle.interpreter.specs.Files.{Texts, texts_of, Reads}
 
--- the text at each path, as bytes
-abbrev pub Texts : Type 0
-Texts = List ℕ → List ℕ
-
-abbrev pub texts_of : Files → Texts
-texts_of files path = string_bytes (text_at files path)
+-- the texts of a session's files
+abbrev pub texts_in : State → Texts
+texts_in state = texts_of state.files
 
 abbrev pub Same : Texts → Texts → Type 0
 Same before after = (path : List ℕ) → after path ≡ before path
-
--- the text at a path
-abbrev pub Reads : Texts → List ℕ → List ℕ → Type 0
-Reads texts path text = texts path ≡ text
 
 -- the greatest height of a script that a session evaluates
 abbrev pub height_limit : ℕ
@@ -38,37 +30,31 @@ in_cache how.MissingCall = false
 in_cache how.NotStored = false
 in_cache how.Disabled = false
 
--- what a request is answered at these texts, and the texts after it
-abbrev pub Answers : Texts → Request → Answer → Texts → Type 0
-Answers before (write path text) answer.Written after = (q : List ℕ) → after q ≡ (if bytes_eq q path then text else before q)
-Answers before (write path text) (answer.Value hit kept value) after = ⊥
-Answers before (write path text) (answer.Size hit bytes) after = ⊥
-Answers before (write path text) answer.TooDeep after = ⊥
-Answers before (write path text) answer.Memory after = Same before after
-Answers before (eval script) answer.Written after = ⊥
-Answers before (eval script) (answer.Value hit kept value) after = ((height : ℕ) × Means (Reads before) script value height × (height ≤ height_limit)) × Same before after
-Answers before (eval script) (answer.Size hit bytes) after = ⊥
-Answers before (eval script) answer.TooDeep after = Deep (Reads before) script height_limit × Same before after
-Answers before (eval script) answer.Memory after = Same before after
-Answers before (size path) answer.Written after = ⊥
-Answers before (size path) (answer.Value hit kept value) after = ⊥
-Answers before (size path) (answer.Size hit bytes) after = (bytes ≡ length (before path)) × Same before after
-Answers before (size path) answer.TooDeep after = ⊥
-Answers before (size path) answer.Memory after = Same before after
+-- what a request is answered at the texts before it, and the texts after it
+pub data Answers : Texts → Request → Answer → Texts → Type 0 where
+  -- the text is at the path, and nothing else changed
+  written : {before after : Texts} {path text : List ℕ} → ((q : List ℕ) → after q ≡ (if bytes_eq q path then text else before q)) → Answers before (write path text) answer.Written after
+  -- the script has this value, and is no higher than the limit
+  value : {before after : Texts} {script : List ℕ} {hit kept : Bool} {v : Value} {height : ℕ} → Means (Reads before) script v height → height ≤ height_limit → Same before after → Answers before (eval script) (answer.Value hit kept v) after
+  -- the script is higher than the limit, or means nothing
+  too_deep : {before after : Texts} {script : List ℕ} → IsTooDeep (Reads before) script height_limit → Same before after → Answers before (eval script) answer.TooDeep after
+  -- the text at the path has so many bytes
+  bytes_at : {before after : Texts} {path : List ℕ} {hit : Bool} {bytes : ℕ} → bytes ≡ length (before path) → Same before after → Answers before (size path) (answer.Size hit bytes) after
+  -- there was no memory for what was asked, a write among it, and nothing was done
+  no_memory : {before after : Texts} {request : Request} → Same before after → Answers before request answer.Memory after
 
 -- what a list of requests is answered, one after the other
-abbrev pub AnswersEach : Texts → List Request → List Answer → Texts → Type 0
-AnswersEach before [] [] after = after ≡ before
-AnswersEach before [] (a ∷ rest) after = ⊥
-AnswersEach before (r ∷ rs) [] after = ⊥
-AnswersEach before (r ∷ rs) (a ∷ rest) after = (mid : Texts) × Answers before r a mid × AnswersEach mid rs rest after
+pub data AnswersEach : Texts → List Request → List Answer → Texts → Type 0 where
+  none_asked : {texts : Texts} → AnswersEach texts [] [] texts
+  one_asked : {before mid after : Texts} {request : Request} {reply : Answer} {requests : List Request} {replies : List Answer} → Answers before request reply mid → AnswersEach mid requests replies after → AnswersEach before (request ∷ requests) (reply ∷ replies) after
 
--- what a line prints at these texts, and the texts after it: the answer to what it asks for, or that it asks for nothing
-abbrev pub Prints : Texts → List ℕ → List ℕ → Texts → Type 0
-Prints before line output after =
-    ((request : Request) × (answer : Answer) × IsLineOf line request × Answers before request answer after × (output ≡ printed answer))
-    ⊎ (IsNoCommand line × (output ≡ bad_command) × Same before after)
+-- what a line prints at the texts before it, and the texts after it
+pub data Prints : Texts → List ℕ → List ℕ → Texts → Type 0 where
+  -- the answer to what it asks for
+  is_answered : {before after : Texts} {line : List ℕ} {request : Request} {reply : Answer} → IsLineOf line request → Answers before request reply after → Prints before line (printed reply) after
+  -- or that it asks for nothing
+  is_bad : {before after : Texts} {line : List ℕ} → IsNoCommand line → Same before after → Prints before line bad_command after
 
--- a line for whose text there was no memory leaves the texts, or has done what it asked for
+-- a line for whose answer there was no memory changed nothing
 abbrev pub Refuses : Texts → List ℕ → Texts → Type 0
 Refuses before line after = Same before after

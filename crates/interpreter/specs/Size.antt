@@ -1,14 +1,14 @@
 -- The size of a file.
-use Rattle.std.specs.Prelude.{◌≡◌, ⊤, ℕ, List, String, string_bytes, length}
+use Rattle.std.specs.Prelude.{◌≡◌, ◌≢◌, ⊤, ℕ, List, [], ◌∷◌, String, string_bytes, length}
 use Rattle.std.specs.Global.{Global}
-use Rattle.comemo_base.specs.Tree.{Stored}
-use Rattle.comemo.specs.Cache.{Kept}
-use Rattle.comemo.specs.Meaning.{Meaning}
-use Rattle.comemo.specs.Called.{Gave, Came}
-use Rattle.comemo.specs.Multi.{OnParts}
-use Rattle.comemo.specs.declared.finish.How.{How}
+use Rattle.comemo.specs.Cache.{Entries}
+use Rattle.comemo.specs.Meaning.{Meaning, reading}
+use Rattle.comemo.specs.Called.{IsReply}
+use Rattle.comemo.specs.Multi.{second_call, second_answer}
+use Rattle.comemo.specs.declared.finish.How.TheVariants as how
+use Rattle.comemo.specs.declared.finish.Reply.{Reply}
 use Rattle.interpreter.specs.declared.files.Files.{Files}
-use Rattle.interpreter.specs.Files.{JoinedCall, JoinedAnswer, answers_of, with_key}
+use Rattle.interpreter.specs.Files.{JoinedCall, JoinedAnswer, OnFiles}
 use Rattle.interpreter.specs.Joined.{joined, with_files}
 use Rattle.interpreter.specs.declared.files.FileCall.{FileCall}
 use Rattle.interpreter.specs.declared.files.FileCall.TheVariants.{Read}
@@ -17,23 +17,26 @@ use Rattle.interpreter.specs.declared.files.FileCall.TheVariants.{Read}
 abbrev pub IsSize : String Global → (FileCall → String Global) → ℕ → Type 0
 IsSize path m out = out ≡ length (string_bytes (m (Read path)))
 
--- what the memoized function means: that length, at the answers of the files alone
+-- what the memoized function means: there are no writes, and the output is that length, at the files' answers alone
 abbrev pub IsSizeOf : String Global × ⊤ → (JoinedCall → JoinedAnswer) → ℕ → List JoinedCall → Type 0
-IsSizeOf key answers out _ = OnParts answers (λ _ m. IsSize key.0 m out)
+IsSizeOf = reading (λ key answers out. OnFiles (λ m. IsSize key.0 m out) answers)
 
 abbrev pub sizing : Meaning (String Global × ⊤) JoinedCall JoinedAnswer ℕ
 sizing = joined IsSizeOf
 
 -- what a cache of sizes keeps
 abbrev pub Sizes : Type 0
-Sizes = List (Stored (String Global × ⊤) JoinedCall JoinedAnswer (Kept ℕ JoinedCall))
+Sizes = Entries (String Global × ⊤) JoinedCall JoinedAnswer ℕ
 
--- what the size of the file at a path rests on went to the sink
-abbrev pub SizeGave : Files → List ℕ → (List (JoinedCall × JoinedAnswer) → List JoinedCall → Type 0) → ℕ → Type 0
-SizeGave files path sent out =
-    (key : String Global) × (string_bytes key ≡ path) × Gave sizing (key, tt) (with_key (answers_of files)) sent out
+-- one read, of the file at the path
+abbrev pub ReadsAlone : List ℕ → List (JoinedCall × JoinedAnswer) → Type 0
+ReadsAlone path pairs =
+    (own text : String Global) × (string_bytes own ≡ path) × (pairs ≡ (second_call (Read own), second_answer text) ∷ [])
 
--- by which way the size came: from an entry of es that agrees with the files, or by a run, after which the entries are es'
-abbrev pub SizeCame : Files → List ℕ → Sizes → ℕ → How → Sizes → Type 0
-SizeCame files path es out how es' =
-    (key : String Global) × (string_bytes key ≡ path) × Came sizing (with_files key files) out es es how es'
+-- the reply to a call at a path: by an entry of es that agrees with the files; or none of them did, and a run read the file at
+-- the path, and nothing else
+pub record SizeReply (files : Files) (path : List ℕ) (es : Sizes) (sent : List (JoinedCall × JoinedAnswer) → List JoinedCall → Type 0) (reply : Reply ℕ) (es' : Sizes) : Type 0 where
+  pub key : String Global
+  pub names : string_bytes key ≡ path
+  pub is_reply : IsReply sizing (with_files key files) es es sent reply es'
+  pub asks : reply.how ≢ how.Hit → ReadsAlone path is_reply.pairs

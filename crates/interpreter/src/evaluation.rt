@@ -1,21 +1,23 @@
 //! The memoized value of a script.
-ghost use Rattle.std.specs.Prelude.{◌≡◌, ◌<◌, ◌≤◌, ℕ, List, [], true, refl, String, string_bytes, string_eq, IfOk, OnErr, Err};
+ghost use Rattle.std.specs.Prelude.{◌≡◌, ◌≢◌, ◌<◌, ◌≤◌, ◌↔◌, ℕ, List, String, string_bytes, IfOk, OnOk, OnErr, Err};
 ghost use Rattle.std.proofs.Common.{rules};
 ghost use Rattle.std.specs.Global.{Global};
-ghost use Rattle.comemo.specs.Meaning.{sent};
 ghost use Rattle.comemo.specs.Recording.{Took};
+ghost use Rattle.comemo.specs.Function.{Learns};
 ghost use Rattle.comemo.specs.Cache.{Touches};
 ghost use Rattle.comemo.specs.Begin.{IsRun};
 ghost use Rattle.comemo.specs.Begun.{OnBegun};
-ghost use Rattle.comemo.specs.Called.{Gave, Came, Grows};
-ghost use Rattle.interpreter.specs.Joined.{same_call, with_files};
+ghost use Rattle.comemo.specs.Called.{IsReply};
+ghost use Rattle.comemo.specs.Finish.{BrokeOff};
 ghost use Rattle.scripts.specs.Kinds.{IsPart};
-ghost use Rattle.scripts.specs.Meaning.{Deep};
-ghost use Rattle.interpreter.specs.Files.{answers_of, with_key};
-ghost use Rattle.interpreter.specs.Evaluations.{At, ComesTo, PartComesTo, CallsDeep, FilesAgree, Learnt, IsOutcome, evaluating, EvalGave, EvalCame};
+ghost use Rattle.scripts.specs.Meaning.{Deep, IsTooDeep};
+ghost use Rattle.scripts.specs.Calls.{CallLeads, CallFails, PartLeads, PartFails, RunLeads, RunFails};
+ghost use Rattle.interpreter.specs.Joined.{same_call, same_answer, with_files};
+ghost use Rattle.interpreter.specs.Files.{OnFiles, Reads, texts_of, answers_of, with_key};
+ghost use Rattle.interpreter.specs.Evaluations.{At, ComesTo, PartComesTo, CallsDeep, FilesFit, IsOutcome, evaluating};
+ghost use Rattle.interpreter.specs.Calls.{moves, EvalReply};
 
 use crate::files::{FileCall, Files, JoinedAnswer, JoinedCall};
-use crate::measure::read_text;
 use comemo::begin::begin;
 use comemo::{
     Begun, CacheData, Constraint, Hashed, How, Memo, Multi, MultiAnswer, MultiCall, Reply, Sink,
@@ -23,6 +25,7 @@ use comemo::{
 };
 use scripts::{CalcFault, Outcome, Part, Parts, Total};
 use std::alloc::Global;
+use tracking::Breaking;
 
 /// What a script comes to.
 pub struct Eval;
@@ -38,7 +41,12 @@ impl Memo for Eval {
 
     ghost def = { IsOutcome };
 
-    ghost laws = { record { outputs = λ key m a b writes r c h x y p q. Prim.search (rules, h x y p q); keys = λ j k m output writes r e h x y p q. Prim.search (rules, h x y p q); key_clones = Prim.search rules; answer_clones = Prim.search rules } };
+    ghost laws = { record {
+      outputs = λ key m a b writes r c h. (h.0, λ part q. Prim.search (rules, h.1 part q));
+      keys = λ j k m output writes r e h. (h.0, λ part q. Prim.search (rules, h.1 part q));
+      key_clones = Prim.search rules;
+      answer_clones = Prim.search rules;
+    } };
 }
 
 /// Why a script was not evaluated.
@@ -59,16 +67,19 @@ fn begin_script<S: Sink<Call = JoinedCall, Answer = JoinedAnswer>>(
     limit: u64,
     sink: &mut S,
 ) -> Result<Begun<Eval>, EvalFault>
-    ensures begun { IfOk result (λ b. (key : String Global) × (string_bytes key ≡ script.now) × OnBegun b
-        (λ outcome. (outcome.height ≤ limit)
-        × Gave evaluating (key, tt) (with_key (answers_of files.now)) (sent S.took sink.old sink.new) outcome
-        × Came evaluating (with_files key files.now) outcome cache.old cache.old How.Hit cache.new)
+    ensures begun { IfOk result (λ b. (key : String Global) × (string_bytes key ≡ script.now)
+        × OnBegun b (λ outcome. (outcome.height ≤ limit)
+        × IsReply evaluating (with_files key files.now) cache.old cache.old
+        (S.took sink.old sink.new) (record { output = outcome; how = How.Hit }) cache.new)
         (λ run. (0 < limit) × (sink.new ≡ sink.old)
         × IsRun evaluating cache.old (with_files key files.now) run)) }
-    ensures kept { IfOk result (λ b. OnBegun b (λ _. Touches cache.old cache.new) (λ _. cache.new ≡ cache.old)) }
+    ensures kept { IfOk result (λ b. OnBegun b (λ _. Touches cache.old cache.new)
+        (λ _. cache.new ≡ cache.old)) }
     ensures err_keeps { OnErr result (Touches cache.old cache.new) }
-    ensures deep { result ≡ Err EvalFault.TooDeep → Deep (At (answers_of files.now)) script.now limit }
-    ensures err { OnErr result (S.spoils sink.old sink.new) }
+    ensures deep { result ≡ Err EvalFault.TooDeep
+        → Deep (At (answers_of files.now)) script.now limit }
+    ensures err { OnErr result (BrokeOff same_answer (with_key (answers_of files.now))
+        (⟦<S as Breaking>⟧.breaks_off sink.old sink.new)) }
 {
     if limit == 0 {
         sink.spoil();
@@ -78,7 +89,7 @@ fn begin_script<S: Sink<Call = JoinedCall, Answer = JoinedAnswer>>(
         sink.spoil();
         return Err(EvalFault::Memory);
     };
-    let mut input = Multi((Hashed(key), files.fork()));
+    let mut input = Multi((Hashed(key), files.fork(alloc)));
     let Ok(begun) = begin(alloc, cache, &mut input, sink, true) else {
         return Err(EvalFault::Memory);
     };
@@ -129,11 +140,19 @@ fn evaluate_part(
     limit: u64,
     recording: &mut Constraint<JoinedCall, JoinedAnswer>,
 ) -> Result<Outcome, EvalFault>
-    requires { FilesAgree files.now recording.now }
-    ensures ok { (bytes : List ℕ) → IsPart bytes part.entry → IfOk result (λ outcome. (outcome.height ≤ limit)
-        × Learnt (answers_of files.now) recording.old recording.new (λ n. PartComesTo n bytes outcome)) }
-    ensures deep { (bytes : List ℕ) → IsPart bytes part.entry → result ≡ Err EvalFault.TooDeep → CallsDeep (answers_of files.now) bytes limit }
-    ensures grows { Grows cache.old cache.new }
+    requires { FilesFit files.now recording.now }
+    ensures low { IfOk result (λ outcome. outcome.height ≤ limit) }
+    ensures fits { OnOk result (FilesFit files.now recording.new) }
+    ensures writes { OnOk result (recording.new.writes ≡ recording.old.writes) }
+    ensures learns { (bytes : List ℕ) → IsPart bytes part.entry → IfOk result (λ outcome.
+        Learns same_call same_answer recording.old recording.new
+        (OnFiles (λ n. PartComesTo n bytes outcome))) }
+    ensures led { (bytes : List ℕ) → IsPart bytes part.entry → OnOk result
+        (PartLeads (At (answers_of files.now)) (moves files.now) bytes cache.old cache.new) }
+    ensures failed { (bytes : List ℕ) → IsPart bytes part.entry → OnErr result
+        (PartFails (At (answers_of files.now)) (moves files.now) bytes cache.old cache.new) }
+    ensures deep { (bytes : List ℕ) → IsPart bytes part.entry → result ≡ Err EvalFault.TooDeep
+        → CallsDeep (answers_of files.now) bytes limit }
 {
     match part {
         Part::Number(number) => Ok(Outcome {
@@ -145,7 +164,7 @@ fn evaluate_part(
             height: 0,
         }),
         Part::Eval(path) => {
-            let Ok(text) = read_text(alloc, files, path, recording) else {
+            let Ok(text) = Files::read(alloc, files, path, recording) else {
                 return Err(EvalFault::Memory);
             };
             let reply = evaluate_within(alloc, cache, files, text.as_str(), limit, recording)?;
@@ -165,11 +184,19 @@ fn run_script(
     recording: &mut Constraint<JoinedCall, JoinedAnswer>,
 ) -> Result<Outcome, EvalFault>
     requires room { 0 < limit }
-    requires fresh { recording.now.pairs ≡ [] }
-    ensures ok { IfOk result (λ outcome. (outcome.height ≤ limit)
-        × Learnt (answers_of files.now) recording.old recording.new (λ n. ComesTo n script.now outcome)) }
-    ensures deep { result ≡ Err EvalFault.TooDeep → Deep (At (answers_of files.now)) script.now limit }
-    ensures grows { Grows cache.old cache.new }
+    requires fits { FilesFit files.now recording.now }
+    ensures low { IfOk result (λ outcome. outcome.height ≤ limit) }
+    ensures fits { OnOk result (FilesFit files.now recording.new) }
+    ensures writes { OnOk result (recording.new.writes ≡ recording.old.writes) }
+    ensures learns { IfOk result (λ outcome.
+        Learns same_call same_answer recording.old recording.new
+        (OnFiles (λ n. ComesTo n script.now outcome))) }
+    ensures led { OnOk result (RunLeads (At (answers_of files.now)) (moves files.now)
+        script.now cache.old cache.new) }
+    ensures failed { OnErr result (RunFails (At (answers_of files.now)) (moves files.now)
+        script.now cache.old cache.new) }
+    ensures deep { result ≡ Err EvalFault.TooDeep
+        → Deep (At (answers_of files.now)) script.now limit }
 {
     let mut parts = Parts::new(script);
     let mut total = Total::new();
@@ -190,21 +217,27 @@ fn evaluate_within(
     files: &Tracked<'_, Files>,
     script: &str,
     limit: u64,
-    sink: &mut Constraint<JoinedCall, JoinedAnswer>,
+    recording: &mut Constraint<JoinedCall, JoinedAnswer>,
 ) -> Result<Reply<Outcome>, EvalFault>
-    ensures outcome { IfOk result (λ reply. ComesTo (answers_of files.now) script.now reply.output × (reply.output.height ≤ limit)) }
-    ensures gave { IfOk result (λ reply. EvalGave files.now script.now
-        (sent (Took same_call) sink.old sink.new) reply.output) }
-    ensures deep { result ≡ Err EvalFault.TooDeep → Deep (At (answers_of files.now)) script.now limit }
-    ensures grows { Grows cache.old cache.new }
+    ensures outcome { IfOk result (λ reply. ComesTo (answers_of files.now) script.now reply.output
+        × (reply.output.height ≤ limit)) }
+    ensures reply { IfOk result (λ reply. EvalReply files.now script.now cache.old
+        (Took same_call recording.old recording.new) reply cache.new) }
+    ensures led { OnOk result (CallLeads (At (answers_of files.now)) (moves files.now)
+        script.now cache.old cache.new) }
+    ensures failed { OnErr result (CallFails (At (answers_of files.now)) (moves files.now)
+        script.now cache.old cache.new) }
+    ensures deep { result ≡ Err EvalFault.TooDeep
+        → Deep (At (answers_of files.now)) script.now limit }
 {
-    evaluate_script!(alloc, cache, files, script, limit, sink)
+    evaluate_script!(alloc, cache, files, script, limit, recording)
 }
 
 /// What a script comes to, kept under the script and what was read of the files.
 ///
-/// `TooDeep` comes exactly where the script is higher than the limit or never ends, on a hit as on a run; `Memory` says
-/// that there was no memory. Both spoil the sink; what was kept on the way stays.
+/// Each script that a run calls is a call too, in the same cache and in the turn of its part: a hit there, or a run, which
+/// is kept. `TooDeep` comes exactly where the script is higher than the limit or never ends, on a hit as on a run; `Memory`
+/// says that there was no memory. Both spoil the sink; what was kept on the way stays.
 pub fn evaluate<S: Sink<Call = JoinedCall, Answer = JoinedAnswer>>(
     alloc: Global,
     cache: &mut CacheData<Eval>,
@@ -213,13 +246,18 @@ pub fn evaluate<S: Sink<Call = JoinedCall, Answer = JoinedAnswer>>(
     limit: u64,
     sink: &mut S,
 ) -> Result<Reply<Outcome>, EvalFault>
-    ensures outcome { IfOk result (λ reply. ComesTo (answers_of files.now) script.now reply.output × (reply.output.height ≤ limit)) }
-    ensures gave { IfOk result (λ reply. EvalGave files.now script.now
-        (sent S.took sink.old sink.new) reply.output) }
-    ensures came { IfOk result (λ reply. EvalCame files.now script.now cache.old reply.output reply.how cache.new) }
-    ensures deep { result ≡ Err EvalFault.TooDeep → Deep (At (answers_of files.now)) script.now limit }
-    ensures grows { Grows cache.old cache.new }
-    ensures err { OnErr result (S.spoils sink.old sink.new) }
+    ensures outcome { IfOk result (λ reply. ComesTo (answers_of files.now) script.now reply.output
+        × (reply.output.height ≤ limit)) }
+    ensures reply { IfOk result (λ reply. EvalReply files.now script.now cache.old
+        (S.took sink.old sink.new) reply cache.new) }
+    ensures led { OnOk result (CallLeads (At (answers_of files.now)) (moves files.now)
+        script.now cache.old cache.new) }
+    ensures failed { OnErr result (CallFails (At (answers_of files.now)) (moves files.now)
+        script.now cache.old cache.new) }
+    ensures too_deep { result ≢ Err EvalFault.Memory → (result ≡ Err EvalFault.TooDeep)
+        ↔ IsTooDeep (Reads (texts_of files.now)) script.now limit }
+    ensures err { OnErr result (BrokeOff same_answer (with_key (answers_of files.now))
+        (⟦<S as Breaking>⟧.breaks_off sink.old sink.new)) }
 {
     evaluate_script!(alloc, cache, files, script, limit, sink)
 }

@@ -24,7 +24,7 @@ fn evaluated(
     script: &str,
     limit: u64,
 ) -> Result<(Outcome, How), EvalFault> {
-    let view = files.track();
+    let view = files.track(alloc);
     let Reply { output, how } = evaluate(alloc, cache, &view, script, limit, &mut Top::new())?;
     Ok((output, how))
 }
@@ -61,6 +61,30 @@ fn a_script_is_evaluated_from_its_height_on(rt: HostRuntime) -> Result<(), Fail>
             "for {script:?}"
         );
         assert_eq!(rt; cache.len(), 0, "for {script:?}");
+    }
+    Ok(())
+}
+
+/// Without the calls in between kept, this would take 2 to the 40 runs.
+#[test]
+fn forty_levels_that_call_the_one_below_twice_end_at_once(rt: HostRuntime) -> Result<(), Fail> {
+    let alloc = rt.alloc();
+    let mut files = files_with(alloc, &[("f0", "0")])?;
+    for level in 1..41_u64 {
+        let below = level - 1;
+        let path = format!(in alloc; "f{level}")?;
+        let text = format!(in alloc; "eval f{below} + eval f{below}")?;
+        files.write(path, text)?;
+    }
+    let value = Ok(0);
+    let outcome = Outcome { value, height: 42 };
+    let mut cache = CacheData::new(alloc);
+    for how in [How::Stored, How::Hit] {
+        assert_eq!(rt;
+            evaluated(alloc, &mut cache, &files, "eval f40", 128),
+            Ok((outcome, how))
+        );
+        assert_eq!(rt; cache.len(), 42);
     }
     Ok(())
 }
@@ -106,7 +130,7 @@ fn emit(
 fn too_deep_spoils_the_sink(rt: HostRuntime) -> Result<(), Fail> {
     let alloc = rt.alloc();
     let files = files_with(alloc, &[("a", "1")])?;
-    let view = files.track();
+    let view = files.track(alloc);
     let mut cache = CacheData::new(alloc);
     // A run that is too deep, a run, a hit that is too deep, and a hit.
     let cases = [(1, false), (2, true), (1, false), (2, true)];

@@ -1,8 +1,13 @@
 //! Files in memory, as a tracked value.
-ghost use Rattle.std.specs.Prelude.{◌≡◌, ℕ, List, [], false, refl, string_bytes, bytes_eq, if◌then◌else◌, OnOk, OnErr, length};
+ghost use Rattle.std.specs.Prelude.{◌≡◌, ℕ, List, [], false, refl, String, string_bytes, string_eq, bytes_eq, if◌then◌else◌, IfOk, OnOk, OnErr};
 ghost use Rattle.std.proofs.Common.{rules};
+ghost use Rattle.std.specs.Global.{Global};
+ghost use Rattle.comemo.specs.Sending.{Asks};
+ghost use Rattle.comemo.specs.Mapped.{Through};
+ghost use Rattle.comemo.specs.Multi.{second_call, second_answer};
+ghost use Rattle.interpreter.specs.declared.files.FileCall.TheVariants.{Read};
 
-use comemo::{Call, MultiAnswer, MultiCall, Track};
+use comemo::{Call, MultiAnswer, MultiCall, Second, Sink, Track, Tracked};
 use std::alloc::{AllocError, Global};
 use std::collections::HashMap;
 use std::hash::Hash;
@@ -41,7 +46,7 @@ pub struct Files {
 }
 
 impl Files {
-    ghost use Rattle.interpreter.specs.Files.{text_at};
+    ghost use Rattle.interpreter.specs.Files.{text_at, answers_of};
 
     /// No files. It takes no memory.
     pub fn new(alloc: Global) -> Self
@@ -65,13 +70,30 @@ impl Files {
 
     /// Writes a text to the file at a path. An error says that there was no memory; then the files are as they were.
     pub fn write(&mut self, path: String, text: String) -> Result<(), AllocError>
-        ensures ok { OnOk result ((q : List ℕ) → text_at self.new q ≡ (if bytes_eq q (string_bytes path) then text else text_at self.old q)) }
+        ensures ok { OnOk result ((q : List ℕ) → text_at self.new q
+            ≡ (if bytes_eq q (string_bytes path) then text else text_at self.old q)) }
         ensures err { OnErr result ((q : List ℕ) → text_at self.new q ≡ text_at self.old q) }
     {
         match self.texts.insert(path, text) {
             Ok(_) => Ok(()),
             Err(_) => Err(AllocError),
         }
+    }
+
+    /// The text of the file at a path, asked of a view, into a recording of a key joined with the files.
+    pub(crate) fn read<S: Sink<Call = JoinedCall, Answer = JoinedAnswer>>(
+        alloc: Global,
+        view: &Tracked<'_, Files>,
+        path: &str,
+        sink: &mut S,
+    ) -> Result<String, AllocError>
+        ensures { IfOk result (λ text. (own : String Global) × (string_bytes own ≡ path.now)
+            × Asks string_eq (answers_of view.now) (Read own) text
+            (Through second_call second_answer (S.took sink.old sink.new))) }
+    {
+        let own = String::from_str(alloc, path)?;
+        let mut view = view.fork(alloc);
+        view.ask_through(FileCall::Read(own), Second::new(), sink)
     }
 }
 

@@ -1,4 +1,5 @@
-//! What the program `calc` is made of: files in memory, the memoized `size`, and the session that answers lines.
+//! What the program `calc` is made of: files in memory; two memoized functions of them, `size` of a path and `evaluate` of
+//! a script, where each script that a script calls is a call of `evaluate` too; and the session that answers lines.
 #![tactic(auto)]
 
 pub mod evaluation;

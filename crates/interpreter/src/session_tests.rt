@@ -9,7 +9,7 @@ pub(crate) type Row = (&'static str, &'static str);
 /// What a new session prints for lines.
 fn printed(alloc: Global, lines: &str) -> Result<String, Fail> {
     let mut out: Vec<u8> = Vec::new(alloc);
-    run(alloc, lines.as_bytes(), &mut out)?;
+    run(alloc, &mut lines.as_bytes(), &mut out)?;
     Ok(String::from_utf8(out)?)
 }
 

@@ -1,7 +1,8 @@
 //! A whole session: a list of commands to the list of their answers.
 ghost use Rattle.std.specs.Prelude.{◌≡◌, ℕ, List, [], map, IfOk};
 ghost use Rattle.commands.specs.Requests.{request_of};
-ghost use Rattle.interpreter.specs.Sessions.{Texts, texts_of, Answers, AnswersEach};
+ghost use Rattle.interpreter.specs.Files.{Texts};
+ghost use Rattle.interpreter.specs.Sessions.{texts_in, Answers, AnswersEach};
 
 use crate::state::State;
 use commands::{Answer, Command};
@@ -9,7 +10,7 @@ use std::alloc::{AllocError, Global};
 
 /// Carries out a clone of a command.
 fn answer_to(state: &mut State, command: &Command) -> Answer
-    ensures { Answers (texts_of state.old.files) (request_of command.now) result (texts_of state.new.files) }
+    ensures { Answers (texts_in state.old) (request_of command.now) result (texts_in state.new) }
 {
     match command.clone() {
         Ok(command) => state.carry_out(command),
@@ -22,7 +23,8 @@ fn answer_to(state: &mut State, command: &Command) -> Answer
 /// An error says that there was no memory for the list of answers; then no command was carried out. A command that found
 /// no memory is answered by `Answer::Memory`, and the next one goes on.
 pub fn session(alloc: Global, commands: &[Command]) -> Result<Vec<Answer>, AllocError>
-    ensures { IfOk result (λ answers. (before after : Texts) × ((path : List ℕ) → before path ≡ []) × AnswersEach before (map request_of commands.now) answers.items after) }
+    ensures { IfOk result (λ answers. (before after : Texts) × ((path : List ℕ) → before path ≡ [])
+        × AnswersEach before (map request_of commands.now) answers.items after) }
 {
     let mut answers = Vec::with_capacity(alloc, commands.len())?;
     let mut state = State::new(alloc);

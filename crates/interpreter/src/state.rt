@@ -1,7 +1,7 @@
 //! The state of a session, and what it answers to a command.
 ghost use Rattle.std.specs.Prelude.{◌≡◌, ℕ, List, []};
 ghost use Rattle.commands.specs.Requests.{request_of, eval as eval_of, size as size_of};
-ghost use Rattle.interpreter.specs.Sessions.{in_cache, texts_of, Answers};
+ghost use Rattle.interpreter.specs.Sessions.{in_cache, texts_in, Answers};
 
 use crate::evaluation::{Eval, EvalFault, evaluate};
 use crate::files::Files;
@@ -32,7 +32,7 @@ fn is_kept(how: How) -> bool
 impl State {
     /// No files, and nothing kept. It takes no memory.
     pub fn new(alloc: Global) -> Self
-        ensures { (path : List ℕ) → texts_of result.files path ≡ [] }
+        ensures { (path : List ℕ) → texts_in result path ≡ [] }
     {
         State {
             alloc,
@@ -47,7 +47,7 @@ impl State {
     /// The answer is the one that the files as they are have, whatever was asked before. `Memory` says that there was no
     /// memory for the command; then the files are as they were.
     pub fn carry_out(&mut self, command: Command) -> Answer
-        ensures { Answers (texts_of self.old.files) (request_of command) result (texts_of self.new.files) }
+        ensures { Answers (texts_in self.old) (request_of command) result (texts_in self.new) }
     {
         match command {
             Command::Write(path, text) => match self.files.write(path, text) {
@@ -61,9 +61,9 @@ impl State {
 
     /// The value of a script.
     fn value_of(&mut self, script: &str) -> Answer
-        ensures { Answers (texts_of self.old.files) (eval_of script.now) result (texts_of self.new.files) }
+        ensures { Answers (texts_in self.old) (eval_of script.now) result (texts_in self.new) }
     {
-        let view = self.files.track();
+        let view = self.files.track(self.alloc);
         let cache = &mut self.evaluated;
         match evaluate(
             self.alloc,
@@ -85,9 +85,9 @@ impl State {
 
     /// The size of the file at a path.
     fn size_at(&mut self, path: &str) -> Answer
-        ensures { Answers (texts_of self.old.files) (size_of path.now) result (texts_of self.new.files) }
+        ensures { Answers (texts_in self.old) (size_of path.now) result (texts_in self.new) }
     {
-        let view = self.files.track();
+        let view = self.files.track(self.alloc);
         match size(self.alloc, &mut self.sizes, &view, path, &mut Top::new()) {
             Ok(Reply { output, how }) => Answer::Size {
                 hit: how == How::Hit,

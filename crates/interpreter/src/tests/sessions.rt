@@ -5,7 +5,7 @@ use std::test::Fail;
 /// What a session prints for this input.
 fn printed(alloc: Global, input: &str) -> Result<Vec<u8>, RunFault> {
     let mut out = Vec::new(alloc);
-    run(alloc, input.as_bytes(), &mut out)?;
+    run(alloc, &mut input.as_bytes(), &mut out)?;
     Ok(out)
 }
 

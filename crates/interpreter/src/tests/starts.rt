@@ -74,11 +74,11 @@ fn says_what_failed(rt: HostRuntime) -> Result<(), Fail> {
     ];
     let words: Vec<String> = Vec::new(alloc);
     for (input, kind, room, want, message) in cases {
-        let reader = BufReader::new(alloc, Broken(input, kind))?;
+        let mut reader = BufReader::new(alloc, Broken(input, kind))?;
         let taken = Vec::new(alloc);
         let mut out = Full { taken, room };
         let mut errors: Vec<u8> = Vec::new(alloc);
-        let status = start(alloc, words.as_slice(), reader, &mut out, &mut errors);
+        let status = start(alloc, words.as_slice(), &mut reader, &mut out, &mut errors);
         assert_eq!(rt; status, 1, "for {message}");
         assert_eq!(rt; out.taken.as_slice(), want.as_bytes(), "for {message}");
         assert_eq!(rt; errors.as_slice(), message.as_bytes());
@@ -95,11 +95,25 @@ fn a_first_line_that_is_no_text_is_answered_as_by_the_original(
     let words: Vec<String> = Vec::new(alloc);
     let mut out: Vec<u8> = Vec::new(alloc);
     let mut errors: Vec<u8> = Vec::new(alloc);
-    let input = b"\xff\n".as_slice();
-    let status = start(alloc, words.as_slice(), input, &mut out, &mut errors);
+    let mut input = b"\xff\n".as_slice();
+    let status = start(alloc, words.as_slice(), &mut input, &mut out, &mut errors);
     assert_eq!(rt; status, 1);
     assert!(rt; out.is_empty());
     assert_eq!(rt; errors.as_slice(), b"calc: not UTF-8\n".as_slice());
+    Ok(())
+}
+
+#[test]
+fn an_empty_input_is_answered_by_nothing(rt: HostRuntime) -> Result<(), Fail> {
+    let alloc = rt.alloc();
+    let words: Vec<String> = Vec::new(alloc);
+    let mut out: Vec<u8> = Vec::new(alloc);
+    let mut errors: Vec<u8> = Vec::new(alloc);
+    let mut input = b"".as_slice();
+    let status = start(alloc, words.as_slice(), &mut input, &mut out, &mut errors);
+    assert_eq!(rt; status, 0);
+    assert!(rt; out.is_empty());
+    assert!(rt; errors.is_empty());
     Ok(())
 }
 
@@ -115,8 +129,8 @@ fn starts_well_or_refuses_words(rt: HostRuntime) -> Result<(), Fail> {
     for (want_status, want, message) in cases {
         let mut out: Vec<u8> = Vec::new(alloc);
         let mut errors: Vec<u8> = Vec::new(alloc);
-        let input = b"size a\nsize a\n".as_slice();
-        let status = start(alloc, words.as_slice(), input, &mut out, &mut errors);
+        let mut input = b"size a\nsize a\n".as_slice();
+        let status = start(alloc, words.as_slice(), &mut input, &mut out, &mut errors);
         assert_eq!(rt; status, want_status);
         assert_eq!(rt; out.as_slice(), want.as_bytes());
         assert_eq!(rt; errors.as_slice(), message.as_bytes());
@@ -133,8 +147,8 @@ fn a_failure_of_errors_changes_no_status(rt: HostRuntime) -> Result<(), Fail> {
         let taken = Vec::new(alloc);
         let mut errors = Full { taken, room: 3 };
         let mut out: Vec<u8> = Vec::new(alloc);
-        let input = b"size a\n\xff\n".as_slice();
-        let status = start(alloc, words.as_slice(), input, &mut out, &mut errors);
+        let mut input = b"size a\n\xff\n".as_slice();
+        let status = start(alloc, words.as_slice(), &mut input, &mut out, &mut errors);
         assert_eq!(rt; status, want_status);
         assert_eq!(rt; errors.taken.as_slice(), message.as_bytes());
         words.push(String::from_str(alloc, "a")?)?;

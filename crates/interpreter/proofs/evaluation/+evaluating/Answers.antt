@@ -1,114 +1,164 @@
-use Rattle.std.proofs.Common.{arith, ◌≡◌, [], sym, ap, subst, Err}
-use Rattle.comemo_base.specs.Answers.{Agrees}
-use Rattle.comemo.proofs.Calls.{gave_at_key}
-use Rattle.comemo.proofs.Growing.{grows_on}
-use Rattle.tracking.proofs.KeyedViews.{respects_with_key}
+use Rattle.std.proofs.Common.{arith, ap, Err, refl, ◌∙◌}
+use Rattle.comemo.proofs.Calls.{reply_by_run}
 use Rattle.scripts.specs.Meaning.{is_bad}
+use Rattle.scripts.specs.Calls.{no_call, one_call, is_refused, is_broken, has_no_end, not_read, failed_call}
+use Rattle.scripts.proofs.Calls.{led_rest, leads_at_end, leads_at_fault, fails_at_part}
 use Rattle.scripts.proofs.Totals.{number_means, leaves_rest, means_at_end, means_at_fault, deep_at_part}
-use Rattle.interpreter.specs.Files.{answers_of, with_key}
+use Rattle.interpreter.specs.Files.{answers_of}
 use Rattle.interpreter.specs.Evaluations.{At}
-use Rattle.interpreter.proofs.Evaluations.{learnt_nothing, learnt_by_call, calls_deep, handed_on, script_given, script_stands}
-use Rattle.interpreter.proofs.FileCalls.{answers_alike}
-use Rattle.interpreter.specs.Joined.{same_answer}
-use Rattle.interpreter.proofs.JoinedCalls.{tests}
+use Rattle.interpreter.specs.Calls.{moves}
+use Rattle.interpreter.proofs.Evaluations.{learns_on, learns_nothing, fits_read, learns_read, writes_read, text_read, fits_call, learns_call, writes_call, script_given, part_called, run_stands, of_files, learns_more, handed_on, on_err}
+use Rattle.interpreter.proofs.Calls.{missed_by_run, led_by_reply}
 use Rattle.interpreter.proofs.evaluation.+evaluating.Goals as goal
 
-pub evaluate_part-returns-in-Number-clause-ok : goal.evaluate_part-returns-in-Number-clause-ok
-evaluate_part-returns-in-Number-clause-ok t c = λ bytes is.
-    (omega arith, learnt_nothing (answers_of c.args.files.now) c.args.recording.now _ c.requires (λ n. number_means (At n) (rw c.in-Number.is at is)))
+pub evaluate_part-returns-in-Number-clause-learns : goal.evaluate_part-returns-in-Number-clause-learns
+evaluate_part-returns-in-Number-clause-learns t c = λ bytes is.
+    learns_nothing _ (λ m n second. number_means (At n) (rw c.in-Number.is at is))
 
-pub evaluate_part-returns-in-Bad-clause-ok : goal.evaluate_part-returns-in-Bad-clause-ok
-evaluate_part-returns-in-Bad-clause-ok t c = λ bytes is.
-    (omega arith, learnt_nothing (answers_of c.args.files.now) c.args.recording.now _ c.requires (λ n. is_bad (rw c.in-Bad.is at is)))
+pub evaluate_part-returns-in-Number-clause-led : goal.evaluate_part-returns-in-Number-clause-led
+evaluate_part-returns-in-Number-clause-led t c = λ bytes is. no_call (rw c.in-Number.is at is).0
 
-pub evaluate_part-returns-in_ok-reply-in-Eval-clause-ok : goal.evaluate_part-returns-in_ok-reply-in-Eval-clause-ok
-evaluate_part-returns-in_ok-reply-in-Eval-clause-ok t c = λ bytes is.
+pub evaluate_part-returns-in-Bad-clause-learns : goal.evaluate_part-returns-in-Bad-clause-learns
+evaluate_part-returns-in-Bad-clause-learns t c = λ bytes is. learns_nothing _ (λ m n second. is_bad (rw c.in-Bad.is at is))
+
+pub evaluate_part-returns-in-Bad-clause-led : goal.evaluate_part-returns-in-Bad-clause-led
+evaluate_part-returns-in-Bad-clause-led t c = λ bytes is. no_call (rw c.in-Bad.is at is).0
+
+pub evaluate_part-returns-in_ok-reply-in-Eval-clause-fits : goal.evaluate_part-returns-in_ok-reply-in-Eval-clause-fits
+evaluate_part-returns-in_ok-reply-in-Eval-clause-fits t c =
     let (own, named, asks) = c.in-Ok.ensures in
-    let (key, same, gave) = c.in_ok-reply-in-Eval.ensures.gave in
-    (c.in_ok-reply-in-Eval.ensures.outcome.1, learnt_by_call _ (answers_alike c.args.files.now) (rw c.in-Eval.is at is) named asks c.requires (rw c.as_str.ensures.value at same) gave)
+    fits_call c.args.files.now c.in_ok-reply-in-Eval.ensures.reply.is_reply (fits_read c.args.files.now asks c.requires)
+
+pub evaluate_part-returns-in_ok-reply-in-Eval-clause-writes : goal.evaluate_part-returns-in_ok-reply-in-Eval-clause-writes
+evaluate_part-returns-in_ok-reply-in-Eval-clause-writes t c =
+    let (own, named, asks) = c.in-Ok.ensures in
+    writes_call c.args.files.now c.in_ok-reply-in-Eval.ensures.reply.is_reply ∙ writes_read c.args.files.now asks
+
+pub evaluate_part-returns-in_ok-reply-in-Eval-clause-learns : goal.evaluate_part-returns-in_ok-reply-in-Eval-clause-learns
+evaluate_part-returns-in_ok-reply-in-Eval-clause-learns t c = λ bytes is.
+    let (own, named, asks) = c.in-Ok.ensures in
+    let replied = c.in_ok-reply-in-Eval.ensures.reply in
+    learns_on (learns_read c.args.files.now asks c.requires) (learns_call c.args.files.now replied.is_reply (fits_read c.args.files.now asks c.requires)) (part_called replied.key c.in-Ok.text (rw c.in-Eval.is at is) named (rw c.as_str.ensures.value at replied.names))
+
+pub evaluate_part-returns-in_ok-reply-in-Eval-clause-led : goal.evaluate_part-returns-in_ok-reply-in-Eval-clause-led
+evaluate_part-returns-in_ok-reply-in-Eval-clause-led t c = λ bytes is.
+    let (own, named, asks) = c.in-Ok.ensures in
+    one_call (rw c.in-Eval.is at is) (own, named, text_read c.args.files.now asks) (rw c.as_str.ensures.value at c.in_ok-reply-in-Eval.ensures.led)
+
+pub evaluate_part-returns-in_err-reply-in-Eval-clause-failed : goal.evaluate_part-returns-in_err-reply-in-Eval-clause-failed
+evaluate_part-returns-in_err-reply-in-Eval-clause-failed t c = λ bytes is.
+    let (own, named, asks) = c.in-Ok.ensures in
+    on_err c.from_residual.result (failed_call (rw c.in-Eval.is at is) (own, named, text_read c.args.files.now asks) (rw c.as_str.ensures.value at c.in_err-reply-in-Eval.ensures.failed))
+
+pub evaluate_part-returns-in_default-clause-failed : goal.evaluate_part-returns-in_default-clause-failed
+evaluate_part-returns-in_default-clause-failed t c = λ bytes is. not_read (rw c.in-Eval.is at is)
 
 pub evaluate_part-returns-in_err-reply-in-Eval-clause-deep : goal.evaluate_part-returns-in_err-reply-in-Eval-clause-deep
 evaluate_part-returns-in_err-reply-in-Eval-clause-deep t c = λ bytes is e.
     let (own, named, asks) = c.in-Ok.ensures in
     let deep = c.in_err-reply-in-Eval.ensures.deep (ap (λ f. Err f) (handed_on c.from_residual.result c.in_err-reply-in-Eval.field-0.0 _ c.from_residual.ensures.1 e)) in
-    calls_deep _ (answers_alike c.args.files.now) (rw c.in-Eval.is at is) named asks (rw c.as_str.ensures.value at deep)
+    (_, _, rw c.in-Eval.is at is, (own, named, text_read c.args.files.now asks), rw c.as_str.ensures.value at deep)
 
 pub evaluate_within-returns-in-Hit-clause-outcome : goal.evaluate_within-returns-in-Hit-clause-outcome
 evaluate_within-returns-in-Hit-clause-outcome t c =
     let (key, same, hit) = rw c.in-Hit.is at c.in_ok-output.ensures.begun in
-    (script_given _ (answers_alike c.args.files.now) same hit.1, hit.0)
+    (script_given c.args.files.now same hit.1, hit.0)
 
-pub evaluate_within-returns-in-Hit-clause-gave : goal.evaluate_within-returns-in-Hit-clause-gave
-evaluate_within-returns-in-Hit-clause-gave t c =
+pub evaluate_within-returns-in-Hit-clause-reply : goal.evaluate_within-returns-in-Hit-clause-reply
+evaluate_within-returns-in-Hit-clause-reply t c =
     let (key, same, hit) = rw c.in-Hit.is at c.in_ok-output.ensures.begun in
-    (key, same, hit.1)
+    record { key = key; names = same; mid = c.args.cache.now; calls = λ not. absurd (not refl); is_reply = hit.1 }
+
+pub evaluate_within-returns-in-Hit-clause-led : goal.evaluate_within-returns-in-Hit-clause-led
+evaluate_within-returns-in-Hit-clause-led t c = led_by_reply c.args.files.now (evaluate_within-returns-in-Hit-clause-reply t c)
 
 pub evaluate_within-finish-requires : goal.evaluate_within-finish-requires
 evaluate_within-finish-requires t c = λ whole.
     let (key, same, run) = rw c.in-Run.is at c.in_ok-output.ensures.begun in
-    script_stands _ _ _ key c.in-Run.pending.key _ same run.2.has_key c.in-Ok.ensures.ok.1.1
+    run_stands _ _ _ key c.in-Run.pending.key _ same run.2.has_key (rw c.recording.ensures.value run.2.writes) c.in-Ok.ensures.writes c.in-Ok.ensures.learns whole
 
-pub evaluate_within-returns-in-Ok-finish-clause-gave : goal.evaluate_within-returns-in-Ok-finish-clause-gave
-evaluate_within-returns-in-Ok-finish-clause-gave t c =
+pub evaluate_within-returns-in-Ok-finish-clause-outcome : goal.evaluate_within-returns-in-Ok-finish-clause-outcome
+evaluate_within-returns-in-Ok-finish-clause-outcome t c =
+    let finished = rw c.in-Ok-finish.is at c.finish.ensures.finished in
+    rw finished.same (of_files c.args.files.now c.in-Ok.ensures.learns c.in-Ok.ensures.fits, c.in-Ok.ensures.low)
+
+pub evaluate_within-returns-in-Ok-finish-clause-reply : goal.evaluate_within-returns-in-Ok-finish-clause-reply
+evaluate_within-returns-in-Ok-finish-clause-reply t c =
     let (key, same, run) = rw c.in-Run.is at c.in_ok-output.ensures.begun in
-    let learnt = c.in-Ok.ensures.ok in
-    (key, same, gave_at_key run.2 ((rw (c.in-Ok-finish.is, run.1) at c.finish.ensures.gave) _ (respects_with_key tests _ (answers_alike c.args.files.now)) learnt.1.0))
+    let ran = c.in-Ok.ensures in
+    let stands = run_stands _ _ _ key c.in-Run.pending.key _ same run.2.has_key (rw c.recording.ensures.value run.2.writes) ran.writes ran.learns ran.fits.whole in
+    record {
+      key = key;
+      names = same;
+      mid = c.run_script.new.cache;
+      calls = λ _. rw (rw c.in-Run.is at c.in_ok-output.ensures.kept) at ran.led;
+      is_reply = reply_by_run run.2 ran.fits.agrees stands (rw (c.in-Ok-finish.is, run.1) at c.finish.ensures.finished);
+    }
 
-pub evaluate_within-returns-in-Ok-finish-clause-grows : goal.evaluate_within-returns-in-Ok-finish-clause-grows
-evaluate_within-returns-in-Ok-finish-clause-grows t c =
-    grows_on _ _ _ (rw (rw c.in-Run.is at c.in_ok-output.ensures.kept) at c.in-Ok.ensures.grows) c.finish.ensures.grows
+pub evaluate_within-returns-in-Ok-finish-clause-led : goal.evaluate_within-returns-in-Ok-finish-clause-led
+evaluate_within-returns-in-Ok-finish-clause-led t c = led_by_reply c.args.files.now (evaluate_within-returns-in-Ok-finish-clause-reply t c)
+
+pub evaluate_within-returns-in_err-output-clause-failed : goal.evaluate_within-returns-in_err-output-clause-failed
+evaluate_within-returns-in_err-output-clause-failed t c = on_err c.from_residual.result (is_refused c.in_err-output.ensures.err_keeps)
+
+pub evaluate_within-returns-in-Err-finish-clause-failed : goal.evaluate_within-returns-in-Err-finish-clause-failed
+evaluate_within-returns-in-Err-finish-clause-failed t c =
+    let (key, same, run) = rw c.in-Run.is at c.in_ok-output.ensures.begun in
+    let (kept, spoiled) = rw c.in-Err-finish.is at c.finish.ensures.err in
+    rw kept (has_no_end (missed_by_run c.args.files.now same run.2) (rw (rw c.in-Run.is at c.in_ok-output.ensures.kept) at c.in-Ok.ensures.led))
+
+pub evaluate_within-returns-in-Err-clause-failed : goal.evaluate_within-returns-in-Err-clause-failed
+evaluate_within-returns-in-Err-clause-failed t c =
+    let (key, same, run) = rw c.in-Run.is at c.in_ok-output.ensures.begun in
+    is_broken (missed_by_run c.args.files.now same run.2) (rw (rw c.in-Run.is at c.in_ok-output.ensures.kept) at c.in-Err.ensures.failed)
 
 pub run_script-returns-in_err-outcome-clause-deep : goal.run_script-returns-in_err-outcome-clause-deep
 run_script-returns-in_err-outcome-clause-deep t c = λ e.
     let i = c.loop-part.invariant in
     let (bytes, cut, is) = c.in-Some.ensures in
     let (path, text, calls, at, deep) = c.in_err-outcome.ensures.deep bytes is (ap (λ f. Err f) (handed_on c.from_residual.result c.in_err-outcome.field-0.0 _ c.from_residual.ensures.1 e)) in
-    deep_at_part (At (answers_of c.args.files.now)) c.args.limit c.requires.1.1.0 (i.leaves (answers_of c.args.files.now) (answers_alike c.args.files.now) i.agrees) cut calls at deep
+    deep_at_part (At (answers_of c.args.files.now)) c.args.limit c.requires.1.1.0 (of_files c.args.files.now i.learns i.fits) cut calls at deep
 
-pub run_script-returns-in_err-outcome-clause-grows : goal.run_script-returns-in_err-outcome-clause-grows
-run_script-returns-in_err-outcome-clause-grows t c = grows_on _ _ _ c.loop-part.invariant.grows c.in_err-outcome.ensures.grows
+pub run_script-returns-in_err-outcome-clause-failed : goal.run_script-returns-in_err-outcome-clause-failed
+run_script-returns-in_err-outcome-clause-failed t c =
+    let (bytes, cut, is) = c.in-Some.ensures in
+    on_err c.from_residual.result (fails_at_part (At (answers_of c.args.files.now)) (moves c.args.files.now) c.loop-part.invariant.led cut (c.in_err-outcome.ensures.failed bytes is))
 
 pub run_script-outcome-requires : goal.run_script-outcome-requires
 run_script-outcome-requires t c =
     let i = c.loop-part.invariant in
-    let (bytes, cut, is) = c.in-Some.ensures in
-    let out = c.in_ok-outcome.ensures.ok bytes is in
-    omega (arith, c.in-Err.ensures.height, i.low, out.0)
+    omega (arith, c.in-Err.ensures.height, i.low, c.in_ok-outcome.ensures.low)
 
-pub run_script-returns-in-Err-clause-ok : goal.run_script-returns-in-Err-clause-ok
-run_script-returns-in-Err-clause-ok t c =
-    let fresh : c.args.recording.now.pairs ≡ [] = c.requires.1.1.1 in
-    let i = c.loop-part.invariant in
+pub run_script-returns-in-Err-clause-learns : goal.run_script-returns-in-Err-clause-learns
+run_script-returns-in-Err-clause-learns t c =
     let (bytes, cut, is) = c.in-Some.ensures in
-    let out = c.in_ok-outcome.ensures.ok bytes is in (
-      omega (arith, c.in-Err.ensures.height, i.low, out.0, c.outcome.ensures.height),
-      (
-        out.1.0,
-        λ m r a.
-            let b = out.1.1 m r a in
-            (subst (λ ps. Agrees same_answer (with_key m) ps) (sym fresh) tt, means_at_fault (At m) c.add.new.self (i.leaves m r b.0) cut b.1 c.in-Err.ensures.sum c.in-Err.ensures.height c.outcome.ensures.value c.outcome.ensures.height),
-      ),
-    )
+    learns_on c.loop-part.invariant.learns (c.in_ok-outcome.ensures.learns bytes is) (λ m p q n second. means_at_fault (At n) c.add.new.self (p n second) cut (q n second) c.in-Err.ensures.sum c.in-Err.ensures.height c.outcome.ensures.value c.outcome.ensures.height)
 
-pub run_script-returns-in-Err-clause-grows : goal.run_script-returns-in-Err-clause-grows
-run_script-returns-in-Err-clause-grows t c = grows_on _ _ _ c.loop-part.invariant.grows c.in_ok-outcome.ensures.grows
+pub run_script-returns-in-Err-clause-led : goal.run_script-returns-in-Err-clause-led
+run_script-returns-in-Err-clause-led t c =
+    let files = c.args.files.now in
+    let (bytes, cut, is) = c.in-Some.ensures in
+    let part = c.in_ok-outcome.ensures in
+    leads_at_fault (At (answers_of files)) (moves files) c.add.new.self _ c.loop-part.invariant.led cut (of_files files (part.learns bytes is) part.fits) c.in-Err.ensures.sum (part.led bytes is)
 
 pub run_script-loop-part-preserved : goal.run_script-loop-part-preserved
 run_script-loop-part-preserved t c =
+    let files = c.args.files.now in
     let i = c.loop-part.invariant in
     let (bytes, cut, is) = c.in-Some.ensures in
-    let out = c.in_ok-outcome.ensures.ok bytes is in
+    let part = c.in_ok-outcome.ensures in
     record {
-      low = omega (arith, c.in_default-add.ensures.height, i.low, out.0);
-      agrees = out.1.0;
-      leaves = λ m r a.
-          let b = out.1.1 m r a in
-          leaves_rest (At m) (i.leaves m r b.0) cut b.1 c.in_default-add.ensures.sum c.in_default-add.ensures.height;
-      grows = grows_on _ _ _ i.grows c.in_ok-outcome.ensures.grows;
+      low = omega (arith, c.in_default-add.ensures.height, i.low, part.low);
+      fits = part.fits;
+      writes = part.writes ∙ i.writes;
+      learns = learns_on i.learns (part.learns bytes is) (λ m p q n second. leaves_rest (At n) (p n second) cut (q n second) c.in_default-add.ensures.sum c.in_default-add.ensures.height);
+      led = led_rest (At (answers_of files)) (moves files) i.led cut (of_files files (part.learns bytes is) part.fits) c.in_default-add.ensures.sum (part.led bytes is);
     }
 
-pub run_script-returns-clause-ok : goal.run_script-returns-clause-ok
-run_script-returns-clause-ok t c =
-    let fresh : c.args.recording.now.pairs ≡ [] = c.requires.1.1.1 in
-    let i = c.loop-part.invariant in
-    (omega (arith, i.low, c.outcome-2.ensures.height), (i.agrees, λ m r a. (subst (λ ps. Agrees same_answer (with_key m) ps) (sym fresh) tt, means_at_end (At m) (i.leaves m r a) c.in_default.ensures.0 c.outcome-2.ensures.value c.outcome-2.ensures.height)))
+pub run_script-returns-clause-learns : goal.run_script-returns-clause-learns
+run_script-returns-clause-learns t c =
+    learns_more c.loop-part.invariant.learns (λ m p n second. means_at_end (At n) (p n second) c.in_default.ensures.0 c.outcome-2.ensures.value c.outcome-2.ensures.height)
+
+pub run_script-returns-clause-led : goal.run_script-returns-clause-led
+run_script-returns-clause-led t c =
+    leads_at_end (At (answers_of c.args.files.now)) (moves c.args.files.now) c.loop-part.invariant.led c.in_default.ensures.0

@@ -1,13 +1,11 @@
-use Rattle.std.proofs.Common.{◌<◌, ◌+◌, ◌-◌, ◌*◌, length, String, string_eq}
-use Rattle.std.specs.Global.{Global}
-use Rattle.comemo_base.specs.Answers.{Respects, Agrees}
-use Rattle.comemo.specs.Called.{Grows}
+use Rattle.std.proofs.Common.{◌≡◌, ◌<◌, ◌+◌, ◌-◌, ◌*◌, length}
+use Rattle.comemo.specs.Function.{Learns}
+use Rattle.scripts.proofs.Calls.{Led}
 use Rattle.scripts.proofs.Totals.{Leaves}
-use Rattle.interpreter.specs.Files.{answers_of, with_key}
-use Rattle.interpreter.specs.Evaluations.{At}
-use Rattle.interpreter.specs.declared.files.FileCall.{FileCall}
-use Rattle.interpreter.specs.contracts.files.FileCallPartialEq.TheImpl.{ghosts}
-use Rattle.interpreter.specs.Joined.{same_answer}
+use Rattle.interpreter.specs.Files.{OnFiles, answers_of}
+use Rattle.interpreter.specs.Joined.{same_call, same_answer}
+use Rattle.interpreter.specs.Evaluations.{At, FilesFit}
+use Rattle.interpreter.specs.Calls.{moves}
 use Rattle.interpreter.proofs.evaluation.+evaluating.Given as goal
 
 abbrev pub decreases-evaluate_part : goal.decreases-evaluate_part
@@ -19,14 +17,15 @@ decreases-run_script l = 3 * l.limit - 1
 abbrev pub decreases-evaluate_within : goal.decreases-evaluate_within
 decreases-evaluate_within l = 3 * l.limit
 
--- the parts so far are no higher than the limit allows; the files agree with what is recorded; and whichever answers agree
--- with it, what the parts left come to after those so far, the script comes to
+-- the parts so far are no higher than the limit allows, and the files fit what is recorded, with no write; whichever answers
+-- fit it, what the parts left come to after those so far, the script comes to; and where the parts left lead, the run leads
 abbrev pub invariant-run_script-loop-part : goal.invariant-run_script-loop-part
 invariant-run_script-loop-part l = record {
   low : l.total.height < l.limit;
-  agrees : Agrees same_answer (with_key (answers_of l.files)) l.recording.pairs;
-  leaves : (m : FileCall → String Global) → Respects ghosts.eq string_eq m → Agrees same_answer (with_key m) l.recording.pairs → Leaves (At m) l.script l.parts l.total;
-  grows : Grows l.fn.cache l.cache;
+  fits : FilesFit l.files l.recording;
+  writes : l.recording.writes ≡ l.fn.recording.writes;
+  learns : Learns same_call same_answer l.fn.recording l.recording (OnFiles (λ n. Leaves (At n) l.script l.parts l.total));
+  led : Led (At (answers_of l.files)) (moves l.files) l.script l.parts l.total l.fn.cache l.cache;
 }
 
 abbrev pub decreases-run_script-loop-part : goal.decreases-run_script-loop-part

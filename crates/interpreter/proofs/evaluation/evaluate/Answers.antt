@@ -1,43 +1,95 @@
-use Rattle.std.proofs.Common.{refl}
-use Rattle.comemo.proofs.Calls.{gave_at_key, came_by_reply}
-use Rattle.comemo.proofs.Growing.{grows_on, grows_not}
-use Rattle.tracking.proofs.KeyedViews.{respects_with_key}
-use Rattle.interpreter.proofs.Evaluations.{script_given, script_stands}
-use Rattle.interpreter.proofs.FileCalls.{answers_alike}
+use Rattle.std.proofs.Common.{refl, ap, Err}
+use Rattle.comemo.proofs.Calls.{reply_by_run, broke_at_end}
+use Rattle.tracking.proofs.KeyedViews.{keyed_calls, keyed_answers}
+use Rattle.scripts.specs.Calls.{is_refused, is_broken, has_no_end}
+use Rattle.interpreter.specs.Files.{answers_of, with_key}
+use Rattle.interpreter.specs.Joined.{same_answer}
+use Rattle.interpreter.specs.Evaluations.{evaluating}
+use Rattle.interpreter.proofs.Evaluations.{script_given, run_stands, of_files, on_err, exact_at_ok, exact_at_fault, broke_at_once}
+use Rattle.interpreter.proofs.Calls.{missed_by_run, led_by_reply}
 use Rattle.interpreter.proofs.JoinedCalls.{tests}
 use Rattle.interpreter.proofs.evaluation.evaluate.Goals as goal
 
 pub returns-in-Hit-clause-outcome : goal.returns-in-Hit-clause-outcome
 returns-in-Hit-clause-outcome g c =
     let (key, same, hit) = rw c.in-Hit.is at c.in_ok-output.ensures.begun in
-    (script_given _ (answers_alike c.args.files.now) same hit.1, hit.0)
+    (script_given c.args.files.now same hit.1, hit.0)
 
-pub returns-in-Hit-clause-gave : goal.returns-in-Hit-clause-gave
-returns-in-Hit-clause-gave g c =
+pub returns-in-Hit-clause-reply : goal.returns-in-Hit-clause-reply
+returns-in-Hit-clause-reply g c =
     let (key, same, hit) = rw c.in-Hit.is at c.in_ok-output.ensures.begun in
-    (key, same, hit.1)
+    record { key = key; names = same; mid = c.args.cache.now; calls = λ not. absurd (not refl); is_reply = hit.1 }
+
+pub returns-in-Hit-clause-led : goal.returns-in-Hit-clause-led
+returns-in-Hit-clause-led g c = led_by_reply c.args.files.now (returns-in-Hit-clause-reply g c)
+
+pub returns-in-Hit-clause-too_deep : goal.returns-in-Hit-clause-too_deep
+returns-in-Hit-clause-too_deep g c =
+    let (key, same, hit) = rw c.in-Hit.is at c.in_ok-output.ensures.begun in
+    exact_at_ok c.args.files.now (script_given c.args.files.now same hit.1) hit.0
 
 pub finish-requires : goal.finish-requires
 finish-requires g c = λ whole.
     let (key, same, run) = rw c.in-Run.is at c.in_ok-output.ensures.begun in
-    script_stands _ _ _ key c.in-Run.pending.key _ same run.2.has_key c.in-Ok.ensures.ok.1.1
+    run_stands _ _ _ key c.in-Run.pending.key _ same run.2.has_key (rw c.recording.ensures.value run.2.writes) c.in-Ok.ensures.writes c.in-Ok.ensures.learns whole
 
-pub returns-in-Ok-finish-clause-gave : goal.returns-in-Ok-finish-clause-gave
-returns-in-Ok-finish-clause-gave g c =
+pub returns-in-Ok-finish-clause-outcome : goal.returns-in-Ok-finish-clause-outcome
+returns-in-Ok-finish-clause-outcome g c =
+    let finished = rw c.in-Ok-finish.is at c.finish.ensures.finished in
+    rw finished.same (of_files c.args.files.now c.in-Ok.ensures.learns c.in-Ok.ensures.fits, c.in-Ok.ensures.low)
+
+pub returns-in-Ok-finish-clause-reply : goal.returns-in-Ok-finish-clause-reply
+returns-in-Ok-finish-clause-reply g c =
     let (key, same, run) = rw c.in-Run.is at c.in_ok-output.ensures.begun in
-    let learnt = c.in-Ok.ensures.ok in
-    (key, same, gave_at_key run.2 ((rw (c.in-Ok-finish.is, run.1) at c.finish.ensures.gave) _ (respects_with_key tests _ (answers_alike c.args.files.now)) learnt.1.0))
+    let ran = c.in-Ok.ensures in
+    let stands = run_stands _ _ _ key c.in-Run.pending.key _ same run.2.has_key (rw c.recording.ensures.value run.2.writes) ran.writes ran.learns ran.fits.whole in
+    record {
+      key = key;
+      names = same;
+      mid = c.run_script.new.cache;
+      calls = λ _. rw (rw c.in-Run.is at c.in_ok-output.ensures.kept) at ran.led;
+      is_reply = reply_by_run run.2 ran.fits.agrees stands (rw (c.in-Ok-finish.is, run.1) at c.finish.ensures.finished);
+    }
 
-pub returns-in-Ok-finish-clause-grows : goal.returns-in-Ok-finish-clause-grows
-returns-in-Ok-finish-clause-grows g c =
-    grows_on _ _ _ (rw (rw c.in-Run.is at c.in_ok-output.ensures.kept) at c.in-Ok.ensures.grows) c.finish.ensures.grows
+pub returns-in-Ok-finish-clause-led : goal.returns-in-Ok-finish-clause-led
+returns-in-Ok-finish-clause-led g c = led_by_reply c.args.files.now (returns-in-Ok-finish-clause-reply g c)
 
-pub returns-in-Hit-clause-came : goal.returns-in-Hit-clause-came
-returns-in-Hit-clause-came g c =
-    let (key, same, hit) = rw c.in-Hit.is at c.in_ok-output.ensures.begun in
-    (key, c.args.cache.now, same, grows_not _ _ refl, hit.2)
+pub returns-in-Ok-finish-clause-too_deep : goal.returns-in-Ok-finish-clause-too_deep
+returns-in-Ok-finish-clause-too_deep g c = exact_at_ok c.args.files.now (of_files c.args.files.now c.in-Ok.ensures.learns c.in-Ok.ensures.fits) c.in-Ok.ensures.low
 
-pub returns-in-Ok-finish-clause-came : goal.returns-in-Ok-finish-clause-came
-returns-in-Ok-finish-clause-came g c =
+pub returns-in_err-output-clause-failed : goal.returns-in_err-output-clause-failed
+returns-in_err-output-clause-failed g c = on_err c.from_residual.result (is_refused c.in_err-output.ensures.err_keeps)
+
+pub returns-in_err-output-clause-too_deep : goal.returns-in_err-output-clause-too_deep
+returns-in_err-output-clause-too_deep g c =
+    exact_at_fault c.args.files.now c.from_residual.result c.in_err-output.field-0.0 c.from_residual.ensures.1 (λ e. c.in_err-output.ensures.deep (ap (λ f. Err f) e))
+
+pub returns-in_err-output-clause-err : goal.returns-in_err-output-clause-err
+returns-in_err-output-clause-err g c = on_err c.from_residual.result c.in_err-output.ensures.err
+
+pub returns-in-Err-finish-clause-failed : goal.returns-in-Err-finish-clause-failed
+returns-in-Err-finish-clause-failed g c =
     let (key, same, run) = rw c.in-Run.is at c.in_ok-output.ensures.begun in
-    (key, c.run_script.new.cache, same, rw (rw c.in-Run.is at c.in_ok-output.ensures.kept) at c.in-Ok.ensures.grows, came_by_reply run.2 _ _ _ _ c.in-Ok-finish.reply (rw c.in-Ok-finish.is at c.finish.ensures.output) (rw c.in-Ok-finish.is at c.finish.ensures.ends) (rw c.in-Ok-finish.is at c.finish.ensures.disabled))
+    let (kept, broken) = rw c.in-Err-finish.is at c.finish.ensures.err in
+    rw kept (has_no_end (missed_by_run c.args.files.now same run.2) (rw (rw c.in-Run.is at c.in_ok-output.ensures.kept) at c.in-Ok.ensures.led))
+
+pub returns-in-Err-finish-clause-err : goal.returns-in-Err-finish-clause-err
+returns-in-Err-finish-clause-err g c =
+    let (key, same, run) = rw c.in-Run.is at c.in_ok-output.ensures.begun in
+    let (kept, broken) = rw (c.in-Err-finish.is, run.1) at c.finish.ensures.err in
+    let fits = c.in-Ok.ensures.fits in
+    broke_at_end evaluating (with_key (answers_of c.args.files.now)) (keyed_calls tests) (keyed_answers tests) fits.respects fits.agrees broken
+
+pub returns-in-Err-clause-failed : goal.returns-in-Err-clause-failed
+returns-in-Err-clause-failed g c =
+    let (key, same, run) = rw c.in-Run.is at c.in_ok-output.ensures.begun in
+    is_broken (missed_by_run c.args.files.now same run.2) (rw (rw c.in-Run.is at c.in_ok-output.ensures.kept) at c.in-Err.ensures.failed)
+
+pub returns-in-Err-clause-too_deep : goal.returns-in-Err-clause-too_deep
+returns-in-Err-clause-too_deep g c =
+    exact_at_fault c.args.files.now _ c.in-Err.fault refl (λ e. c.in-Err.ensures.deep (ap (λ f. Err f) e))
+
+pub returns-in-Err-clause-err : goal.returns-in-Err-clause-err
+returns-in-Err-clause-err g c =
+    let (key, same, run) = rw c.in-Run.is at c.in_ok-output.ensures.begun in
+    broke_at_once g.met.S.Sink.starts same_answer (with_key (answers_of c.args.files.now)) _ _ (rw run.1 at c.give_up.ensures)

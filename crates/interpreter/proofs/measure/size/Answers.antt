@@ -1,48 +1,62 @@
 use Rattle.std.proofs.Common.{rules, refl, ◌≡◌, ◌∙◌, sym, subst, length, string_bytes}
-use Rattle.comemo.specs.Multi.{OnParts}
-use Rattle.comemo.proofs.Calls.{gave_by_hit, came_by_hit, gave_by_run, came_by_run}
-use Rattle.comemo.proofs.JoinedHits.{joined_hit}
-use Rattle.tracking.proofs.KeyedViews.{respects_with_key}
-use Rattle.interpreter.specs.Files.{text_at, answers_of}
-use Rattle.interpreter.specs.Size.{IsSize}
-use Rattle.interpreter.proofs.FileCalls.{same_key, answers_alike}
+use Rattle.comemo.proofs.Calls.{broke_at_begin, broke_at_end}
+use Rattle.tracking.proofs.KeyedViews.{keyed_calls, keyed_answers}
+use Rattle.interpreter.specs.Files.{text_at, answers_of, with_key}
+use Rattle.interpreter.specs.Joined.{same_answer}
+use Rattle.interpreter.specs.Size.{sizing}
+use Rattle.interpreter.proofs.Evaluations.{broke_at_once, on_err}
+use Rattle.interpreter.proofs.FileCalls.{key_bytes}
 use Rattle.interpreter.proofs.JoinedCalls.{tests}
-use Rattle.interpreter.proofs.Sizes.{mapped, run_stands, run_agrees}
+use Rattle.interpreter.proofs.Sizes.{mapped, mapped_err, size_fits, size_stands, size_read, size_by_hit, size_by_run}
 use Rattle.interpreter.proofs.measure.size.Goals as goal
+
+pub returns-in_default-clause-err : goal.returns-in_default-clause-err
+returns-in_default-clause-err g c = (refl, broke_at_once g.met.S.Sink.starts same_answer (with_key (answers_of c.args.files.now)) _ _ c.spoil.ensures)
+
+pub returns-in_err-output-clause-err : goal.returns-in_err-output-clause-err
+returns-in_err-output-clause-err g c =
+    let (kept, unchanged, broken) = rw c.fork.ensures at c.in_err-output.ensures.err in
+    on_err c.from_residual.result (kept, broke_at_begin broken)
 
 pub returns-in-Hit-clause-output : goal.returns-in-Hit-clause-output
 returns-in-Hit-clause-output g c =
-    let m = answers_of c.args.files.now in
-    let hit = rw (c.in-Hit.is, c.fork.ensures) at c.in_ok-output.ensures.begun in
-    let found = joined_hit hit tests.tells_calls (λ x y h. refl) (answers_alike c.args.files.now) (λ _. tt) m (λ c. refl) (λ c. refl) in
-    subst (λ path. c.in-Hit.output ≡ length (string_bytes (text_at c.args.files.now path))) c.in-Ok.ensures.ok found
+    let (hit, touched) = rw (c.in-Hit.is, c.fork.ensures) at c.in_ok-output.ensures.hit in
+    subst (λ path. c.in-Hit.output ≡ length (string_bytes (text_at c.args.files.now path))) c.in-Ok.ensures.ok (hit.right.1 (answers_of c.args.files.now) (λ c. refl))
 
-pub returns-in-Hit-clause-gave : goal.returns-in-Hit-clause-gave
-returns-in-Hit-clause-gave g c =
-    let hit = rw (c.in-Hit.is, c.fork.ensures) at c.in_ok-output.ensures.begun in
-    (c.in-Ok.key, c.in-Ok.ensures.ok, gave_by_hit hit)
+pub returns-in-Hit-clause-reply : goal.returns-in-Hit-clause-reply
+returns-in-Hit-clause-reply g c =
+    let (hit, touched) = rw (c.in-Hit.is, c.fork.ensures) at c.in_ok-output.ensures.hit in
+    size_by_hit c.args.files.now c.in-Ok.ensures.ok hit touched
 
-pub returns-in-Hit-clause-came : goal.returns-in-Hit-clause-came
-returns-in-Hit-clause-came g c =
-    let hit = rw (c.in-Hit.is, c.fork.ensures) at c.in_ok-output.ensures.begun in
-    (c.in-Ok.key, c.in-Ok.ensures.ok, came_by_hit c.args.cache.now _ hit (rw c.in-Hit.is at c.in_ok-output.ensures.kept))
+pub returns-in_default-read-clause-err : goal.returns-in_default-read-clause-err
+returns-in_default-read-clause-err g c =
+    let (run, unchanged, kept, same) = rw (c.in-Run.is, c.fork.ensures) at c.in_ok-output.ensures.run in
+    (same, broke_at_once g.met.S.Sink.starts same_answer (with_key (answers_of c.args.files.now)) _ _ (rw kept at c.give_up.ensures))
 
 pub finish-requires : goal.finish-requires
-finish-requires g c = λ whole m respects agrees.
-    let run = rw c.in-Run.is at c.in_ok-output.ensures.begun in
-    let (own, named, asked) = c.in-Ok-read_text.ensures in
-    let long : length (string_bytes c.in-Ok-read_text.text) ≡ c.len-output.result = search rules in
-    subst (λ size. OnParts m (λ _ n. IsSize c.in-Run.pending.key.0 n size)) long (run_stands (answers_of c.args.files.now) (answers_alike c.args.files.now) own c.in-Ok-read_text.text _ _ (rw c.recording.ensures.value run.0.pairs) asked c.in-Run.pending.key (named ∙ sym c.in-Ok.ensures.ok ∙ same_key c.in-Ok.key c.in-Run.pending.key.0 run.0.has_key) m respects agrees)
+finish-requires g c = λ whole.
+    let (run, unchanged, kept, same) = rw (c.in-Run.is, c.fork.ensures) at c.in_ok-output.ensures.run in
+    let (own, named, asks) = c.in-Ok-read.ensures in
+    let long : length (string_bytes c.in-Ok-read.text) ≡ c.len-output.result = search rules in
+    size_stands c.args.files.now asks (rw c.recording.ensures.value run.whole) (rw c.recording.ensures.value run.pairs) (rw c.recording.ensures.value run.writes) c.in-Run.pending.key (named ∙ sym c.in-Ok.ensures.ok ∙ key_bytes c.in-Ok.key c.in-Run.pending.key.0 run.has_key) (sym long) whole
 
-pub returns-clause-gave : goal.returns-clause-gave
-returns-clause-gave g c =
-    let run = rw (c.in-Run.is, c.fork.ensures) at c.in_ok-output.ensures.begun in
-    let (own, named, asked) = c.in-Ok-read_text.ensures in
-    let alike = answers_alike c.args.files.now in
-    let agrees = run_agrees (answers_of c.args.files.now) alike own c.in-Ok-read_text.text _ _ (rw c.recording.ensures.value run.0.pairs) asked in
-    mapped (λ reply gave. (c.in-Ok.key, c.in-Ok.ensures.ok, gave)) c.finish.result (gave_by_run run.0 _ _ c.finish.result (respects_with_key tests _ alike) agrees (rw run.2 at c.finish.ensures.gave))
+pub returns-clause-output : goal.returns-clause-output
+returns-clause-output g c =
+    let (run, unchanged, kept, same) = rw (c.in-Run.is, c.fork.ensures) at c.in_ok-output.ensures.run in
+    let (own, named, asks) = c.in-Ok-read.ensures in
+    let long : length (string_bytes c.in-Ok-read.text) ≡ c.len-output.result = search rules in
+    mapped (λ reply finished. finished.same ∙ sym long ∙ size_read c.args.files.now asks (rw c.recording.ensures.value run.whole) (rw c.recording.ensures.value run.pairs) named) c.finish.result c.finish.ensures.finished
 
-pub returns-clause-came : goal.returns-clause-came
-returns-clause-came g c =
-    let run = rw (c.in-Run.is, c.fork.ensures) at c.in_ok-output.ensures.begun in
-    mapped (λ reply came. (c.in-Ok.key, c.in-Ok.ensures.ok, came)) c.finish.result (came_by_run run.0 _ _ _ _ c.finish.result c.finish.ensures.output (rw (rw c.in-Run.is at c.in_ok-output.ensures.kept) at c.finish.ensures.ends) c.finish.ensures.disabled)
+pub returns-clause-reply : goal.returns-clause-reply
+returns-clause-reply g c =
+    let (run, unchanged, kept, same) = rw (c.in-Run.is, c.fork.ensures) at c.in_ok-output.ensures.run in
+    let (own, named, asks) = c.in-Ok-read.ensures in
+    let long : length (string_bytes c.in-Ok-read.text) ≡ c.len-output.result = search rules in
+    mapped (λ reply finished. size_by_run c.args.files.now c.in-Ok.ensures.ok run c.recording.ensures.value named asks (sym long) finished) c.finish.result (rw (kept, same) at c.finish.ensures.finished)
+
+pub returns-clause-err : goal.returns-clause-err
+returns-clause-err g c =
+    let (run, unchanged, kept, same) = rw (c.in-Run.is, c.fork.ensures) at c.in_ok-output.ensures.run in
+    let (own, named, asks) = c.in-Ok-read.ensures in
+    let fits = size_fits c.args.files.now asks (rw c.recording.ensures.value run.whole) (rw c.recording.ensures.value run.pairs) in
+    mapped_err (λ e. (e.0, broke_at_end sizing (with_key (answers_of c.args.files.now)) (keyed_calls tests) (keyed_answers tests) fits.respects fits.agrees e.1)) c.finish.result (rw (kept, same) at c.finish.ensures.err)

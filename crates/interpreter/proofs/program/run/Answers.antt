@@ -1,7 +1,7 @@
 use Rattle.lines.proofs.Seen.{Ran_seen}
-use Rattle.interpreter.specs.Sessions.{texts_of, Prints, Refuses}
+use Rattle.interpreter.specs.Sessions.{texts_in, Prints, Refuses}
 use Rattle.interpreter.proofs.program.run.Goals as goal
 
 pub returns : goal.returns
 returns g c =
-    (_, _, c.new.ensures, Ran_seen (λ s. texts_of s.files) _ _ Prints Refuses (λ s line text t p. p) (λ s line t p. p) _ _ _ _ _ c.run.result c.run.ensures)
+    (_, _, c.new.ensures, Ran_seen texts_in _ _ Prints Refuses (λ s line text t p. p) (λ s line t p. p) _ _ _ _ _ _ c.run.result c.run.ensures)

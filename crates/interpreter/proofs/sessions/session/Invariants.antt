@@ -1,6 +1,6 @@
 use Rattle.std.proofs.Common.{◌≡◌, ◌≤◌, map, take, length, vec_len, vec_capacity}
 use Rattle.commands.specs.Requests.{request_of}
-use Rattle.interpreter.specs.Sessions.{texts_of, AnswersEach}
+use Rattle.interpreter.specs.Sessions.{texts_in, AnswersEach}
 use Rattle.interpreter.proofs.sessions.session.Given as goal
 
 -- the commands so far have these answers, and there is room for the others
@@ -8,5 +8,5 @@ abbrev pub invariant-loop-command : goal.invariant-loop-command
 invariant-loop-command l = record {
   long : vec_len l.answers ≡ l.command-index;
   room : length l.commands ≤ vec_capacity l.answers;
-  each : AnswersEach (texts_of l.initial.state.files) (map request_of (take l.command-index l.commands)) l.answers.items (texts_of l.state.files);
+  each : AnswersEach (texts_in l.initial.state) (map request_of (take l.command-index l.commands)) l.answers.items (texts_in l.state);
 }

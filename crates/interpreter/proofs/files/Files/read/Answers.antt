@@ -1,5 +1,5 @@
 use Rattle.interpreter.proofs.Sizes.{mapped}
-use Rattle.interpreter.proofs.measure.read_text.Goals as goal
+use Rattle.interpreter.proofs.files.Files.read.Goals as goal
 
 pub returns : goal.returns
 returns g c =

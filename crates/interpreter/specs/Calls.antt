@@ -1,0 +1,59 @@
+-- What a call of a script replies, and how it moves what a cache of outcomes keeps, with the scripts that its run calls.
+use Rattle.std.specs.Prelude.{◌≡◌, ◌≢◌, ⊤, ℕ, List, IsTrue, String, string_bytes}
+use Rattle.std.specs.Global.{Global}
+use Rattle.comemo_base.specs.Answers.{Agrees}
+use Rattle.comemo.specs.Meaning.{Run}
+use Rattle.comemo.specs.Cache.{Stands, HasNone, Touches}
+use Rattle.comemo.specs.Called.{IsReply, CameByHit}
+use Rattle.comemo.specs.Finish.{Ends}
+use Rattle.comemo.specs.declared.finish.How.{How}
+use Rattle.comemo.specs.declared.finish.How.TheVariants as how
+use Rattle.comemo.specs.declared.finish.Reply.{Reply}
+use Rattle.scripts.specs.Calls.{Moves, RunLeads}
+use Rattle.scripts.specs.declared.outcome.Outcome.{Outcome}
+use Rattle.interpreter.specs.declared.files.Files.{Files}
+use Rattle.interpreter.specs.Files.{JoinedCall, JoinedAnswer, answers_of, with_key}
+use Rattle.interpreter.specs.Joined.{same_answer, same_key, with_files}
+use Rattle.interpreter.specs.Evaluations.{At, ComesTo, Outcomes, evaluating}
+
+module _ (files : Files) (script : List ℕ) where
+  -- an entry of es under the script agrees with the files, its outcome is what the script comes to, and it was touched
+  pub record HitLed (es es' : Outcomes) : Type 0 where
+    pub key : String Global
+    pub names : string_bytes key ≡ script
+    pub found : Run (String Global × ⊤) JoinedCall JoinedAnswer Outcome
+    pub comes_to : ComesTo (answers_of files) script found.output
+    pub came : CameByHit evaluating (with_files key files) es found es'
+
+  -- no entry of es under the script agrees with the files
+  pub record Missed (es : Outcomes) : Type 0 where
+    pub key : String Global
+    pub names : string_bytes key ≡ script
+    pub none : HasNone evaluating es (with_files key files)
+
+  -- a run of the script, which is to be kept, ended with what the script comes to, by reads that the files agree with and by
+  -- which alone that is right; which took the entries from es to es' in one of the ways in which a run ends
+  pub record RunEnded (es es' : Outcomes) : Type 0 where
+    pub key : String Global
+    pub names : string_bytes key ≡ script
+    pub ran : Run (String Global × ⊤) JoinedCall JoinedAnswer Outcome
+    pub has_key : IsTrue (same_key (key, tt) ran.key)
+    pub comes_to : ComesTo (answers_of files) script ran.output
+    pub agrees : Agrees same_answer (with_key (answers_of files)) ran.pairs
+    pub stands : Stands evaluating ran
+    pub reply : How
+    pub enabled : reply ≢ how.Disabled
+    pub ends : Ends evaluating es ran reply es'
+
+-- what a call of a script does to the entries, at these files; one that is refused, as a hit that is too deep, only touches
+abbrev pub moves : Files → Moves Outcomes
+moves files = record { hit = HitLed files; missed = Missed files; ended = RunEnded files; refused = λ _ es es'. Touches es es' }
+
+-- the reply to a call of a script: by an entry of es that agrees with the files; or none of them did, the scripts that the run
+-- called, one after the other, led from es to mid, and the run ended at mid, after which the entries are es'
+pub record EvalReply (files : Files) (script : List ℕ) (es : Outcomes) (sent : List (JoinedCall × JoinedAnswer) → List JoinedCall → Type 0) (reply : Reply Outcome) (es' : Outcomes) : Type 0 where
+  pub key : String Global
+  pub names : string_bytes key ≡ script
+  pub mid : Outcomes
+  pub calls : reply.how ≢ how.Hit → RunLeads (At (answers_of files)) (moves files) script es mid
+  pub is_reply : IsReply evaluating (with_files key files) es mid sent reply es'
