@@ -1,6 +1,9 @@
 -- The calls of a context are told apart by what they are.
-use Rattle.std.proofs.Common.{◌≡◌, true, false, refl}
+use Rattle.std.proofs.Common.{◌≡◌, ℕ, nat_eq, true, false, refl}
 use Rattle.std.specs.Cmp.{IsEquivalence}
+use Rattle.comemo_base.specs.Answers.{Respects}
+use Rattle.comemo_tests.specs.Cells.{field}
+use Rattle.comemo_tests.proofs.Places.{same_numbers}
 use Rattle.comemo_tests.specs.declared.cells.ContextCall.{ContextCall}
 use Rattle.comemo_tests.specs.declared.cells.ContextCall.TheVariants.{Location, Styles}
 use Rattle.comemo_tests.specs.contracts.cells.ContextCallPartialEq.TheImpl.{ghosts}
@@ -23,3 +26,10 @@ same_congr Styles Styles z h = refl
 
 pub same_calls : IsEquivalence ghosts.eq
 same_calls = record { refl = same_refl; symm = same_symm; congr = same_congr }
+
+-- a context answers equal calls alike
+pub respects_field : (location styles : ℕ) → Respects ghosts.eq nat_eq (field location styles)
+respects_field location styles Location Location h = same_numbers.refl location
+respects_field location styles Location Styles h = let e : false ≡ true = h in cc
+respects_field location styles Styles Location h = let e : false ≡ true = h in cc
+respects_field location styles Styles Styles h = same_numbers.refl styles

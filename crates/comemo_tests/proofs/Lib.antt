@@ -2,3 +2,4 @@ pub mod Places
 pub mod Contexts
 pub mod Before
 pub mod Contains
+pub mod Failing

@@ -1,6 +1,7 @@
 //! Memoized functions whose runs are closures.
 ghost use Rattle.std.specs.Prelude.{◌≡◌, IfOk, OnErr, ◌+◌, ◌*◌, ◌%◌, ◌^◌};
 ghost use Rattle.std.proofs.Common.{rules};
+ghost use Rattle.comemo_tests.specs.Broken.{IsBroken};
 
 use crate::cells::{Context, ContextCall};
 use crate::functions::{LocationMemo, SumMemo};
@@ -8,6 +9,7 @@ use crate::inputs::SquareMemo;
 use comemo::closure::memoize;
 use comemo::{CacheData, Constraint, Fault, Hashed, Reply, Sink, Tracked};
 use std::alloc::Global;
+use tracking::Breaking;
 
 /// The location of a context, kept.
 pub fn closed_location<S: Sink<Call = ContextCall, Answer = u64>>(
@@ -18,12 +20,13 @@ pub fn closed_location<S: Sink<Call = ContextCall, Answer = u64>>(
     enabled: bool,
 ) -> Result<Reply<u64>, Fault>
     ensures output { IfOk result (λ reply. reply.output ≡ context.now.location) }
-    ensures err { OnErr result ((cache.new ≡ cache.old) × S.spoils sink.old sink.new) }
+    ensures err { OnErr result ((cache.new ≡ cache.old)
+        × IsBroken (⟦<S as Breaking>⟧.breaks_off sink.old sink.new)) }
 {
     memoize(
         alloc,
         cache,
-        context.fork(),
+        context.fork(alloc),
         sink,
         enabled,
         |view: &mut Tracked<'_, Context>, recording: &mut Constraint<ContextCall, u64>| {
@@ -42,12 +45,13 @@ pub fn closed_sum<S: Sink<Call = ContextCall, Answer = u64>>(
     enabled: bool,
 ) -> Result<Reply<u64>, Fault>
     ensures output { IfOk result (λ reply. reply.output ≡ (context.now.location + context.now.styles) % 2 ^ 64) }
-    ensures err { OnErr result ((cache.new ≡ cache.old) × S.spoils sink.old sink.new) }
+    ensures err { OnErr result ((cache.new ≡ cache.old)
+        × IsBroken (⟦<S as Breaking>⟧.breaks_off sink.old sink.new)) }
 {
     memoize(
         alloc,
         cache,
-        context.fork(),
+        context.fork(alloc),
         sink,
         enabled,
         |view: &mut Tracked<'_, Context>, recording: &mut Constraint<ContextCall, u64>| {
@@ -67,7 +71,8 @@ pub fn closed_square<S: Sink<Call = (), Answer = ()>>(
     enabled: bool,
 ) -> Result<Reply<u64>, Fault>
     ensures output { IfOk result (λ reply. reply.output ≡ (number * number) % 2 ^ 64) }
-    ensures err { OnErr result ((cache.new ≡ cache.old) × S.spoils sink.old sink.new) }
+    ensures err { OnErr result ((cache.new ≡ cache.old)
+        × IsBroken (⟦<S as Breaking>⟧.breaks_off sink.old sink.new)) }
 {
     memoize(
         alloc,

@@ -19,7 +19,7 @@ fn context() -> Context {
 fn told_of_closure(alloc: Global, fault: Fault) -> (Option<Fault>, bool) {
     let mut cache: CacheData<LocationMemo> = CacheData::new(alloc);
     let mut outer: Constraint<ContextCall, u64> = Constraint::new(alloc);
-    let reply = closed_fault(alloc, &mut cache, &context().track(), &mut outer, fault);
+    let reply = closed_fault(alloc, &mut cache, &context().track(alloc), &mut outer, fault);
     (reply.err(), outer.is_whole())
 }
 
@@ -36,7 +36,7 @@ fn told_of<F: Function<Key = bool, Of = Context>>(
         &mut cache,
         needs,
         hands_on,
-        &context().track(),
+        &context().track(alloc),
         &mut outer,
         true,
     );
@@ -92,8 +92,8 @@ fn a_fault_of_a_function_of_a_part_is_handed_on(rt: HostRuntime) -> Result<(), F
     let alloc = rt.alloc();
     let (one, other) = (context(), context());
     let both = Both {
-        first: one.track(),
-        second: other.track(),
+        first: one.track(alloc),
+        second: other.track(alloc),
     };
     for (key, fault) in [
         ((true, true), Fault::Memory),
@@ -108,7 +108,7 @@ fn a_fault_of_a_function_of_a_part_is_handed_on(rt: HostRuntime) -> Result<(), F
             &mut cache,
             &mut kept,
             key,
-            &both.track(),
+            &both.track(alloc),
             &mut Top::new(),
             true,
         );

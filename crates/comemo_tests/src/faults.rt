@@ -1,6 +1,8 @@
 //! Memoized functions whose runs end in a fault, and what a caller is told of it.
 ghost use Rattle.std.specs.Prelude.{◌≡◌, OnErr, ⊤};
 ghost use Rattle.std.proofs.Common.{rules};
+ghost use Rattle.comemo_tests.specs.Broken.{IsBroken};
+ghost use Rattle.comemo.specs.Meaning.{reading};
 
 use crate::cells::{Context, ContextCall};
 use crate::functions::LocationMemo;
@@ -10,6 +12,7 @@ use comemo::{
     Recorder, Reply, Sink, Tracked,
 };
 use std::alloc::Global;
+use tracking::Breaking;
 
 /// A function whose runs all end for want of memory.
 pub struct Refused;
@@ -100,7 +103,7 @@ impl Memo for CallingOfPart {
 
     type Out = u64;
 
-    ghost def = { λ _ _ _ _. ⊤ };
+    ghost def = { reading (λ _ _ _. ⊤) };
 
     ghost laws = { Prim.search rules };
 }
@@ -108,7 +111,7 @@ impl Memo for CallingOfPart {
 impl<'a> FunctionOf<Both<'a, Context, Context>> for CallingOfPart {
     type Needs = (CacheData<MemoOf<Failing>>, CacheData<MemoOf<Refused>>);
 
-    ghost reads = { λ key m out V W right. right };
+    ghost reads = { λ key m output writes right. right.0 };
 
     fn run(
         key: &(bool, bool),
@@ -131,12 +134,13 @@ pub fn closed_fault<S: Sink<Call = ContextCall, Answer = u64>>(
     sink: &mut S,
     fault: Fault,
 ) -> Result<Reply<u64>, Fault>
-    ensures err { OnErr result ((cache.new ≡ cache.old) × S.spoils sink.old sink.new) }
+    ensures err { OnErr result ((cache.new ≡ cache.old)
+        × IsBroken (⟦<S as Breaking>⟧.breaks_off sink.old sink.new)) }
 {
     memoize(
         alloc,
         cache,
-        context.fork(),
+        context.fork(alloc),
         sink,
         true,
         |_view: &mut Tracked<'_, Context>, _recording: &mut Constraint<ContextCall, u64>| Err(

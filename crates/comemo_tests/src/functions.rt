@@ -1,13 +1,15 @@
 //! Memoized functions.
-ghost use Rattle.std.specs.Prelude.{◌≡◌, ℕ, List, [], refl, IfOk, OnErr, string_bytes, ◌+◌, ◌%◌, ◌^◌};
+ghost use Rattle.std.specs.Prelude.{◌≡◌, ℕ, [], refl, IfOk, OnErr, string_bytes, ◌+◌, ◌%◌, ◌^◌};
 ghost use Rattle.std.proofs.Common.{rules};
-ghost use Rattle.comemo.specs.Meaning.{sent};
-ghost use Rattle.comemo.specs.Called.{Gave};
+ghost use Rattle.comemo.specs.Meaning.{invocation};
+ghost use Rattle.comemo.specs.Called.{IsReply};
+ghost use Rattle.comemo_tests.specs.Broken.{IsBroken};
 
 use crate::cells::{Context, ContextCall, Page};
 use comemo::begin::begin;
 use comemo::{Begun, CacheData, Fault, How, Keyed, Meant, Memo, Reply, Sink, Track, Tracked};
 use std::alloc::Global;
+use tracking::Breaking;
 
 /// The location of a context.
 pub struct LocationMemo;
@@ -37,13 +39,15 @@ pub fn location<S: Sink<Call = ContextCall, Answer = u64>>(
     enabled: bool,
 ) -> Result<Reply<u64>, Fault>
     ensures output { IfOk result (λ reply. reply.output ≡ context.now.location) }
-    ensures gave { IfOk result (λ reply. Gave ⟦<LocationMemo as Meant>⟧.meaning tt
-        (⟦<Context as Track>⟧.answers context.now) (sent S.took sink.old sink.new) reply.output) }
-    ensures err { OnErr result ((cache.new ≡ cache.old) × S.spoils sink.old sink.new) }
+    ensures reply { IfOk result (λ reply. IsReply ⟦<LocationMemo as Meant>⟧.meaning
+        (invocation tt (⟦<Context as Track>⟧.answers context.now) enabled) cache.old cache.old
+        (S.took sink.old sink.new) reply cache.new) }
+    ensures err { OnErr result ((cache.new ≡ cache.old)
+        × IsBroken (⟦<S as Breaking>⟧.breaks_off sink.old sink.new)) }
 {
     let mut input = Keyed {
         key: (),
-        view: context.fork(),
+        view: context.fork(alloc),
     };
     match begin(alloc, cache, &mut input, sink, enabled)? {
         Begun::Hit(output) => Ok(Reply {
@@ -51,7 +55,7 @@ pub fn location<S: Sink<Call = ContextCall, Answer = u64>>(
             how: How::Hit,
         }),
         Begun::Run(mut pending) => {
-            let mut view = context.fork();
+            let mut view = context.fork(alloc);
             let Ok(at) = view.ask(ContextCall::Location, pending.recording()) else {
                 pending.give_up(sink);
                 return Err(Fault::Memory);
@@ -89,11 +93,12 @@ pub fn sum<S: Sink<Call = ContextCall, Answer = u64>>(
     enabled: bool,
 ) -> Result<Reply<u64>, Fault>
     ensures output { IfOk result (λ reply. reply.output ≡ (context.now.location + context.now.styles) % 2 ^ 64) }
-    ensures err { OnErr result ((cache.new ≡ cache.old) × S.spoils sink.old sink.new) }
+    ensures err { OnErr result ((cache.new ≡ cache.old)
+        × IsBroken (⟦<S as Breaking>⟧.breaks_off sink.old sink.new)) }
 {
     let mut input = Keyed {
         key: (),
-        view: context.fork(),
+        view: context.fork(alloc),
     };
     match begin(alloc, cache, &mut input, sink, enabled)? {
         Begun::Hit(output) => Ok(Reply {
@@ -101,7 +106,7 @@ pub fn sum<S: Sink<Call = ContextCall, Answer = u64>>(
             how: How::Hit,
         }),
         Begun::Run(mut pending) => {
-            let mut view = context.fork();
+            let mut view = context.fork(alloc);
             let Ok(at) = view.ask(ContextCall::Location, pending.recording()) else {
                 pending.give_up(sink);
                 return Err(Fault::Memory);
@@ -142,11 +147,12 @@ pub fn double<S: Sink<Call = ContextCall, Answer = u64>>(
     enabled: bool,
 ) -> Result<Reply<u64>, Fault>
     ensures output { IfOk result (λ reply. reply.output ≡ (number + number) % 2 ^ 64) }
-    ensures err { OnErr result ((cache.new ≡ cache.old) × S.spoils sink.old sink.new) }
+    ensures err { OnErr result ((cache.new ≡ cache.old)
+        × IsBroken (⟦<S as Breaking>⟧.breaks_off sink.old sink.new)) }
 {
     let mut input = Keyed {
         key: number,
-        view: context.fork(),
+        view: context.fork(alloc),
     };
     match begin(alloc, cache, &mut input, sink, enabled)? {
         Begun::Hit(output) => Ok(Reply {
@@ -184,11 +190,12 @@ pub fn shown<S: Sink<Call = (), Answer = String>>(
     enabled: bool,
 ) -> Result<Reply<String>, Fault>
     ensures output { IfOk result (λ reply. string_bytes reply.output ≡ string_bytes page.now.text) }
-    ensures err { OnErr result ((cache.new ≡ cache.old) × S.spoils sink.old sink.new) }
+    ensures err { OnErr result ((cache.new ≡ cache.old)
+        × IsBroken (⟦<S as Breaking>⟧.breaks_off sink.old sink.new)) }
 {
     let mut input = Keyed {
         key: name,
-        view: page.fork(),
+        view: page.fork(alloc),
     };
     match begin(alloc, cache, &mut input, sink, enabled)? {
         Begun::Hit(output) => Ok(Reply {
@@ -196,7 +203,7 @@ pub fn shown<S: Sink<Call = (), Answer = String>>(
             how: How::Hit,
         }),
         Begun::Run(mut pending) => {
-            let mut view = page.fork();
+            let mut view = page.fork(alloc);
             let Ok(text) = view.ask((), pending.recording()) else {
                 pending.give_up(sink);
                 return Err(Fault::Memory);

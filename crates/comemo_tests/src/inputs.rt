@@ -1,12 +1,14 @@
 //! Memoized functions of one input: a view that the caller lends, and a value that isn't tracked.
 ghost use Rattle.std.specs.Prelude.{◌≡◌, IfOk, OnErr, IfSome, ◌*◌, ◌%◌, ◌^◌};
 ghost use Rattle.std.proofs.Common.{rules};
+ghost use Rattle.comemo_tests.specs.Broken.{IsBroken};
 
 use crate::cells::{Context, ContextCall};
 use crate::functions::LocationMemo;
 use comemo::begin::begin;
 use comemo::{Begun, CacheData, Fault, Found, Hashed, How, Memo, Reply, Sink, Tracked};
 use std::alloc::{AllocError, Global};
+use tracking::Breaking;
 
 /// The location of a context, kept, by a view that the caller lends.
 pub fn lent_location<S: Sink<Call = ContextCall, Answer = u64>>(
@@ -17,7 +19,8 @@ pub fn lent_location<S: Sink<Call = ContextCall, Answer = u64>>(
 ) -> Result<Reply<u64>, Fault>
     ensures output { IfOk result (λ reply. reply.output ≡ context.old.location) }
     ensures same { context.new ≡ context.old }
-    ensures err { OnErr result ((cache.new ≡ cache.old) × S.spoils sink.old sink.new) }
+    ensures err { OnErr result ((cache.new ≡ cache.old)
+        × IsBroken (⟦<S as Breaking>⟧.breaks_off sink.old sink.new)) }
 {
     match begin(alloc, cache, context, sink, true)? {
         Begun::Hit(output) => Ok(Reply {
@@ -73,7 +76,8 @@ pub fn square<S: Sink<Call = (), Answer = ()>>(
     sink: &mut S,
 ) -> Result<Reply<u64>, Fault>
     ensures output { IfOk result (λ reply. reply.output ≡ (number * number) % 2 ^ 64) }
-    ensures err { OnErr result ((cache.new ≡ cache.old) × S.spoils sink.old sink.new) }
+    ensures err { OnErr result ((cache.new ≡ cache.old)
+        × IsBroken (⟦<S as Breaking>⟧.breaks_off sink.old sink.new)) }
 {
     match begin(alloc, cache, &mut Hashed(number), sink, true)? {
         Begun::Hit(output) => Ok(Reply {

@@ -1,7 +1,8 @@
 //! Memoized functions of several arguments, joined into one input.
 ghost use Rattle.std.specs.Prelude.{◌≡◌, [], ◌∷◌, ◌||◌, ◌+◌, ◌%◌, ◌^◌, Bool, false, IfOk, OnOk, OnErr, nat_eq};
 ghost use Rattle.std.proofs.Common.{rules};
-ghost use Rattle.comemo.specs.Multi.{OnParts};
+ghost use Rattle.tracking.specs.Multi.{OnParts};
+ghost use Rattle.comemo_tests.specs.Broken.{IsBroken};
 
 use crate::cells::{Context, ContextCall};
 use crate::sinks::send;
@@ -11,6 +12,7 @@ use comemo::{
     MultiCall, Reply, Second, Sink, Tracked,
 };
 use std::alloc::{AllocError, Global};
+use tracking::Breaking;
 
 /// Sends a read with its answer through a map. What the sink behind it took is known after the mapped sink is gone.
 pub fn send_through<M: CallMap + Drop, S: Sink<Call = M::To, Answer = M::ToAnswer>>(
@@ -20,8 +22,8 @@ pub fn send_through<M: CallMap + Drop, S: Sink<Call = M::To, Answer = M::ToAnswe
     sink: &mut S,
 ) -> Result<bool, AllocError>
     requires { M.From.is_write call ≡ false }
-    ensures ok { OnOk result (S.took sink.old ((M.maps map call, M.maps_answer map answer) ∷ []) [] sink.new) }
-    ensures err { OnErr result (S.took sink.old [] [] sink.new) }
+    ensures ok { OnOk result (S.took sink.old sink.new ((M.maps map call, M.maps_answer map answer) ∷ []) []) }
+    ensures err { OnErr result (S.took sink.old sink.new [] []) }
 {
     send(call, answer, &mut MappedSink::new(sink, map))
 }
@@ -54,9 +56,10 @@ pub fn contains<S: Sink<Call = MultiCall<(), ContextCall>, Answer = MultiAnswer<
     sink: &mut S,
 ) -> Result<Reply<bool>, Fault>
     ensures output { IfOk result (λ reply. reply.output ≡ (nat_eq context.now.location number || nat_eq context.now.styles number)) }
-    ensures err { OnErr result ((cache.new ≡ cache.old) × S.spoils sink.old sink.new) }
+    ensures err { OnErr result ((cache.new ≡ cache.old)
+        × IsBroken (⟦<S as Breaking>⟧.breaks_off sink.old sink.new)) }
 {
-    let mut input = Multi((Hashed(number), context.fork()));
+    let mut input = Multi((Hashed(number), context.fork(alloc)));
     match begin(alloc, cache, &mut input, sink, true)? {
         Begun::Hit(output) => Ok(Reply {
             output,
@@ -108,7 +111,8 @@ pub fn sum_of_two<S: Sink<Call = MultiCall<(), ()>, Answer = MultiAnswer<(), ()>
     sink: &mut S,
 ) -> Result<Reply<u32>, Fault>
     ensures output { IfOk result (λ reply. reply.output ≡ (first + second) % 2 ^ 32) }
-    ensures err { OnErr result ((cache.new ≡ cache.old) × S.spoils sink.old sink.new) }
+    ensures err { OnErr result ((cache.new ≡ cache.old)
+        × IsBroken (⟦<S as Breaking>⟧.breaks_off sink.old sink.new)) }
 {
     let mut input = Multi((Hashed(first), Hashed(second)));
     match begin(alloc, cache, &mut input, sink, true)? {
@@ -150,9 +154,10 @@ pub fn locations<
     sink: &mut S,
 ) -> Result<Reply<u64>, Fault>
     ensures output { IfOk result (λ reply. reply.output ≡ (first.now.location + second.now.location) % 2 ^ 64) }
-    ensures err { OnErr result ((cache.new ≡ cache.old) × S.spoils sink.old sink.new) }
+    ensures err { OnErr result ((cache.new ≡ cache.old)
+        × IsBroken (⟦<S as Breaking>⟧.breaks_off sink.old sink.new)) }
 {
-    let mut input = Multi((first.fork(), second.fork()));
+    let mut input = Multi((first.fork(alloc), second.fork(alloc)));
     match begin(alloc, cache, &mut input, sink, true)? {
         Begun::Hit(output) => Ok(Reply {
             output,
@@ -206,7 +211,8 @@ pub fn sum_of_three<
     sink: &mut S,
 ) -> Result<Reply<u32>, Fault>
     ensures output { IfOk result (λ reply. reply.output ≡ (first + second) % 2 ^ 32) }
-    ensures err { OnErr result ((cache.new ≡ cache.old) × S.spoils sink.old sink.new) }
+    ensures err { OnErr result ((cache.new ≡ cache.old)
+        × IsBroken (⟦<S as Breaking>⟧.breaks_off sink.old sink.new)) }
 {
     let mut input = Multi((Hashed(first), Multi((Hashed(second), Multi(())))));
     match begin(alloc, cache, &mut input, sink, true)? {

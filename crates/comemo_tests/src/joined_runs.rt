@@ -53,7 +53,7 @@ fn ask_contains(
     number: u64,
     context: &Context,
 ) -> Result<Reply<bool>, Fault> {
-    contains(alloc, cache, number, &context.track(), &mut top())
+    contains(alloc, cache, number, &context.track(alloc), &mut top())
 }
 
 #[test]
@@ -78,7 +78,7 @@ fn ask_locations(
     first: &Context,
     second: &Context,
 ) -> Result<Reply<u64>, Fault> {
-    locations(alloc, cache, &first.track(), &second.track(), &mut top())
+    locations(alloc, cache, &first.track(alloc), &second.track(alloc), &mut top())
 }
 
 #[test]

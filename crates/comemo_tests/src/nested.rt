@@ -2,15 +2,17 @@
 ghost use Rattle.std.specs.Prelude.{◌≡◌, IfOk, OnErr, ◌+◌, ◌%◌, ◌^◌};
 ghost use Rattle.std.proofs.Common.{rules};
 ghost use Rattle.comemo_tests.specs.Cells.{field};
-ghost use Rattle.comemo.specs.Meaning.{sent};
-ghost use Rattle.comemo.specs.Called.{Gave};
+ghost use Rattle.comemo.specs.Meaning.{invocation};
+ghost use Rattle.comemo.specs.Called.{IsReply};
 ghost use Rattle.comemo_tests.specs.declared.cells.ContextCall.TheVariants.{Location};
+ghost use Rattle.comemo_tests.specs.Broken.{IsBroken};
 
 use crate::cells::{Context, ContextCall};
 use crate::functions::{LocationMemo, location};
 use comemo::begin::begin;
 use comemo::{Begun, CacheData, Fault, How, Keyed, Meant, Memo, Reply, Sink, Track, Tracked};
 use std::alloc::Global;
+use tracking::Breaking;
 
 /// Twice the location of a context, which wraps.
 pub struct TwiceMemo;
@@ -39,13 +41,15 @@ pub fn twice<S: Sink<Call = ContextCall, Answer = u64>>(
     enabled: bool,
 ) -> Result<Reply<u64>, Fault>
     ensures output { IfOk result (λ reply. reply.output ≡ (context.now.location + context.now.location) % 2 ^ 64) }
-    ensures gave { IfOk result (λ reply. Gave ⟦<TwiceMemo as Meant>⟧.meaning tt
-        (⟦<Context as Track>⟧.answers context.now) (sent S.took sink.old sink.new) reply.output) }
-    ensures err { OnErr result ((cache.new ≡ cache.old) × S.spoils sink.old sink.new) }
+    ensures reply { IfOk result (λ reply. IsReply ⟦<TwiceMemo as Meant>⟧.meaning
+        (invocation tt (⟦<Context as Track>⟧.answers context.now) enabled) cache.old cache.old
+        (S.took sink.old sink.new) reply cache.new) }
+    ensures err { OnErr result ((cache.new ≡ cache.old)
+        × IsBroken (⟦<S as Breaking>⟧.breaks_off sink.old sink.new)) }
 {
     let mut input = Keyed {
         key: (),
-        view: context.fork(),
+        view: context.fork(alloc),
     };
     match begin(alloc, cache, &mut input, sink, enabled)? {
         Begun::Hit(output) => Ok(Reply {

@@ -52,7 +52,7 @@ fn begin_row(
     cache: &mut CacheData<AnyRowMemo>,
     row: &Row,
 ) -> Result<Begun<AnyRowMemo>, Fault> {
-    begin(alloc, cache, &mut row.track(), &mut Top::new(), true)
+    begin(alloc, cache, &mut row.track(alloc), &mut Top::new(), true)
 }
 
 // A run that read two places itself and absorbed a recording of two.
@@ -131,8 +131,8 @@ fn a_lent_view_is_an_input(rt: HostRuntime) -> Result<(), Fail> {
             location: at,
             styles: len as u64,
         };
-        let mut view = context.track();
-        let before = look_location(&cache, &mut context.track())?;
+        let mut view = context.track(alloc);
+        let before = look_location(&cache, &mut context.track(alloc))?;
         assert_eq!(rt; before.is_some(), how == How::Hit);
         let reply = lent_location(alloc, &mut cache, &mut view, &mut Top::new())?;
         expect(&rt, reply, at, how);

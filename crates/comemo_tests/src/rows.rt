@@ -3,11 +3,13 @@ ghost use Rattle.std.specs.Prelude.{IfOk, OnErr, ◌≡◌, ℕ, nat_eq, slice_i
 ghost use Rattle.comemo_base.specs.Answers.{Respects, Agrees};
 ghost use Rattle.std.proofs.Common.{rules};
 ghost use Rattle.comemo_tests.specs.Rows.{IsFirstZero, by_call, same_place, numbers};
+ghost use Rattle.comemo_tests.specs.Broken.{IsBroken};
 
 use crate::cells::{Place, Row};
 use comemo::begin::begin;
 use comemo::{Begun, CacheData, Constraint, Fault, How, Keyed, Memo, Reply, Sink, Tracked};
 use std::alloc::{AllocError, Global};
+use tracking::Breaking;
 
 /// The first place below a length at which a row has 0, or else the length.
 pub struct FirstZeroMemo;
@@ -60,11 +62,12 @@ pub fn first_zero<S: Sink<Call = Place, Answer = u64>>(
     enabled: bool,
 ) -> Result<Reply<u64>, Fault>
     ensures output { IfOk result (λ reply. IsFirstZero length (λ at. slice_index row.now.numbers.items at) reply.output) }
-    ensures err { OnErr result ((cache.new ≡ cache.old) × S.spoils sink.old sink.new) }
+    ensures err { OnErr result ((cache.new ≡ cache.old)
+        × IsBroken (⟦<S as Breaking>⟧.breaks_off sink.old sink.new)) }
 {
     let mut input = Keyed {
         key: length,
-        view: row.fork(),
+        view: row.fork(alloc),
     };
     match begin(alloc, cache, &mut input, sink, enabled)? {
         Begun::Hit(output) => Ok(Reply {
@@ -72,7 +75,7 @@ pub fn first_zero<S: Sink<Call = Place, Answer = u64>>(
             how: How::Hit,
         }),
         Begun::Run(mut pending) => {
-            let mut view = row.fork();
+            let mut view = row.fork(alloc);
             let Ok(at) = find_zero(length, &mut view, pending.recording()) else {
                 pending.give_up(sink);
                 return Err(Fault::Memory);

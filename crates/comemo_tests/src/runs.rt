@@ -41,7 +41,7 @@ fn begin_any<S: Sink<Call = ContextCall, Answer = u64>>(
 ) -> Result<Begun<AnyMemo>, Fault> {
     let mut input = Keyed {
         key,
-        view: context.track(),
+        view: context.track(alloc),
     };
     begin(alloc, cache, &mut input, sink, true)
 }
@@ -66,7 +66,7 @@ fn run_one(
     call: ContextCall,
 ) -> Result<Reply<u64>, Fault> {
     let mut pending = begin_run(alloc, cache, context)?;
-    let Ok(answer) = context.track().ask(call, pending.recording()) else {
+    let Ok(answer) = context.track(alloc).ask(call, pending.recording()) else {
         pending.give_up(&mut top());
         return Err(Fault::Memory);
     };
@@ -78,15 +78,15 @@ fn a_run_that_lacks_the_first_call_is_not_stored(rt: HostRuntime) -> Result<(), 
     let alloc = rt.alloc();
     let mut cache = CacheData::new(alloc);
     let here = Context {
-        location: 3,
+        location: 0,
         styles: 40,
     };
     let there = Context {
-        location: 5,
+        location: 1,
         styles: 40,
     };
     let first = run_one(alloc, &mut cache, &here, ContextCall::Location)?;
-    assert_eq!(rt; first.output, 3);
+    assert_eq!(rt; first.output, 0);
     assert_eq!(rt; first.how, How::Stored);
     let second = run_one(alloc, &mut cache, &there, ContextCall::Styles)?;
     assert_eq!(rt; second.output, 40);
@@ -112,11 +112,11 @@ fn the_second_of_two_like_runs_exists(rt: HostRuntime) -> Result<(), Fail> {
         }
     };
     let asked = context
-        .track()
+        .track(alloc)
         .ask(ContextCall::Location, first.recording())
         .is_ok();
     let asked_too = context
-        .track()
+        .track(alloc)
         .ask(ContextCall::Location, second.recording())
         .is_ok();
     let ended = first.finish(&mut cache, &mut top(), 3);
@@ -181,7 +181,7 @@ fn run_nested(
         Ok(Begun::Hit(_)) => Ok(How::Hit),
         Ok(Begun::Run(mut run)) => {
             if context
-                .track()
+                .track(alloc)
                 .ask(ContextCall::Location, run.recording())
                 .is_err()
             {

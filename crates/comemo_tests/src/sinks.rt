@@ -7,8 +7,8 @@ use std::alloc::AllocError;
 /// Sends a read with its answer to a sink.
 pub fn send<S: Sink>(call: S::Call, answer: S::Answer, sink: &mut S) -> Result<bool, AllocError>
     requires { S.Call.is_write call ≡ false }
-    ensures ok { OnOk result (S.took sink.old ((call, answer) ∷ []) [] sink.new) }
-    ensures err { OnErr result (S.took sink.old [] [] sink.new) }
+    ensures ok { OnOk result (S.took sink.old sink.new ((call, answer) ∷ []) []) }
+    ensures err { OnErr result (S.took sink.old sink.new [] []) }
 {
     sink.emit(call, Some(answer))
 }
@@ -20,8 +20,8 @@ pub fn send_by_reference<S: Sink>(
     mut sink: &mut S,
 ) -> Result<bool, AllocError>
     requires { S.Call.is_write call ≡ false }
-    ensures ok { OnOk result (S.took sink.old ((call, answer) ∷ []) [] sink.new) }
-    ensures err { OnErr result (S.took sink.old [] [] sink.new) }
+    ensures ok { OnOk result (S.took sink.old sink.new ((call, answer) ∷ []) []) }
+    ensures err { OnErr result (S.took sink.old sink.new [] []) }
 {
     send(call, answer, &mut sink)
 }

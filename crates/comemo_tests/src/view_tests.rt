@@ -15,7 +15,7 @@ fn recorded(
     styles: bool,
 ) -> Result<Constraint<ContextCall, u64>, AllocError> {
     let mut recording = Constraint::new(alloc);
-    let mut view = context.track_with(&mut recording);
+    let mut view = context.track_with(alloc, &mut recording);
     let _ = view.ask(ContextCall::Location)?;
     if styles {
         let _ = view.ask(ContextCall::Styles)?;
@@ -122,11 +122,11 @@ fn a_view_with_a_sink_sends_what_it_asks(rt: HostRuntime) -> Result<(), Fail> {
     };
     let mut recording = Constraint::new(alloc);
     assert_eq!(rt;
-        ask_into(&context, ContextCall::Location, &mut recording)?,
+        ask_into(alloc, &context, ContextCall::Location, &mut recording)?,
         3
     );
     assert_eq!(rt;
-        ask_into(&context, ContextCall::Location, &mut recording)?,
+        ask_into(alloc, &context, ContextCall::Location, &mut recording)?,
         3
     );
     assert!(rt; !recording.emit(ContextCall::Location, Some(4))?);
@@ -144,7 +144,7 @@ fn views_print_no_value(rt: HostRuntime) -> Result<(), Fail> {
         styles: 5,
     };
     let mut recording: Constraint<ContextCall, u64> = Constraint::new(alloc);
-    let view = context.track();
+    let view = context.track(alloc);
     assert_eq!(rt; format!(in alloc; "{view:?}")?.as_str(), "Tracked(..)");
     assert_eq!(rt;
         format!(in alloc; "{view:14?}|")?.as_str(),
@@ -154,7 +154,7 @@ fn views_print_no_value(rt: HostRuntime) -> Result<(), Fail> {
         format!(in alloc; "{view:>14?}|")?.as_str(),
         "   Tracked(..)|"
     );
-    let view = context.track_with(&mut recording);
+    let view = context.track_with(alloc, &mut recording);
     assert_eq!(rt; format!(in alloc; "{view:?}")?.as_str(), "Tracked(..)");
     assert_eq!(rt;
         format!(in alloc; "{view:14?}|")?.as_str(),

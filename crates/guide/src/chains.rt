@@ -1,6 +1,7 @@
 //! Chains of numbers by plain references, and a function that asks a chain for a number.
 ghost use Rattle.std.specs.Prelude.{◌≡◌, ℕ, ◌||◌, false, nat_eq, refl};
 ghost use Rattle.std.proofs.Common.{rules};
+ghost use Rattle.comemo.specs.Meaning.{reading};
 ghost use Rattle.guide.specs.Chains.{has};
 
 use comemo::{Call, Fault, FunctionOf, Memo, Recorder, Track};
@@ -98,7 +99,7 @@ impl Memo for IsInChain {
 
     ghost use Rattle.guide.specs.declared.chains.ChainCall.TheVariants.{Contains};
 
-    ghost def = { λ n m out _. out ≡ m (Contains n) };
+    ghost def = { reading (λ n m out. out ≡ m (Contains n)) };
 
     ghost laws = { Prim.search rules };
 }
@@ -106,7 +107,7 @@ impl Memo for IsInChain {
 impl<'a> FunctionOf<Chain<'a>> for IsInChain {
     type Needs = ();
 
-    ghost reads = { λ n m out V W right. right };
+    ghost reads = { λ n m out writes right. right.0 };
 
     fn run(n: &u32, chain: &mut Recorder<'_, Chain<'a>>, _needs: &mut ()) -> Result<bool, Fault> {
         let is = chain.ask(ChainCall::Contains(*n))?;

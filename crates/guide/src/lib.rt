@@ -2,6 +2,7 @@
 //! other kinds of arguments and answers.
 #![tactic(auto)]
 
+pub mod both_pass;
 pub mod chains;
 pub mod double;
 pub mod greetings;

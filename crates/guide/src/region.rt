@@ -1,6 +1,7 @@
 //! A tracked value that borrows three others, and a function of it.
 ghost use Rattle.std.specs.Prelude.{◌≡◌, false, max, refl};
 ghost use Rattle.std.proofs.Common.{rules};
+ghost use Rattle.comemo.specs.Meaning.{reading};
 
 use crate::town::{Town, TownCall};
 use comemo::{Call, Fault, FunctionOf, Memo, Recorder, Track};
@@ -46,9 +47,15 @@ impl<'a> Track for Region<'a> {
     ghost use Rattle.guide.specs.Regions.{of_each};
     ghost use Rattle.guide.specs.RegionLaws.{each_alike};
 
-    ghost answers = { λ s call. of_each (asked s.coast.now.people s.coast.now.degrees) (asked s.river.now.people s.river.now.degrees) (asked s.hill.now.people s.hill.now.degrees) call };
+    ghost answers = { λ s call. of_each
+        (asked s.coast.now.people s.coast.now.degrees)
+        (asked s.river.now.people s.river.now.degrees)
+        (asked s.hill.now.people s.hill.now.degrees) call };
 
-    ghost alike = { λ s. each_alike s.coast.now.people s.coast.now.degrees s.river.now.people s.river.now.degrees s.hill.now.people s.hill.now.degrees };
+    ghost alike = { λ s. each_alike
+        s.coast.now.people s.coast.now.degrees
+        s.river.now.people s.river.now.degrees
+        s.hill.now.people s.hill.now.degrees };
 
     ghost clones = { λ x y h. Prim.search rules };
 
@@ -76,7 +83,8 @@ impl Memo for Warmest {
     ghost use Rattle.guide.specs.declared.town.TownCall.TheVariants.{Degrees};
     ghost use Rattle.guide.specs.declared.region.RegionCall.TheVariants.{Coast, River, Hill};
 
-    ghost def = { λ _ m out _. out ≡ max (m (Coast Degrees)) (max (m (River Degrees)) (m (Hill Degrees))) };
+    ghost def = { reading (λ _ m out.
+        out ≡ max (m (Coast Degrees)) (max (m (River Degrees)) (m (Hill Degrees)))) };
 
     ghost laws = { Prim.search rules };
 }
@@ -84,7 +92,7 @@ impl Memo for Warmest {
 impl<'a> FunctionOf<Region<'a>> for Warmest {
     type Needs = ();
 
-    ghost reads = { λ key m out V W right. right };
+    ghost reads = { λ key m out writes right. right.0 };
 
     fn run(_: &(), region: &mut Recorder<'_, Region<'a>>, _: &mut ()) -> Result<u64, Fault> {
         let coast = region.ask(RegionCall::Coast(TownCall::Degrees))?;

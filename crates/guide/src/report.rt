@@ -24,7 +24,8 @@ impl Function for Report {
 
     ghost use Rattle.guide.specs.declared.town.TownCall.TheVariants.{People, Degrees};
 
-    ghost means = { λ key m out. out ≡ cond (nat_lt key.0 (max (m People) (m Degrees))) (m Degrees) key.1 };
+    ghost means = { λ key m out.
+        out ≡ cond (nat_lt key.0 (max (m People) (m Degrees))) (m Degrees) key.1 };
 
     ghost laws = { Prim.search rules };
 

@@ -1,6 +1,7 @@
 //! Functions of two tracked values.
 ghost use Rattle.std.specs.Prelude.{◌≡◌, ◌-◌, nat_lt};
 ghost use Rattle.std.proofs.Common.{rules};
+ghost use Rattle.comemo.specs.Meaning.{reading};
 
 use crate::town::{Town, TownCall};
 use crate::warmth::Warmth;
@@ -21,7 +22,8 @@ impl Memo for IsWarmer {
     ghost use Rattle.tracking.specs.Multi.{OnParts};
     ghost use Rattle.guide.specs.declared.town.TownCall.TheVariants.{Degrees};
 
-    ghost def = { λ _ m out _. OnParts m (λ one other. out ≡ nat_lt (other Degrees) (one Degrees)) };
+    ghost def = { reading (λ _ m out.
+        OnParts m (λ one other. out ≡ nat_lt (other Degrees) (one Degrees))) };
 
     ghost laws = { Prim.search rules };
 }
@@ -29,7 +31,7 @@ impl Memo for IsWarmer {
 impl<'a> FunctionOf<Both<'a, Town, Town>> for IsWarmer {
     type Needs = ();
 
-    ghost reads = { λ key m out V W right. right };
+    ghost reads = { λ key m out writes right. right.0 };
 
     fn run(
         _: &(),
@@ -57,7 +59,8 @@ impl Memo for Lead {
     ghost use Rattle.tracking.specs.Multi.{OnParts};
     ghost use Rattle.guide.specs.declared.town.TownCall.TheVariants.{Degrees};
 
-    ghost def = { λ _ m out _. OnParts m (λ one other. out ≡ one Degrees - other Degrees) };
+    ghost def = { reading (λ _ m out.
+        OnParts m (λ one other. out ≡ one Degrees - other Degrees)) };
 
     ghost laws = { Prim.search rules };
 }
@@ -65,7 +68,7 @@ impl Memo for Lead {
 impl<'a> FunctionOf<Both<'a, Town, Town>> for Lead {
     type Needs = CacheData<MemoOf<Warmth>>;
 
-    ghost reads = { λ key m out V W right. right };
+    ghost reads = { λ key m out writes right. right.0 };
 
     fn run(
         _key: &(),

@@ -1,5 +1,6 @@
 //! The functions at work: which calls ran, and which were answered from the cache.
 
+use crate::both_pass::BothPass;
 use crate::chains::{Chain, IsInChain};
 use crate::double::Double;
 use crate::greetings::{Greeting, SaysHello, World};
@@ -49,7 +50,7 @@ fn call<F: Function<Needs = ()>>(
         cache,
         &mut (),
         key,
-        &of.track(),
+        &of.track(alloc),
         &mut Top::new(),
         true,
     )
@@ -67,7 +68,7 @@ fn report(
         cache,
         kept,
         (500, 7),
-        &town.track(),
+        &town.track(alloc),
         &mut Top::new(),
         true,
     )
@@ -121,6 +122,23 @@ fn a_number_is_kept_with_both_answers(rt: HostRuntime) -> Result<(), Fail> {
 }
 
 #[test]
+fn what_a_helper_asked_counts_for_its_caller(rt: HostRuntime) -> Result<(), Fail> {
+    let alloc = rt.alloc();
+    let mut cache: CacheData<MemoOf<BothPass>> = CacheData::new(alloc);
+    let asked = [
+        (900, 21, true, How::Stored),
+        (900, 21, true, How::Hit),
+        (900, 4, false, How::Stored),
+        (9, 21, false, How::Stored),
+    ];
+    for (people, degrees, pass, how) in asked {
+        let reply = call(alloc, &mut cache, 20, &town(people, degrees))?;
+        expect(&rt, reply, pass, how);
+    }
+    Ok(())
+}
+
+#[test]
 fn a_question_that_was_not_asked_may_change(rt: HostRuntime) -> Result<(), Fail> {
     let alloc = rt.alloc();
     let mut cache: CacheData<MemoOf<Exceeds>> = CacheData::new(alloc);
@@ -168,7 +186,7 @@ fn a_call_that_is_not_enabled_runs_and_keeps_nothing(rt: HostRuntime) -> Result<
             &mut cache,
             &mut (),
             (),
-            &warm.track(),
+            &warm.track(alloc),
             &mut Top::new(),
             false,
         )?;
@@ -182,7 +200,7 @@ fn a_call_that_is_not_enabled_runs_and_keeps_nothing(rt: HostRuntime) -> Result<
 fn only_large_numbers_are_kept(rt: HostRuntime) -> Result<(), Fail> {
     let alloc = rt.alloc();
     let mut cache: CacheData<MemoOf<Identity>> = CacheData::new(alloc);
-    let nothing = ().track();
+    let nothing = ().track(alloc);
     let asked = [
         (0, How::Disabled),
         (0, How::Disabled),
@@ -261,7 +279,7 @@ fn either(
         cache,
         &mut turn,
         (),
-        &town.track(),
+        &town.track(alloc),
         &mut Top::new(),
         true,
     )
@@ -278,7 +296,7 @@ fn both(
         cache,
         &mut turn,
         (),
-        &town.track(),
+        &town.track(alloc),
         &mut Top::new(),
         true,
     )
@@ -321,7 +339,7 @@ fn the_world_is_big_once(rt: HostRuntime) -> Result<(), Fail> {
             &mut cache,
             &mut alloc,
             (),
-            &().track(),
+            &().track(rt.alloc()),
             &mut Top::new(),
             true,
         )?;
@@ -398,15 +416,15 @@ fn is_warmer(
     other: &Town,
 ) -> Result<Reply<bool>, Fault> {
     let towns = comemo::Both {
-        first: one.track(),
-        second: other.track(),
+        first: one.track(alloc),
+        second: other.track(alloc),
     };
     memoized(
         alloc,
         cache,
         &mut (),
         (),
-        &towns.track(),
+        &towns.track(alloc),
         &mut Top::new(),
         true,
     )
@@ -444,15 +462,15 @@ fn lead(
     other: &Town,
 ) -> Result<Reply<u64>, Fault> {
     let towns = comemo::Both {
-        first: one.track(),
-        second: other.track(),
+        first: one.track(alloc),
+        second: other.track(alloc),
     };
     memoized(
         alloc,
         cache,
         kept,
         (),
-        &towns.track(),
+        &towns.track(alloc),
         &mut Top::new(),
         true,
     )
@@ -496,7 +514,7 @@ fn warmest(
         cache,
         &mut (),
         (),
-        &region.track(),
+        &region.track(alloc),
         &mut Top::new(),
         true,
     )?;
@@ -538,7 +556,7 @@ fn contains(
         cache,
         &mut (),
         n,
-        &chain.track(),
+        &chain.track(alloc),
         &mut Top::new(),
         true,
     )?;

@@ -1,6 +1,7 @@
 //! Memoized lengths of texts, by three keys: the text itself, its number, and a number that it keeps.
 ghost use Rattle.std.specs.Prelude.{◌≡◌, IfOk, OnErr, length, string_bytes};
 ghost use Rattle.std.proofs.Common.{rules};
+ghost use Rattle.comemo.specs.Meaning.{reading};
 ghost use Rattle.speed.specs.Lengths.{IsLengthOf, text_number, kept_number};
 
 use comemo::begin::begin;
@@ -21,7 +22,7 @@ impl Memo for LengthMemo {
 
     type Out = u64;
 
-    ghost def = { λ text _ out _. out ≡ length (string_bytes text) };
+    ghost def = { reading (λ text _ out. out ≡ length (string_bytes text)) };
 
     ghost laws = { Prim.search rules };
 }
@@ -61,7 +62,7 @@ impl Memo for NumberedMemo {
 
     type Out = u64;
 
-    ghost def = { λ number _ out _. IsLengthOf text_number number out };
+    ghost def = { reading (λ number _ out. IsLengthOf text_number number out) };
 
     ghost laws = { Prim.search rules };
 }
@@ -72,7 +73,8 @@ pub fn length_by_number(
     cache: &mut CacheData<NumberedMemo>,
     text: &String,
 ) -> Result<Reply<u64>, Fault>
-    ensures output { IfOk result (λ reply. IsLengthOf text_number (text_number (string_bytes text.now)) reply.output) }
+    ensures output { IfOk result (λ reply.
+        IsLengthOf text_number (text_number (string_bytes text.now)) reply.output) }
     ensures err { OnErr result (cache.new ≡ cache.old) }
 {
     let mut sink = Top::new();
@@ -97,7 +99,7 @@ impl Memo for KeptNumberMemo {
 
     type Out = u64;
 
-    ghost def = { λ number _ out _. IsLengthOf kept_number number out };
+    ghost def = { reading (λ number _ out. IsLengthOf kept_number number out) };
 
     ghost laws = { Prim.search rules };
 }
@@ -108,7 +110,8 @@ pub fn length_by_kept_number(
     cache: &mut CacheData<KeptNumberMemo>,
     kept: &Prehashed<String>,
 ) -> Result<Reply<u64>, Fault>
-    ensures output { IfOk result (λ reply. IsLengthOf kept_number (kept_number (string_bytes kept.now)) reply.output) }
+    ensures output { IfOk result (λ reply.
+        IsLengthOf kept_number (kept_number (string_bytes kept.now)) reply.output) }
     ensures err { OnErr result (cache.new ≡ cache.old) }
 {
     let mut sink = Top::new();

@@ -80,7 +80,7 @@ fn hit_same_view<R: Clock>(
     let cells = made(Cells::new(alloc, CELLS))?;
     let mut cache: CacheData<SumMemo> = CacheData::new(alloc);
     let key = SumKey { start: 1, count };
-    let view = cells.track();
+    let view = cells.track(alloc);
     sum(alloc, &mut cache, key, &view)?;
     let watch = Stopwatch::start(rt);
     let mut all: u64 = 0;
@@ -103,11 +103,11 @@ fn hit_new_view<R: Clock>(
     let cells = made(Cells::new(alloc, CELLS))?;
     let mut cache: CacheData<SumMemo> = CacheData::new(alloc);
     let key = SumKey { start: 1, count };
-    sum(alloc, &mut cache, key, &cells.track())?;
+    sum(alloc, &mut cache, key, &cells.track(alloc))?;
     let watch = Stopwatch::start(rt);
     let mut all: u64 = 0;
     for _ in 0..operations {
-        all = all.wrapping_add(sum(alloc, &mut cache, key, &cells.track())?.output);
+        all = all.wrapping_add(sum(alloc, &mut cache, key, &cells.track(alloc))?.output);
     }
     Ok(Seen {
         nanoseconds: watch.nanoseconds(rt),
@@ -124,7 +124,7 @@ fn miss_new_keys<R: Clock>(
 ) -> Result<Seen, Fault> {
     let cells = made(Cells::new(alloc, CELLS))?;
     let mut cache: CacheData<SumMemo> = CacheData::new(alloc);
-    let view = cells.track();
+    let view = cells.track(alloc);
     let watch = Stopwatch::start(rt);
     let mut all: u64 = 0;
     for start in 0..operations {
@@ -149,7 +149,7 @@ fn miss_last_differs<R: Clock>(rt: &R, alloc: Global, operations: u64) -> Result
     let mut all: u64 = 0;
     for number in 0..operations {
         cells.set(9, number);
-        all = all.wrapping_add(sum(alloc, &mut cache, key, &cells.track())?.output);
+        all = all.wrapping_add(sum(alloc, &mut cache, key, &cells.track(alloc))?.output);
     }
     Ok(Seen {
         nanoseconds: watch.nanoseconds(rt),
@@ -169,14 +169,14 @@ fn hit_among<R: Clock>(
     let key = SumKey { start: 1, count: 1 };
     for number in 0..entries {
         cells.set(0, number);
-        sum(alloc, &mut cache, key, &cells.track())?;
+        sum(alloc, &mut cache, key, &cells.track(alloc))?;
     }
     let watch = Stopwatch::start(rt);
     let mut all: u64 = 0;
     for hit in 0..operations {
         // The kept numbers in a scattered order.
         cells.set(0, hit.wrapping_mul(7919).wrapping_add(13) % entries.max(1));
-        all = all.wrapping_add(sum(alloc, &mut cache, key, &cells.track())?.output);
+        all = all.wrapping_add(sum(alloc, &mut cache, key, &cells.track(alloc))?.output);
     }
     Ok(Seen {
         nanoseconds: watch.nanoseconds(rt),

@@ -1,6 +1,7 @@
 //! The memoized sum: a number and the first few cells.
 ghost use Rattle.std.specs.Prelude.{IfOk, OnErr, ◌≡◌, ℕ, nat_eq, slice_index};
 ghost use Rattle.std.proofs.Common.{rules};
+ghost use Rattle.comemo.specs.Meaning.{reading};
 ghost use Rattle.comemo_base.specs.Answers.{Respects, Agrees};
 ghost use Rattle.speed.specs.Sums.{sum_of, by_call, same_get, numbers};
 
@@ -29,7 +30,7 @@ impl Memo for SumMemo {
 
     type Out = u64;
 
-    ghost def = { λ key m out _. out ≡ sum_of key.start key.count (by_call m) };
+    ghost def = { reading (λ key m out. out ≡ sum_of key.start key.count (by_call m)) };
 
     ghost laws = { Prim.search rules };
 }
@@ -43,8 +44,12 @@ fn add_cells(
     recording: &mut Constraint<Get, u64>,
 ) -> Result<u64, AllocError>
     requires { Agrees nat_eq (numbers cells.old.numbers.items) recording.old.pairs }
-    ensures agrees { IfOk result (λ _. Agrees nat_eq (numbers cells.old.numbers.items) recording.new.pairs) }
-    ensures told { IfOk result (λ sum. (m : Get → ℕ) → Respects same_get nat_eq m → Agrees nat_eq m recording.new.pairs → sum ≡ sum_of key.start key.count (by_call m)) }
+    ensures agrees { IfOk result (λ _.
+        Agrees nat_eq (numbers cells.old.numbers.items) recording.new.pairs) }
+    ensures no_writes { IfOk result (λ _. recording.new.writes ≡ recording.old.writes) }
+    ensures told { IfOk result (λ sum. (m : Get → ℕ) → Respects same_get nat_eq m
+        → Agrees nat_eq m recording.new.pairs
+        → sum ≡ sum_of key.start key.count (by_call m)) }
 {
     let mut sum = key.start;
     let mut place = 0;
@@ -62,13 +67,14 @@ pub fn sum(
     key: SumKey,
     cells: &Tracked<'_, Cells>,
 ) -> Result<Reply<u64>, Fault>
-    ensures output { IfOk result (λ reply. reply.output ≡ sum_of key.start key.count (λ at. slice_index cells.now.numbers.items at)) }
+    ensures output { IfOk result (λ reply.
+        reply.output ≡ sum_of key.start key.count (λ at. slice_index cells.now.numbers.items at)) }
     ensures err { OnErr result (cache.new ≡ cache.old) }
 {
     let mut sink = Top::new();
     let mut input = Keyed {
         key,
-        view: cells.fork(),
+        view: cells.fork(alloc),
     };
     match begin(alloc, cache, &mut input, &mut sink, true)? {
         Begun::Hit(output) => Ok(Reply {
@@ -76,7 +82,7 @@ pub fn sum(
             how: How::Hit,
         }),
         Begun::Run(mut pending) => {
-            let mut view = cells.fork();
+            let mut view = cells.fork(alloc);
             let Ok(output) = add_cells(key, &mut view, pending.recording()) else {
                 pending.give_up(&mut sink);
                 return Err(Fault::Memory);

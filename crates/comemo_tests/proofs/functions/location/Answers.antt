@@ -1,18 +1,29 @@
 use Rattle.std.proofs.Common.{rules}
 use Rattle.tracking.proofs.Told.{told_answer}
-use Rattle.comemo.proofs.Calls.{gave_by_run}
+use Rattle.comemo.proofs.Calls.{reply_by_hit, reply_by_run}
 use Rattle.comemo_tests.proofs.Contexts.{same_calls}
-use Rattle.comemo_tests.proofs.Places.{same_numbers}
+use Rattle.comemo_tests.proofs.Failing.{given_up, on_reply}
+use Rattle.comemo_tests.proofs.Places.{same_numbers, same_number}
 use Rattle.comemo_tests.proofs.functions.location.Goals as goal
 
 pub returns-in-Hit-clause-output : goal.returns-in-Hit-clause-output
 returns-in-Hit-clause-output g c =
-    let hit = rw c.in-Hit.is at c.in_ok-output.ensures.begun in
+    let hit = (rw c.in-Hit.is at c.in_ok-output.ensures.hit).0 in
     rw (← c.fork.ensures) (hit.stands _ (λ x y h. search rules) hit.agrees)
 
-pub returns-in-Ok-clause-gave : goal.returns-in-Ok-clause-gave
-returns-in-Ok-clause-gave g c =
-    let run = rw (c.in-Run.is, c.fork.ensures) at c.in_ok-output.ensures.begun in
+pub returns-in-Hit-clause-reply : goal.returns-in-Hit-clause-reply
+returns-in-Hit-clause-reply g c =
+    let hit = rw c.in-Hit.is at c.in_ok-output.ensures.hit in
+    rw (← c.fork.ensures) (reply_by_hit same_calls same_numbers c.args.cache.now c.begin.new.cache hit.0 hit.1)
+
+pub returns-in-Ok-clause-reply : goal.returns-in-Ok-clause-reply
+returns-in-Ok-clause-reply g c =
+    let run = rw (c.in-Run.is, c.fork.ensures) at c.in_ok-output.ensures.run in
     let asks = rw (c.fork-view.ensures, c.recording.ensures.value) at c.in-Ok.ensures.ok in
     let t = told_answer same_calls same_numbers _ (λ x y h. search rules) _ _ _ _ (rw run.0.pairs tt) asks in
-    gave_by_run run.0 _ _ c.finish.result (λ x y h. search rules) t.agrees (rw run.2 at c.finish.ensures.gave)
+    on_reply (λ reply done. reply_by_run run.0 t.agrees (λ m r a. same_number _ _ (t.told m r a)) done) c.finish.result (rw run.3 at (rw run.2 at c.finish.ensures.finished))
+
+pub returns-in_default-clause-err : goal.returns-in_default-clause-err
+returns-in_default-clause-err g c =
+    let run = rw c.in-Run.is at c.in_ok-output.ensures.run in
+    given_up g.met.S.Sink.starts run.3 _ _ (rw run.2 at c.give_up.ensures)

@@ -1,11 +1,12 @@
 use Rattle.std.proofs.Common.{rules, refl}
 use Rattle.comemo.proofs.JoinedHits.{joined_hit}
 use Rattle.comemo_tests.proofs.Contains.{is_sum}
+use Rattle.comemo_tests.proofs.Failing.{given_up}
 use Rattle.comemo_tests.proofs.joined.locations.Goals as goal
 
 pub finish-requires : goal.finish-requires
 finish-requires g c =
-    let run = rw c.in-Run.is at c.in_ok-output.ensures.begun in
+    let run = rw c.in-Run.is at c.in_ok-output.ensures.run in
     let asks = rw c.recording.ensures.value at c.in-Ok.ensures.ok in
     let pairs = rw run.0.pairs at asks.sent.pairs in
     let asks2 = rw c.recording-in-Run.ensures.value at c.in-Ok-ask_through.ensures.ok in
@@ -14,5 +15,15 @@ finish-requires g c =
 
 pub returns-in-Hit-clause-output : goal.returns-in-Hit-clause-output
 returns-in-Hit-clause-output g c =
-    let hit = rw c.in-Hit.is at c.in_ok-output.ensures.begun in
+    let hit = (rw c.in-Hit.is at c.in_ok-output.ensures.hit).0 in
     rw (← c.fork.ensures, ← c.fork-2.ensures) (joined_hit hit (record { left = λ c d. refl; right = λ c d. refl }) (λ x y h. search rules) (λ x y h. search rules) _ _ (λ c. refl) (λ c. refl))
+
+pub returns-in_default-clause-err : goal.returns-in_default-clause-err
+returns-in_default-clause-err g c =
+    let run = rw c.in-Run.is at c.in_ok-output.ensures.run in
+    given_up g.met.S.Sink.starts run.3 _ _ (rw run.2 at c.give_up.ensures)
+
+pub returns-in_default-ask_through-clause-err : goal.returns-in_default-ask_through-clause-err
+returns-in_default-ask_through-clause-err g c =
+    let run = rw c.in-Run.is at c.in_ok-output.ensures.run in
+    given_up g.met.S.Sink.starts run.3 _ _ (rw run.2 at c.give_up-in_default-ask_through.ensures)

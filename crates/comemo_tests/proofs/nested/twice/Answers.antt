@@ -1,25 +1,41 @@
 use Rattle.std.proofs.Common.{rules, ◌+◌, ◌%◌, ◌^◌, ap}
 use Rattle.tracking.proofs.Told.{told_pairs}
-use Rattle.comemo.proofs.Calls.{gave_by_run}
-use Rattle.comemo_tests.proofs.Contexts.{same_calls}
+use Rattle.comemo.proofs.Calls.{reply_by_hit, reply_by_run}
+use Rattle.comemo_tests.specs.Cells.{field}
+use Rattle.comemo_tests.proofs.Contexts.{same_calls, respects_field}
+use Rattle.comemo_tests.proofs.Failing.{given_up, on_reply}
 use Rattle.comemo_tests.proofs.Places.{same_numbers}
 use Rattle.comemo_tests.proofs.nested.twice.Goals as goal
 
 pub returns-in-Hit-clause-output : goal.returns-in-Hit-clause-output
 returns-in-Hit-clause-output g c =
-    let hit = rw c.in-Hit.is at c.in_ok-output.ensures.begun in
+    let hit = (rw c.in-Hit.is at c.in_ok-output.ensures.hit).0 in
     rw (← c.fork.ensures) (hit.stands _ (λ x y h. search rules) hit.agrees)
+
+pub returns-in-Hit-clause-reply : goal.returns-in-Hit-clause-reply
+returns-in-Hit-clause-reply g c =
+    let hit = rw c.in-Hit.is at c.in_ok-output.ensures.hit in
+    rw (← c.fork.ensures) (reply_by_hit same_calls same_numbers c.args.cache.now c.begin.new.cache hit.0 hit.1)
 
 pub finish-requires : goal.finish-requires
 finish-requires g c =
-    let run = rw c.in-Run.is at c.in_ok-output.ensures.begun in
-    let gave = rw c.recording.ensures.value at c.in-Ok.ensures.gave in
-    let t = told_pairs same_calls same_numbers _ (λ x y h. search rules) _ _ gave.pairs gave.writes (rw run.0.pairs tt) gave.agrees gave.are_sent in
-    λ _ m r a. ap (λ n. (n + n) % 2 ^ 64) (gave.stands m r (t.told m r a))
+    let run = rw c.in-Run.is at c.in_ok-output.ensures.run in
+    let is = rw c.recording.ensures.value at c.in-Ok.ensures.reply in
+    let m = field c.args.context.now.location c.args.context.now.styles in
+    let respects = respects_field c.args.context.now.location c.args.context.now.styles in
+    let t = told_pairs same_calls same_numbers m respects _ _ is.gives.given is.writes (rw run.0.pairs tt) ((is.gives.agreeing m respects).1 is.agrees) is.gives.are_sent in
+    λ _ m r a. ap (λ n. (n + n) % 2 ^ 64) (is.stands m r ((is.gives.agreeing m r).0 (t.told m r a)))
 
-pub returns-in-Ok-clause-gave : goal.returns-in-Ok-clause-gave
-returns-in-Ok-clause-gave g c =
-    let run = rw (c.in-Run.is, c.fork.ensures) at c.in_ok-output.ensures.begun in
-    let gave = rw c.recording.ensures.value at c.in-Ok.ensures.gave in
-    let t = told_pairs same_calls same_numbers _ (λ x y h. search rules) _ _ gave.pairs gave.writes (rw run.0.pairs tt) gave.agrees gave.are_sent in
-    gave_by_run run.0 _ _ c.finish.result (λ x y h. search rules) t.agrees (rw run.2 at c.finish.ensures.gave)
+pub returns-in-Ok-clause-reply : goal.returns-in-Ok-clause-reply
+returns-in-Ok-clause-reply g c =
+    let run = rw (c.in-Run.is, c.fork.ensures) at c.in_ok-output.ensures.run in
+    let is = rw c.recording.ensures.value at c.in-Ok.ensures.reply in
+    let m = field c.args.context.now.location c.args.context.now.styles in
+    let respects = respects_field c.args.context.now.location c.args.context.now.styles in
+    let t = told_pairs same_calls same_numbers m respects _ _ is.gives.given is.writes (rw run.0.pairs tt) ((is.gives.agreeing m respects).1 is.agrees) is.gives.are_sent in
+    on_reply (λ reply done. reply_by_run run.0 t.agrees (λ m r a. ap (λ n. (n + n) % 2 ^ 64) (is.stands m r ((is.gives.agreeing m r).0 (t.told m r a)))) done) c.finish.result (rw run.3 at (rw run.2 at c.finish.ensures.finished))
+
+pub returns-in-Err-clause-err : goal.returns-in-Err-clause-err
+returns-in-Err-clause-err g c =
+    let run = rw c.in-Run.is at c.in_ok-output.ensures.run in
+    given_up g.met.S.Sink.starts run.3 _ _ (rw run.2 at c.give_up.ensures)

@@ -10,6 +10,7 @@ invariant-loop-place l = record {
   within : l.place ≤ l.key.count;
   same : l.cells ≡ l.fn.cells;
   agrees : Agrees nat_eq (numbers l.fn.cells.numbers.items) l.recording.pairs;
+  no_writes : l.recording.writes ≡ l.fn.recording.writes;
   told : (m : Get → ℕ) → Respects same_get nat_eq m → Agrees nat_eq m l.recording.pairs → l.sum ≡ sum_of l.key.start l.place (by_call m);
 }
 

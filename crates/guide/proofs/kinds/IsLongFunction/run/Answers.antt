@@ -4,4 +4,4 @@ use Rattle.guide.specs.declared.kinds.TextCall.TheVariants.{LengthPlus}
 use Rattle.guide.proofs.kinds.IsLongFunction.run.Goals as goal
 
 pub returns-clause-right : goal.returns-clause-right
-returns-clause-right c = λ m f. search (rules, told_length (m (LengthPlus 5)) c.in-Length.length (rw c.in-Length.is at c.in_ok-length.ensures.learns.told m f))
+returns-clause-right c = λ m f. search (rules, told_length (m (LengthPlus 5)) c.in-Length.length (rw c.in-Length.is at c.in_ok-length.ensures.tells.told m f))

@@ -4,4 +4,4 @@ use Rattle.guide.specs.declared.loader.LibraryCall.TheVariants.{Load}
 use Rattle.guide.proofs.loader.ContentsFunction.run.Goals as goal
 
 pub returns-clause-right : goal.returns-clause-right
-returns-clause-right g c = λ m f. search (rules, same_bytes, f.respects (Load c.in_ok-clone.field-0) (Load c.args.path.now), c.in_ok-bytes.ensures.learns.told m f)
+returns-clause-right g c = λ m f. search (rules, same_bytes, f.respects (Load c.in_ok-clone.field-0) (Load c.args.path.now), c.in_ok-bytes.ensures.tells.told m f)

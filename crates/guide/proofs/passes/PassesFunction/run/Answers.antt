@@ -2,4 +2,4 @@ use Rattle.std.proofs.Common.{rules}
 use Rattle.guide.proofs.passes.PassesFunction.run.Goals as goal
 
 pub returns-clause-right : goal.returns-clause-right
-returns-clause-right c = λ m f. search (rules, c.in_ok-degrees.ensures.learns.told m f, c.in_ok-people.ensures.learns.told m (c.in_ok-degrees.ensures.learns.before m f))
+returns-clause-right c = λ m f. search (rules, c.in_ok-degrees.ensures.tells.told m f, c.in_ok-people.ensures.tells.told m (c.in_ok-degrees.ensures.tells.before m f))

@@ -1,0 +1,40 @@
+//! A function whose run leaves its questions to a helper.
+ghost use Rattle.std.specs.Prelude.{◌≡◌, min, nat_lt};
+ghost use Rattle.std.proofs.Common.{rules};
+ghost use Rattle.comemo.specs.Function.{Tells};
+ghost use Rattle.guide.specs.declared.town.TownCall.TheVariants.{People, Degrees};
+
+use crate::town::{Town, TownCall};
+use comemo::{Fault, Function, Recorder, Told};
+
+/// How many live in a town, and how many degrees it has.
+fn people_and_degrees(town: &mut Recorder<'_, Town>) -> Result<(u64, u64), Fault>
+    ensures { Tells ⟦<Town as Told>⟧.fits town.old town.new result
+        (λ answer m. answer ≡ (m People, m Degrees)) }
+{
+    let people = town.ask(TownCall::People)?;
+    let degrees = town.ask(TownCall::Degrees)?;
+    Ok((people, degrees))
+}
+
+/// Whether a town has more than a number of both, people and degrees.
+pub struct BothPass;
+
+impl Function for BothPass {
+    type Key = u64;
+
+    type Of = Town;
+
+    type Out = bool;
+
+    type Needs = ();
+
+    ghost means = { λ n m out. out ≡ nat_lt n (min (m People) (m Degrees)) };
+
+    ghost laws = { Prim.search rules };
+
+    fn run(n: &u64, town: &mut Recorder<'_, Town>, _needs: &mut ()) -> Result<bool, Fault> {
+        let (people, degrees) = people_and_degrees(town)?;
+        Ok(people.min(degrees) > *n)
+    }
+}
