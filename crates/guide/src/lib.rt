@@ -1,4 +1,4 @@
-//! Memoized functions as a user of the library writes them: four, from the simplest to one that calls others, and those of
+//! Memoized functions as a user of the library writes them: five, from the simplest to one that calls others, and those of
 //! other kinds of arguments and answers.
 #![tactic(auto)]
 
