@@ -10,3 +10,4 @@ pub mod Closures
 pub mod Growing
 pub mod JoinedHits
 pub mod ThroughMaps
+pub mod Again

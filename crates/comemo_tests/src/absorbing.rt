@@ -13,7 +13,8 @@ fn two_reads(
     second: (u64, u64),
 ) -> Result<Constraint<Place, u64>, AllocError>
     requires { first.0 ≡ second.0 → ⊥ }
-    ensures pairs { IfOk result (λ r. r.pairs ≡ (at_place first.0, first.1) ∷ (at_place second.0, second.1) ∷ []) }
+    ensures pairs { IfOk result
+        (λ r. r.pairs ≡ (at_place first.0, first.1) ∷ (at_place second.0, second.1) ∷ []) }
     ensures whole { IfOk result (λ r. r.whole ≡ true) }
 {
     let mut recording = Constraint::new(alloc);
@@ -26,7 +27,9 @@ fn two_reads(
 ///
 /// The place that both have keeps the first answer.
 pub fn absorbed_row(alloc: Global, spoiled: bool) -> Result<Constraint<Place, u64>, AllocError>
-    ensures pairs { IfOk result (λ r. spoiled ≡ false → r.pairs ≡ (at_place 1, 1) ∷ (at_place 2, 2) ∷ (at_place 3, 3) ∷ []) }
+    ensures pairs { IfOk result
+        (λ r. spoiled ≡ false
+        → r.pairs ≡ (at_place 1, 1) ∷ (at_place 2, 2) ∷ (at_place 3, 3) ∷ []) }
     ensures whole { IfOk result (λ r. r.whole ≡ not spoiled) }
 {
     let mut left = two_reads(alloc, (1, 1), (2, 2))?;

@@ -19,7 +19,13 @@ fn sum_of(
         location: 3,
         styles,
     };
-    closed_sum(alloc, cache, &context.track(alloc), &mut Top::new(), enabled)
+    closed_sum(
+        alloc,
+        cache,
+        &context.track(alloc),
+        &mut Top::new(),
+        enabled,
+    )
 }
 
 #[test]

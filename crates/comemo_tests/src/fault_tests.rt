@@ -19,7 +19,13 @@ fn context() -> Context {
 fn told_of_closure(alloc: Global, fault: Fault) -> (Option<Fault>, bool) {
     let mut cache: CacheData<LocationMemo> = CacheData::new(alloc);
     let mut outer: Constraint<ContextCall, u64> = Constraint::new(alloc);
-    let reply = closed_fault(alloc, &mut cache, &context().track(alloc), &mut outer, fault);
+    let reply = closed_fault(
+        alloc,
+        &mut cache,
+        &context().track(alloc),
+        &mut outer,
+        fault,
+    );
     (reply.err(), outer.is_whole())
 }
 

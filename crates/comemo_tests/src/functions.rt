@@ -92,7 +92,8 @@ pub fn sum<S: Sink<Call = ContextCall, Answer = u64>>(
     sink: &mut S,
     enabled: bool,
 ) -> Result<Reply<u64>, Fault>
-    ensures output { IfOk result (λ reply. reply.output ≡ (context.now.location + context.now.styles) % 2 ^ 64) }
+    ensures output { IfOk result
+        (λ reply. reply.output ≡ (context.now.location + context.now.styles) % 2 ^ 64) }
     ensures err { OnErr result ((cache.new ≡ cache.old)
         × IsBroken (⟦<S as Breaking>⟧.breaks_off sink.old sink.new)) }
 {

@@ -22,7 +22,8 @@ pub fn send_through<M: CallMap + Drop, S: Sink<Call = M::To, Answer = M::ToAnswe
     sink: &mut S,
 ) -> Result<bool, AllocError>
     requires { M.From.is_write call ≡ false }
-    ensures ok { OnOk result (S.took sink.old sink.new ((M.maps map call, M.maps_answer map answer) ∷ []) []) }
+    ensures ok { OnOk result
+        (S.took sink.old sink.new ((M.maps map call, M.maps_answer map answer) ∷ []) []) }
     ensures err { OnErr result (S.took sink.old sink.new [] []) }
 {
     send(call, answer, &mut MappedSink::new(sink, map))
@@ -42,9 +43,17 @@ impl Memo for ContainsMemo {
 
     ghost use Rattle.comemo_tests.specs.declared.cells.ContextCall.TheVariants.{Location, Styles};
 
-    ghost def = { λ key answers out _. OnParts answers (λ _ m. out ≡ (nat_eq (m Location) key.0 || nat_eq (m Styles) key.0)) };
+    ghost def = { λ key answers out _. OnParts answers
+        (λ _ m. out ≡ (nat_eq (m Location) key.0 || nat_eq (m Styles) key.0)) };
 
-    ghost laws = { record { outputs = λ key m a b writes r d h x y p q. Prim.search (rules, h x y p q); keys = λ j k m output writes r e h x y p q. Prim.search (rules, h x y p q); key_clones = Prim.search rules; answer_clones = Prim.search rules } };
+    ghost laws = { record {
+      outputs = λ key m a b writes r d h x y p q. Prim.search
+          (rules, h x y p q);
+      keys = λ j k m output writes r e h x y p q. Prim.search
+          (rules, h x y p q);
+      key_clones = Prim.search rules;
+      answer_clones = Prim.search rules;
+    } };
 }
 
 /// Whether a number is one of a context's, kept. It asks the second one only where the first is another.
@@ -55,7 +64,9 @@ pub fn contains<S: Sink<Call = MultiCall<(), ContextCall>, Answer = MultiAnswer<
     context: &Tracked<'_, Context>,
     sink: &mut S,
 ) -> Result<Reply<bool>, Fault>
-    ensures output { IfOk result (λ reply. reply.output ≡ (nat_eq context.now.location number || nat_eq context.now.styles number)) }
+    ensures output { IfOk result
+        (λ reply. reply.output ≡
+        (nat_eq context.now.location number || nat_eq context.now.styles number)) }
     ensures err { OnErr result ((cache.new ≡ cache.old)
         × IsBroken (⟦<S as Breaking>⟧.breaks_off sink.old sink.new)) }
 {
@@ -138,9 +149,17 @@ impl Memo for LocationsMemo {
 
     ghost use Rattle.comemo_tests.specs.declared.cells.ContextCall.TheVariants.{Location};
 
-    ghost def = { λ _ answers out _. OnParts answers (λ m n. out ≡ (m Location + n Location) % 2 ^ 64) };
+    ghost def = { λ _ answers out _. OnParts answers
+        (λ m n. out ≡ (m Location + n Location) % 2 ^ 64) };
 
-    ghost laws = { record { outputs = λ key m a b writes r d h x y p q. Prim.search (rules, h x y p q); keys = λ j k m output writes r e h x y p q. Prim.search (rules, h x y p q); key_clones = Prim.search rules; answer_clones = Prim.search rules } };
+    ghost laws = { record {
+      outputs = λ key m a b writes r d h x y p q. Prim.search
+          (rules, h x y p q);
+      keys = λ j k m output writes r e h x y p q. Prim.search
+          (rules, h x y p q);
+      key_clones = Prim.search rules;
+      answer_clones = Prim.search rules;
+    } };
 }
 
 /// The sum of the locations of two contexts, kept. It asks each context once.
@@ -153,7 +172,8 @@ pub fn locations<
     second: &Tracked<'_, Context>,
     sink: &mut S,
 ) -> Result<Reply<u64>, Fault>
-    ensures output { IfOk result (λ reply. reply.output ≡ (first.now.location + second.now.location) % 2 ^ 64) }
+    ensures output { IfOk result
+        (λ reply. reply.output ≡ (first.now.location + second.now.location) % 2 ^ 64) }
     ensures err { OnErr result ((cache.new ≡ cache.old)
         × IsBroken (⟦<S as Breaking>⟧.breaks_off sink.old sink.new)) }
 {

@@ -78,7 +78,13 @@ fn ask_locations(
     first: &Context,
     second: &Context,
 ) -> Result<Reply<u64>, Fault> {
-    locations(alloc, cache, &first.track(alloc), &second.track(alloc), &mut top())
+    locations(
+        alloc,
+        cache,
+        &first.track(alloc),
+        &second.track(alloc),
+        &mut top(),
+    )
 }
 
 #[test]

@@ -3,6 +3,9 @@
 #![tactic(auto)]
 
 pub mod absorbing;
+pub mod again;
+#[cfg(test)]
+mod again_tests;
 pub mod cells;
 #[cfg(test)]
 mod closed_runs;
@@ -19,6 +22,8 @@ pub mod joined;
 #[cfg(test)]
 mod joined_runs;
 pub mod nested;
+#[cfg(test)]
+mod order_tests;
 #[cfg(test)]
 mod recordings;
 #[cfg(test)]

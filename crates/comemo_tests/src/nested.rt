@@ -40,7 +40,8 @@ pub fn twice<S: Sink<Call = ContextCall, Answer = u64>>(
     sink: &mut S,
     enabled: bool,
 ) -> Result<Reply<u64>, Fault>
-    ensures output { IfOk result (λ reply. reply.output ≡ (context.now.location + context.now.location) % 2 ^ 64) }
+    ensures output { IfOk result
+        (λ reply. reply.output ≡ (context.now.location + context.now.location) % 2 ^ 64) }
     ensures reply { IfOk result (λ reply. IsReply ⟦<TwiceMemo as Meant>⟧.meaning
         (invocation tt (⟦<Context as Track>⟧.answers context.now) enabled) cache.old cache.old
         (S.took sink.old sink.new) reply cache.new) }

@@ -110,7 +110,13 @@ fn what_is_not_enabled_is_neither_looked_up_nor_stored(rt: HostRuntime) -> Resul
         (false, How::Disabled, 1),
         (true, How::Hit, 1),
     ] {
-        let reply = sum(alloc, &mut cache, &context.track(alloc), &mut top(), enabled)?;
+        let reply = sum(
+            alloc,
+            &mut cache,
+            &context.track(alloc),
+            &mut top(),
+            enabled,
+        )?;
         expect(&rt, reply, 43, how);
         assert_eq!(rt; cache.len(), len);
     }

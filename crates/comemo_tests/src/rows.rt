@@ -37,8 +37,11 @@ fn find_zero(
     recording: &mut Constraint<Place, u64>,
 ) -> Result<u64, AllocError>
     requires { Agrees nat_eq (numbers row.old.numbers.items) recording.old.pairs }
-    ensures agrees { IfOk result (λ _. Agrees nat_eq (numbers row.old.numbers.items) recording.new.pairs) }
-    ensures told { IfOk result (λ place. (m : Place → ℕ) → Respects same_place nat_eq m → Agrees nat_eq m recording.new.pairs → IsFirstZero length (by_call m) place) }
+    ensures agrees { IfOk result
+        (λ _. Agrees nat_eq (numbers row.old.numbers.items) recording.new.pairs) }
+    ensures told { IfOk result
+        (λ place. (m : Place → ℕ) → Respects same_place nat_eq m
+        → Agrees nat_eq m recording.new.pairs → IsFirstZero length (by_call m) place) }
 {
     let mut at = 0;
     while at < length {
@@ -61,7 +64,8 @@ pub fn first_zero<S: Sink<Call = Place, Answer = u64>>(
     sink: &mut S,
     enabled: bool,
 ) -> Result<Reply<u64>, Fault>
-    ensures output { IfOk result (λ reply. IsFirstZero length (λ at. slice_index row.now.numbers.items at) reply.output) }
+    ensures output { IfOk result
+        (λ reply. IsFirstZero length (λ at. slice_index row.now.numbers.items at) reply.output) }
     ensures err { OnErr result ((cache.new ≡ cache.old)
         × IsBroken (⟦<S as Breaking>⟧.breaks_off sink.old sink.new)) }
 {
