@@ -1,6 +1,6 @@
 -- For callers: what a call that was stored says of the next one. Where answers agree with what the first call asked, the next
 -- call under an equal key is a hit; and where no entry agreed before, it finds what the first one stored.
-use Rattle.std.proofs.Common.{◌≡◌, Bool, true, false, List, [], ◌∷◌, ◌++◌, IsTrue, subst, refl, sym, ◌∙◌, inl, inr}
+use Rattle.std.proofs.Common.{◌≡◌, Bool, true, List, [], ◌∷◌, ◌++◌, IsTrue, subst, refl, sym, ◌∙◌, inl, inr}
 use Rattle.std.proofs.lemmas.Bool.{cases_Bool}
 use Rattle.std.proofs.lemmas.List.Elements.{All-head}
 use Rattle.std.proofs.lemmas.List.Sorted.{All-permutation, IsPermutation-sym}
@@ -19,7 +19,6 @@ use Rattle.comemo.specs.Cache.{Kept, Entries, IsEntryOf, HasNone}
 use Rattle.comemo.specs.Called.{IsReply}
 use Rattle.comemo.specs.Finish.{Ends, Stores}
 use Rattle.comemo.specs.declared.finish.Reply.{Reply}
-use Rattle.comemo.specs.declared.finish.How.{How}
 use Rattle.comemo.specs.declared.finish.How.TheVariants as how
 use Rattle.comemo.proofs.Entries.{All-cons, HasNone-alike}
 

@@ -4,11 +4,10 @@ use Rattle.std.specs.Cmp.{IsEquivalence}
 use Rattle.comemo_base.specs.Answers.{Respects, Agrees}
 use Rattle.tracking.specs.Recording.{Recording}
 use Rattle.comemo.specs.Begin.{PendingRun, came_to, IsHit, IsRun, IsBrokenOff}
-use Rattle.comemo.specs.Meaning.{Meaning, Invocation, Run, run}
+use Rattle.comemo.specs.Meaning.{Meaning, Invocation, run}
 use Rattle.comemo.specs.Cache.{Entries, Stands, Touches}
 use Rattle.comemo.specs.Called.{IsReply}
-use Rattle.comemo.specs.Finish.{Ends, Gives, Finished, BreaksOffRun, BrokeOff}
-use Rattle.comemo.specs.declared.finish.How.{How}
+use Rattle.comemo.specs.Finish.{Ends, Finished, BreaksOffRun, BrokeOff}
 use Rattle.comemo.specs.declared.finish.How.TheVariants as how
 use Rattle.comemo.specs.declared.finish.Reply.{Reply}
 use Rattle.comemo_base.proofs.Paths.{Agrees-same, IsSamePath-turned}

@@ -1,6 +1,6 @@
 -- What is known of an entry that was found, and of one that is stored.
-use Rattle.std.proofs.Common.{◌≡◌, zero, suc, Bool, true, false, List, [], ◌∷◌, IsTrue, subst, ◌∙◌, arith}
-use Rattle.std.specs.List.{All, Any, AllZip}
+use Rattle.std.proofs.Common.{◌≡◌, zero, suc, Bool, false, List, [], ◌∷◌, IsTrue, subst, ◌∙◌, arith}
+use Rattle.std.specs.List.{All, Any}
 use Rattle.std.specs.Cmp.{IsEquivalence}
 use Rattle.comemo_base.specs.Answers.{Respects, Agrees}
 use Rattle.comemo_base.specs.Tree.{Stored, IsSamePath}

@@ -1,5 +1,5 @@
 -- What a look-up among reads asks of an input, and what it finds.
-use Rattle.std.proofs.Common.{◌≡◌, ◌∙◌, ◌⊎◌, inl, inr, suc, Bool, false, List, [], ◌∷◌, ◌++◌, IsTrue, Option, Some, None, Result, Ok, Err, IfOk, IfErr, OnErr, option_map, sym, subst, arith}
+use Rattle.std.proofs.Common.{◌≡◌, ◌∙◌, ◌⊎◌, inl, inr, suc, Bool, false, List, [], ◌∷◌, IsTrue, Option, Some, None, Result, Ok, Err, IfOk, IfErr, OnErr, option_map, subst, arith}
 use Rattle.std.proofs.lemmas.List.Elements.{All-nil, All-push}
 use Rattle.std.specs.List.{All, Any}
 use Rattle.std.specs.Cmp.{IsEquivalence}
@@ -7,7 +7,7 @@ use Rattle.std.specs.Fn.{Mut, CalledAt}
 use Rattle.std.specs.declared.alloc.AllocError.{AllocError}
 use denote.Ref.{Bor}
 use Rattle.comemo_base.specs.Answers.{Respects, Agrees}
-use Rattle.comemo_base.specs.Tree.{Stored, IsTree, IsSamePath}
+use Rattle.comemo_base.specs.Tree.{Stored, IsTree}
 use Rattle.comemo_base.specs.Lookup.{under, IsNext, IsAsked, IsRefused, Answered, LooksUp, LooksUpPath, IsLookupRefused, FindsAgreeingPath}
 use Rattle.comemo_base.proofs.Paths.{Agrees-same, FindsAgreeing-from_asked, FindsAgreeingPath-from_asked}
 use Rattle.comemo.proofs.Entries.{All-cons, reads_same}

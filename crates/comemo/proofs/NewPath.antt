@@ -15,7 +15,7 @@ use Rattle.comemo_base.specs.Lookup.{under}
 use Rattle.std.specs.List.Sorted.{IsPermutation}
 use Rattle.comemo_base.specs.Insertion.{Has, AllAmong, Exists, Misses, IsNewPath, outside}
 use Rattle.comemo_base.proofs.Paths.{turned, joined}
-use Rattle.comemo.specs.Cache.{Kept, Entries, Stands, IsLegal}
+use Rattle.comemo.specs.Cache.{Entries, Stands, IsLegal}
 use Rattle.comemo.proofs.Entries.{All-cons}
 
 module _ {C R : Type 0} (test : C → Bool) where

@@ -1,12 +1,12 @@
 -- What a call of a function of a part gave, told as a call of the whole: its calls and answers went through a map.
-use Rattle.std.proofs.Common.{◌≡◌, ◌∙◌, Bool, true, List, [], ◌∷◌, ◌++◌, Ok, map, sym, ap, subst}
+use Rattle.std.proofs.Common.{◌≡◌, ◌∙◌, Bool, true, List, [], ◌∷◌, ◌++◌, Ok, map, ap, subst}
 use Rattle.std.proofs.lemmas.List.{map-append}
 use Rattle.std.specs.Cmp.{IsEquivalence}
 use Rattle.comemo_base.specs.Answers.{Respects, Agrees}
 use Rattle.tracking.specs.Mapped.{mapped_pairs, Through}
 use Rattle.tracking.specs.Recording.{Recording, Took}
 use Rattle.tracking.specs.Sending.{BreaksOff}
-use Rattle.comemo.specs.Meaning.{Meaning, Invocation, invocation}
+use Rattle.comemo.specs.Meaning.{invocation}
 use Rattle.comemo.specs.Cache.{Entries}
 use Rattle.comemo.specs.Called.{IsReply}
 use Rattle.comemo.specs.Finish.{BrokeOff}

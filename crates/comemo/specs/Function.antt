@@ -1,5 +1,5 @@
 -- What a memoized function of a key and a tracked value means, and what its run is told.
-use Rattle.std.specs.Prelude.{◌≡◌, Bool, true, false, IsTrue, List, [], Result, IfOk, OnOk, IfErr, refl}
+use Rattle.std.specs.Prelude.{◌≡◌, Bool, true, false, IsTrue, [], Result, IfOk, OnOk, IfErr, refl}
 use Rattle.std.specs.Coded.{Coded, code_by, coded×}
 use Rattle.comemo_base.specs.Answers.{Respects, Agrees}
 use Rattle.tracking.specs.Recording.{Recording, recording_code}

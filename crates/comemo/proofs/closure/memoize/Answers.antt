@@ -1,5 +1,4 @@
-use Rattle.std.proofs.Common.{◌≡◌, true, Ok, Err, OnErr, refl}
-use Rattle.comemo.proofs.Sendings.{on_err}
+use Rattle.std.proofs.Common.{Ok}
 use Rattle.comemo.proofs.Calls.{run_seen}
 use Rattle.comemo.proofs.Closures.{mapped, ran_from, ended, failed}
 use Rattle.comemo.proofs.closure.memoize.Goals as goal

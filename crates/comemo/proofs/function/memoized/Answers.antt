@@ -1,7 +1,6 @@
-use Rattle.std.proofs.Common.{◌≡◌, ◌∙◌, true, [], sym, subst, ap}
+use Rattle.std.proofs.Common.{◌∙◌, [], sym, subst, ap}
 use Rattle.comemo_base.specs.Answers.{Agrees}
 use Rattle.comemo.specs.Function.{Recorded}
-use Rattle.comemo.specs.Meaning.{Meaning}
 use Rattle.comemo.proofs.Sendings.{on_err, breaks_at_once}
 use Rattle.comemo.proofs.Calls.{run_seen, reply_by_hit, reply_by_run, broke_at_begin, broke_by_run}
 use Rattle.comemo.proofs.Closures.{mapped}

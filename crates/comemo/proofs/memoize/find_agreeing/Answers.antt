@@ -1,4 +1,4 @@
-use Rattle.std.proofs.Common.{rules, ◌≡◌, ◌∙◌, [], IsTrue, false, Ok, refl, sym, subst}
+use Rattle.std.proofs.Common.{rules, ◌≡◌, ◌∙◌, [], IsTrue, false, refl, sym, subst}
 use Rattle.std.specs.List.{All}
 use Rattle.comemo_base.proofs.Asked.{CanBeAsked-calls}
 use Rattle.comemo_base.proofs.Keeps.{find_keeps}

@@ -1,4 +1,4 @@
-use Rattle.std.proofs.Common.{[], refl, subst}
+use Rattle.std.proofs.Common.{refl, subst}
 use Rattle.comemo.proofs.Recorders.{called_keeps, tells_output, tells_broken, not_whole}
 use Rattle.comemo.proofs.function.Recorder.call.Goals as goal
 

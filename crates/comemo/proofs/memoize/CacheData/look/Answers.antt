@@ -1,7 +1,7 @@
-use Rattle.std.proofs.Common.{◌≡◌, ◌∙◌, [], inr, sym, ap, subst}
+use Rattle.std.proofs.Common.{◌∙◌, inr, sym, ap, subst}
 use Rattle.comemo_base.proofs.Under.{Any-from_under}
-use Rattle.comemo.specs.Meaning.{Meaning, run}
-use Rattle.comemo.specs.Cache.{Kept, IsLegal, IsEntryOf}
+use Rattle.comemo.specs.Meaning.{Meaning}
+use Rattle.comemo.specs.Cache.{Kept, IsLegal}
 use Rattle.comemo.proofs.Sendings.{on_err}
 use Rattle.comemo.proofs.Entries.{reads_same, Stands-found}
 use Rattle.comemo.proofs.memoize.CacheData.look.Goals as goal
