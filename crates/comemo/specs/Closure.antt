@@ -4,7 +4,8 @@ use Rattle.std.specs.Borrow.{MutBor}
 use Rattle.tracking.specs.Recording.{Recording}
 use Rattle.comemo.specs.Meaning.{Meaning, Invocation, run}
 use Rattle.comemo.specs.Cache.{Entries, Stands, HasNone}
-use Rattle.comemo.specs.Finish.{Ends, Gives}
+use Rattle.comemo.specs.Begin.{IsBrokenOff}
+use Rattle.comemo.specs.Finish.{Ends, Gives, BreaksOffRun}
 use Rattle.comemo.specs.declared.begin.Fault.{Fault}
 use Rattle.comemo.specs.declared.begin.Fault.TheVariants as fault
 use Rattle.comemo.specs.declared.finish.How.{How}
@@ -35,6 +36,11 @@ module _ {K C R O : Type 0} (M : Meaning K C R O) (es : Entries K C R O) (call :
       abbrev pub IsFault : Fault → Type 0
       IsFault f =
           (f ≡ fault.Memory) ⊎ ((f ≡ fault.Incomplete) × (output : O) × (t : Recording C R) × Ran (Ok output) t × (t.whole ≡ false)) ⊎ ((t : Recording C R) × Ran (Err f) t)
+
+      -- how the sink of a call that failed is left: as by a call that did not begin, so as it was where the closure failed or its
+      -- recording is spoiled; or the closure gave an output, and its recording, which is whole, was broken off
+      abbrev pub IsBroken : (List (C × R) → Type 0) → Type 0
+      IsBroken broken = IsBrokenOff M es call broken ⊎ ((output : O) × (t : Recording C R) × Ran (Ok output) t × (t.whole ≡ true) × BreaksOffRun M broken t.pairs)
 
   -- the closure, whose runs are these, ran and gave the output; its recording, which is whole, went to the sink, and became of
   -- the entries what the reply says

@@ -1,11 +1,11 @@
 //! A call of a memoized function whose run is a closure.
-ghost use Rattle.std.specs.Prelude.{◌≡◌, [], List, true, IfOk, IfErr, OnErr, Ok};
+ghost use Rattle.std.specs.Prelude.{◌≡◌, [], true, IfOk, IfErr, OnErr, Ok};
 ghost use Rattle.std.specs.Borrow.{MutBor};
 ghost use Rattle.comemo.specs.Begin.{IsHit};
 ghost use Rattle.tracking.specs.Recording.{Recording};
 ghost use Rattle.comemo.specs.Meaning.{run};
 ghost use Rattle.comemo.specs.Cache.{Stands, Touches};
-ghost use Rattle.comemo.specs.Closure.{Starts, Ran, Ended, IsFault};
+ghost use Rattle.comemo.specs.Closure.{Starts, Ran, Ended, IsFault, IsBroken};
 
 use crate::begin::{Begun, Fault, Invoked, begin};
 use crate::finish::{How, Reply};
@@ -59,8 +59,8 @@ impl<C: Call, R: Clone + Ord> Record for Constraint<C, R> {
 /// The closure gets the input and the recording that what it asks has to go to. It is called only where no entry agrees,
 /// and its output has to be right for all answers that agree with what it recorded. A fault of the closure is answered, and
 /// nothing is stored then. With `enabled` false there is no look-up, and nothing is stored. What it costs is what `begin`,
-/// the closure and `finish` cost. Every fault leaves the cache as it was and spoils the sink. A function that calls itself
-/// takes `begin` and `finish` in its place. comemo's `memoize`.
+/// the closure and `finish` cost. Every fault leaves the cache as it was and spoils the sink, to which a run that failed or
+/// is spoiled gives nothing. A function that calls itself takes `begin` and `finish` in its place. comemo's `memoize`.
 pub fn memoize<
     M: Memo,
     In: Input<Call = M::Call, Key = M::Key, Answer = M::Answer> + Drop,
@@ -97,8 +97,8 @@ pub fn memoize<
         IsFault ⟦<M as Meant>⟧.meaning cache.old (⟦<In as Invoked>⟧.invoked input enabled)
         In.did P.recorded (F.post func) input fault) }
     ensures err { OnErr result ((cache.new ≡ cache.old)
-        × (pairs : List (M.Call × M.Answer))
-        × ⟦<S as Breaking>⟧.breaks_off sink.old sink.new pairs) }
+        × IsBroken ⟦<M as Meant>⟧.meaning cache.old (⟦<In as Invoked>⟧.invoked input enabled)
+        In.did P.recorded (F.post func) input (⟦<S as Breaking>⟧.breaks_off sink.old sink.new)) }
 {
     match begin(alloc, cache, &mut input, sink, enabled)? {
         Begun::Hit(output) => Ok(Reply {

@@ -1,6 +1,7 @@
-use Rattle.std.proofs.Common.{Ok}
+use Rattle.std.proofs.Common.{Ok, [], refl}
 use Rattle.comemo.proofs.Calls.{run_seen}
-use Rattle.comemo.proofs.Closures.{mapped, ran_from, ended, failed}
+use Rattle.comemo.proofs.Closures.{mapped, ran_from, ended, failed, left_broken}
+use Rattle.comemo.proofs.Sendings.{breaks_at_once}
 use Rattle.comemo.proofs.closure.memoize.Goals as goal
 
 pub end-requires : goal.end-requires
@@ -22,3 +23,8 @@ pub returns-clause-fault : goal.returns-clause-fault
 returns-clause-fault g c =
     let run = rw c.in-Run.is at c.in_ok-output.ensures.run in
     failed run.0 g.In.Input.did g.P.Record.recorded _ c.args.input c.into_constraint.result _ c.func-ran.result (ran_from run.0 g.In.Input.did g.P.Record.recorded _ c.args.input c.into_constraint.result c.func-ran.result run.1 c.empty-recording.ensures.pairs c.empty-recording.ensures.writes c.empty-recording.ensures.whole c.func-ran.ensures c.into_constraint.ensures) c.end.result c.end.ensures.incomplete c.end.ensures.fault
+
+pub returns-clause-err : goal.returns-clause-err
+returns-clause-err g c =
+    let run = rw c.in-Run.is at c.in_ok-output.ensures.run in
+    left_broken run.0 g.In.Input.did g.P.Record.recorded _ c.args.input c.into_constraint.result _ (breaks_at_once g.met.S.Sink.starts c.args.sink.now _ []) _ c.func-ran.result (ran_from run.0 g.In.Input.did g.P.Record.recorded _ c.args.input c.into_constraint.result c.func-ran.result run.1 c.empty-recording.ensures.pairs c.empty-recording.ensures.writes c.empty-recording.ensures.whole c.func-ran.ensures c.into_constraint.ensures) c.into_constraint.result.whole refl c.end.result (rw run.2 at c.end.ensures.fault) (rw run.2 at c.end.ensures.spoils) (rw run.3 at (rw run.2 at c.end.ensures.err))
