@@ -1,4 +1,4 @@
-//! The program `calc`: commands in, one on a line, and answers out. All of it but its streams is `interpreter::start`.
+//! The program `calc`: commands in, one on a line, and answers out. All of it but its streams is `calc_sessions::start`.
 #![tactic(auto)]
 
 use std::alloc::AllocError;
@@ -36,7 +36,7 @@ fn main(rt: HostRuntime) -> ExitCode {
         return ExitCode::from(1);
     };
     let mut writer = io::writer(&rt);
-    let status = interpreter::start(
+    let status = calc_sessions::start(
         alloc,
         words.as_slice(),
         &mut reader,

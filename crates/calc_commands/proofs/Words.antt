@@ -3,7 +3,7 @@ use Rattle.std.proofs.Common.{arith, ◌≡◌, ◌≢◌, ℕ, ◌<◌, List, [
 use Rattle.std.specs.Option.{unwrap_or}
 use Rattle.std.proofs.lemmas.List.Elements.{All-from_get_or}
 use Rattle.std.proofs.lemmas.Str.Pattern.{IsSplitOnceResult, split_parts}
-use Rattle.commands.specs.Requests.{IsLineOf, write}
+use Rattle.calc_commands.specs.Requests.{IsLineOf, write}
 
 -- what `split_once` found in the line's rest, or else that rest and no text
 pub write_of : (line : List ℕ) (rest nothing : Bor (List ℕ)) (found : Option (Bor (List ℕ) × Bor (List ℕ))) (parts : Bor (List ℕ) × Bor (List ℕ)) (path text : List ℕ)

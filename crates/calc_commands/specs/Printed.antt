@@ -1,12 +1,12 @@
 -- What is printed.
 use Rattle.std.specs.Prelude.{ℕ, Bool, true, false, List, [], ◌∷◌, ◌++◌, codes, decimal, Ok, Err}
 use Rattle.std.specs.Fmt.{signed_decimal}
-use Rattle.scripts.specs.Meaning.{Value}
-use Rattle.scripts.specs.declared.outcome.CalcFault.{CalcFault}
-use Rattle.scripts.specs.declared.outcome.CalcFault.TheVariants.{NotANumber, Overflow}
-use Rattle.lines.specs.Answers.{out_of_memory}
-use Rattle.commands.specs.declared.answer.Answer.{Answer}
-use Rattle.commands.specs.declared.answer.Answer.TheVariants as answer
+use Rattle.calc_scripts.specs.Meaning.{Value}
+use Rattle.calc_scripts.specs.declared.outcome.CalcFault.{CalcFault}
+use Rattle.calc_scripts.specs.declared.outcome.CalcFault.TheVariants.{NotANumber, Overflow}
+use Rattle.calc_lines.specs.Answers.{out_of_memory}
+use Rattle.calc_commands.specs.declared.answer.Answer.{Answer}
+use Rattle.calc_commands.specs.declared.answer.Answer.TheVariants as answer
 
 -- what stands before a value: whether it was found in a cache
 abbrev pub found : Bool → List ℕ

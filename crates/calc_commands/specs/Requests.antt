@@ -1,7 +1,7 @@
 -- The lines that are commands.
 use Rattle.std.specs.Prelude.{◌≡◌, ◌≢◌, ◌⊎◌, ℕ, ◌<◌, List, [], ◌∷◌, ◌++◌, length, All, codes, string_bytes}
-use Rattle.commands.specs.declared.command.Command.{Command}
-use Rattle.commands.specs.declared.command.Command.TheVariants.{Write, Eval, Size}
+use Rattle.calc_commands.specs.declared.command.Command.{Command}
+use Rattle.calc_commands.specs.declared.command.Command.TheVariants.{Write, Eval, Size}
 
 -- what a line asks for, at paths and texts as bytes
 pub data Request : Type 0 where

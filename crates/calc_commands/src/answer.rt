@@ -1,11 +1,11 @@
 //! What a command is answered, and how that is printed.
 ghost use Rattle.std.specs.Prelude.{◌≡◌, ◌≢◌, ◌++◌, ◌∷◌, [], IfOk, OnErr, string_bytes};
-ghost use Rattle.commands.specs.Printed.{printed, found as found_text, value_text as text_of_value, fault_text as text_of_fault};
+ghost use Rattle.calc_commands.specs.Printed.{printed, found as found_text, value_text as text_of_value, fault_text as text_of_fault};
 
-use scripts::CalcFault;
+use calc_scripts::CalcFault;
 use std::alloc::{AllocError, Global};
 
-/// What a session answers to a command.
+/// What a session answers to a command. It holds no memory.
 #[derive(Clone, Copy, Debug, PartialEq, Eq)]
 pub enum Answer {
     /// The text was written.
@@ -13,18 +13,23 @@ pub enum Answer {
     /// The script has this value, by a kept output (`hit`) or by a run; `kept` says that the run is in the cache
     /// afterwards.
     Value {
+        /// Whether the value is a kept output.
         hit: bool,
+        /// Whether the run is in the cache afterwards; so it is after every hit. It is not printed.
         kept: bool,
+        /// The script's number, or why it has none.
         value: Result<i32, CalcFault>,
     },
     /// The file has so many bytes, by a kept output (`hit`) or by a run.
     Size {
+        /// Whether the size is a kept output.
         hit: bool,
+        /// The length of the file's text in bytes.
         bytes: u64,
     },
-    /// The script goes deeper than the session's limit.
+    /// The script goes deeper than the session's limit, or never ends.
     TooDeep,
-    /// There was no memory for the command.
+    /// There was no memory for the command, which changed no file.
     Memory,
 }
 
@@ -38,7 +43,8 @@ fn found(hit: bool) -> &'static str
 impl Answer {
     /// What the answer prints, with its line's end; nothing where it is `Written`.
     ///
-    /// An error says that there was no memory for the text; `Written`, which prints nothing, takes none.
+    /// An error says that there was no memory for the text, a line of at most 26 bytes; `Written`, which prints
+    /// nothing, takes none.
     pub fn text(&self, alloc: Global) -> Result<String, AllocError>
         ensures ok { IfOk result (λ text. string_bytes text ≡ printed self.now) }
         ensures err { OnErr result (self.now ≢ Answer.Written) }

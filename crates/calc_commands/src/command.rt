@@ -1,10 +1,10 @@
 //! What a line asks for.
 ghost use Rattle.std.specs.Prelude.{IfOk, MatchOption};
-ghost use Rattle.commands.specs.Requests.{IsLineOf, IsNoCommand, request_of};
+ghost use Rattle.calc_commands.specs.Requests.{IsLineOf, IsNoCommand, request_of};
 
 use std::alloc::{AllocError, Global};
 
-/// A command to a session.
+/// A command to a session. It owns its texts: to clone it copies them.
 #[derive(Clone, Drop, Debug, PartialEq, Eq)]
 pub enum Command {
     /// Writes a text to the file at a path: the path, then the text.
@@ -18,9 +18,10 @@ pub enum Command {
 impl Command {
     /// The command that a line asks for, or `None` where it asks for nothing. The line comes without its end.
     ///
-    /// `write PATH TEXT` has as PATH all up to the next blank, at least one character, and as TEXT all after that blank,
-    /// which is empty where there is none. `eval SCRIPT` and `size PATH` have all after their first blank, which may be
-    /// nothing. An error says that there was no memory for its texts. It takes time for the line's length.
+    /// `write PATH TEXT` has as PATH all up to the next blank, at least one character, and as TEXT all after that
+    /// blank, which is empty where there is none. `eval SCRIPT` and `size PATH` have all after their first blank, which
+    /// may be nothing. An error says that there was no memory for its texts. It takes time for the line's length, and
+    /// memory for the texts, which are copied.
     pub fn parse(alloc: Global, line: &str) -> Result<Option<Command>, AllocError>
         ensures { IfOk result (λ found. MatchOption found (IsNoCommand line.now)
             (λ command. IsLineOf line.now (request_of command))) }

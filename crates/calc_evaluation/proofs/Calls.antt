@@ -6,17 +6,17 @@ use Rattle.comemo.specs.Begin.{PendingRun, IsRun}
 use Rattle.comemo.specs.Meaning.{Run, run}
 use Rattle.comemo.specs.Called.{Grows}
 use Rattle.comemo.specs.Finish.{Ends}
-use Rattle.comemo.specs.declared.finish.Reply.{Reply}
+use Rattle.comemo.specs.declared.pending.Reply.{Reply}
 use Rattle.comemo.proofs.Growing.{grows_not, grows_by_touch, grows_on, grows_by_ends}
-use Rattle.scripts.specs.Calls.{CallLeads, is_hit, is_run, PartLeads, no_call, one_call, PartsLead, at_end, at_number, at_overflow, at_fault, CallFails, is_refused, is_broken, has_no_end, PartFails, not_read, failed_call, PartsFail, at_this, after_number}
-use Rattle.scripts.specs.declared.outcome.Outcome.{Outcome}
-use Rattle.interpreter.specs.declared.files.Files.{Files}
-use Rattle.interpreter.specs.Files.{JoinedCall, JoinedAnswer, answers_of}
-use Rattle.interpreter.specs.Joined.{with_files}
-use Rattle.interpreter.specs.Evaluations.{At, ComesTo, Outcomes, evaluating}
-use Rattle.interpreter.specs.Calls.{Missed, RunEnded, moves, EvalReply}
-use Rattle.interpreter.proofs.Evaluations.{script_given}
-use Rattle.interpreter.proofs.FileCalls.{key_bytes}
+use Rattle.calc_scripts.specs.Calls.{CallLeads, is_hit, is_run, PartLeads, no_call, one_call, PartsLead, at_end, at_number, at_overflow, at_fault, CallFails, is_refused, is_broken, has_no_end, PartFails, not_read, failed_call, PartsFail, at_this, after_number}
+use Rattle.calc_scripts.specs.declared.outcome.Outcome.{Outcome}
+use Rattle.calc_files.specs.declared.files.Files.{Files}
+use Rattle.calc_files.specs.Files.{JoinedCall, JoinedAnswer, answers_of}
+use Rattle.calc_files.specs.Joined.{with_files}
+use Rattle.calc_evaluation.specs.Evaluations.{At, ComesTo, Outcomes, evaluating}
+use Rattle.calc_evaluation.specs.Calls.{Missed, RunEnded, moves, EvalReply}
+use Rattle.calc_evaluation.proofs.Evaluations.{script_given}
+use Rattle.calc_files.proofs.FileCalls.{key_bytes}
 
 -- calls of scripts lose no entry
 module _ (files : Files) where

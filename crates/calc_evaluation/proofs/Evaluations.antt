@@ -2,7 +2,7 @@
 use Rattle.std.proofs.Common.{◌≡◌, ◌≤◌, Bool, true, IsTrue, ℕ, List, [], ◌++◌, Result, Ok, Err, IsErrAnd, OnErr, ◌∙◌, ◌↔◌, ◌≢◌, String, string_bytes, string_eq, refl, sym, ap, subst, append-nil}
 use Rattle.std.specs.Bool.{⊤}
 use Rattle.std.specs.Global.{Global}
-use Rattle.comemo_base.specs.Answers.{Respects, Agrees}
+use Rattle.comemo.specs.Answers.{Respects, Agrees}
 use Rattle.comemo.specs.Function.{Learns}
 use Rattle.comemo.specs.Called.{IsReply}
 use Rattle.comemo.specs.Finish.{BrokeOff}
@@ -10,37 +10,26 @@ use Rattle.comemo.specs.Mapped.{Through}
 use Rattle.comemo.specs.Multi.{second_call, second_answer}
 use Rattle.comemo.specs.Recording.{Recording, Took}
 use Rattle.comemo.specs.Sending.{Asks, BreaksOff}
-use Rattle.comemo.specs.declared.finish.Reply.{Reply}
-use Rattle.tracking.proofs.KeyedViews.{keyed_calls, keyed_answers, respects_with_key}
-use Rattle.tracking.proofs.Through.{asked_through}
-use Rattle.tracking.proofs.Told.{ToldAnswer, told_answer, Told, told_pairs}
-use Rattle.scripts.specs.Meaning.{Deep, IsTooDeep, is_eval}
-use Rattle.scripts.specs.Parts.{IsEval}
-use Rattle.scripts.proofs.Meanings.{means_map, deep_map, deep_is_too_deep}
-use Rattle.scripts.specs.declared.outcome.Outcome.{Outcome}
-use Rattle.interpreter.specs.declared.files.Files.{Files}
-use Rattle.interpreter.specs.Files.{JoinedCall, JoinedAnswer, OnFiles, Reads, texts_of, with_key, text_at, answers_of}
-use Rattle.interpreter.specs.declared.evaluation.EvalFault.{EvalFault}
-use Rattle.interpreter.specs.declared.evaluation.EvalFault.TheVariants.{TooDeep, Memory}
-use Rattle.interpreter.specs.Evaluations.{At, ComesTo, PartComesTo, FilesFit, IsOutcome, Outcomes, evaluating}
-use Rattle.interpreter.specs.declared.files.FileCall.{FileCall}
-use Rattle.interpreter.specs.declared.files.FileCall.TheVariants.{Read}
-use Rattle.interpreter.proofs.FileCalls.{same_bytes, answers_alike}
-use Rattle.interpreter.specs.Joined.{same_call, same_answer, same_key, with_files}
-use Rattle.interpreter.proofs.FileCalls.{key_bytes}
-use Rattle.interpreter.proofs.JoinedCalls.{tests}
-
--- what a key joined with files answers tells no equal calls apart
-pub files_respect : (files : Files) → Respects same_call same_answer (with_key (answers_of files))
-files_respect files = respects_with_key tests (answers_of files) (answers_alike files)
-
--- files fit what has no pair
-pub files_fit_none : (files : Files) (s : Recording JoinedCall JoinedAnswer) → s.whole ≡ true → s.pairs ≡ [] → FilesFit files s
-files_fit_none files s whole none = record {
-  whole = whole;
-  respects = files_respect files;
-  agrees = subst (λ ps. Agrees same_answer (with_key (answers_of files)) ps) (sym none) tt;
-}
+use Rattle.comemo.specs.declared.pending.Reply.{Reply}
+use Rattle.comemo.proofs.KeyedViews.{keyed_calls, keyed_answers, respects_with_key}
+use Rattle.comemo.proofs.Through.{asked_through}
+use Rattle.comemo.proofs.Telling.{ToldAnswer, told_answer, Told, told_pairs}
+use Rattle.calc_scripts.specs.Meaning.{Deep, IsTooDeep, is_eval}
+use Rattle.calc_scripts.specs.Parts.{IsEval}
+use Rattle.calc_scripts.proofs.Meanings.{means_map, deep_map, deep_is_too_deep}
+use Rattle.calc_scripts.specs.declared.outcome.Outcome.{Outcome}
+use Rattle.calc_files.specs.declared.files.Files.{Files}
+use Rattle.calc_files.specs.Files.{JoinedCall, JoinedAnswer, OnFiles, Reads, texts_of, with_key, text_at, answers_of}
+use Rattle.calc_evaluation.specs.declared.evaluation.EvalFault.{EvalFault}
+use Rattle.calc_evaluation.specs.declared.evaluation.EvalFault.TheVariants.{TooDeep, Memory}
+use Rattle.calc_evaluation.specs.Evaluations.{At, ComesTo, PartComesTo, IsOutcome, Outcomes, evaluating}
+use Rattle.calc_files.specs.Joined.{FilesFit}
+use Rattle.calc_files.specs.declared.files.FileCall.{FileCall}
+use Rattle.calc_files.specs.declared.files.FileCall.TheVariants.{Read}
+use Rattle.calc_files.proofs.WhatReadsTell.{files_respect}
+use Rattle.calc_files.specs.Joined.{same_call, same_answer, same_key, with_files}
+use Rattle.calc_files.proofs.FileCalls.{key_bytes}
+use Rattle.calc_files.proofs.JoinedCalls.{tests}
 
 -- what was learnt before is still known, and what is learnt in the end is this
 pub learns_on : {s t u : Recording JoinedCall JoinedAnswer} {P Q R : (JoinedCall → JoinedAnswer) → Type 0} → Learns same_call same_answer s t P → Learns same_call same_answer t u Q → ((m : JoinedCall → JoinedAnswer) → P m → Q m → R m) → Learns same_call same_answer s u R
@@ -60,30 +49,6 @@ of_files files learns fits = learns.told (with_key (answers_of files)) fits (ans
 -- nothing was recorded, and P holds whatever is answered
 pub learns_nothing : (s : Recording JoinedCall JoinedAnswer) {P : (JoinedCall → JoinedAnswer) → Type 0} → ((m : JoinedCall → JoinedAnswer) → P m) → Learns same_call same_answer s s P
 learns_nothing s p = record { before = λ m f. f; told = λ m f. p m }
-
-module _ (files : Files) {s t : Recording JoinedCall JoinedAnswer} {own text : String Global} (asks : Asks string_eq (answers_of files) (Read own) text (Through second_call second_answer (Took same_call s t))) where
-  pub asked : Asks same_answer (with_key (answers_of files)) (second_call (Read own)) (second_answer text) (Took same_call s t)
-  asked = asked_through same_answer second_call second_answer (answers_of files) (with_key (answers_of files)) (Read own) text refl (λ x y. refl) asks
-
-  read : Agrees same_answer (with_key (answers_of files)) s.pairs → ToldAnswer same_call same_answer (with_key (answers_of files)) s.pairs (second_call (Read own)) (second_answer text) t.pairs
-  read agrees = told_answer (keyed_calls tests) (keyed_answers tests) (with_key (answers_of files)) (files_respect files) s t (second_call (Read own)) (second_answer text) agrees asked
-
-  -- the files fit a recording of what was read of them
-  pub fits_read : FilesFit files s → FilesFit files t
-  fits_read fits = record { whole = asked.sent.whole ∙ fits.whole; respects = fits.respects; agrees = (read fits.agrees).agrees }
-
-  -- what was read is what is answered to the read
-  pub learns_read : FilesFit files s → Learns same_call same_answer s t (OnFiles (λ n. string_bytes (n (Read own)) ≡ string_bytes text))
-  learns_read fits = record {
-    before = λ m f. record { whole = sym asked.sent.whole ∙ f.whole; respects = f.respects; agrees = (read fits.agrees).before m f.respects f.agrees };
-    told = λ m f part second. same_bytes (part (Read own)) text (subst (λ a. IsTrue (same_answer a (second_answer text))) (second (Read own)) ((read fits.agrees).told m f.respects f.agrees));
-  }
-
-  pub writes_read : t.writes ≡ s.writes
-  writes_read = asked.sent.writes ∙ append-nil s.writes
-
-  pub text_read : string_bytes (answers_of files (Read own)) ≡ string_bytes text
-  text_read = same_bytes (answers_of files (Read own)) text asks.gives
 
 -- what a call of a script gave a recording
 module _ (files : Files) {t u : Recording JoinedCall JoinedAnswer} {key : String Global} {es mid es' : Outcomes} {reply : Reply Outcome} (replied : IsReply evaluating (with_files key files) es mid (Took same_call t u) reply es') where
@@ -150,19 +115,3 @@ pub exact_at_fault : {A : Type 0} (files : Files) {script : List ℕ} {limit : �
 exact_at_fault files (Ok x) f is deep no_memory = absurd is
 exact_at_fault files (Err TooDeep) f is deep no_memory = (λ _. too_deep files (deep (sym is)), λ _. refl)
 exact_at_fault files (Err Memory) f is deep no_memory = absurd (no_memory refl)
-
-pub on_err : {A E P : Type 0} (r : Result A E) → P → OnErr r P
-on_err (Ok x) p = tt
-on_err (Err e) p = p
-
--- a sink that took pairs which the answers agree with, and no write, and then was spoiled, was broken off after them
-pub broke_after : {S C R : Type 0} {took : S → S → List (C × R) → List C → Type 0} {spoils : S → S → Type 0} (same : R → R → Bool) (m : C → R) (s mid t : S) (pairs : List (C × R)) (writes : List C) → Agrees same m pairs → writes ≡ [] → took s mid pairs writes → spoils mid t → BrokeOff same m (BreaksOff took spoils s t)
-broke_after {took = took} same m s mid t pairs writes agrees none taken spoiled = record {
-  pairs = pairs;
-  agrees = agrees;
-  is_broken = record { front = pairs; rest = []; parts = sym (append-nil pairs); mid = mid; taken = subst (λ ws. took s mid pairs ws) none taken; spoiled = spoiled };
-}
-
--- one that was spoiled as it was took nothing
-pub broke_at_once : {S C R : Type 0} {took : S → S → List (C × R) → List C → Type 0} {spoils : S → S → Type 0} → ((s : S) → took s s [] []) → (same : R → R → Bool) (m : C → R) (s t : S) → spoils s t → BrokeOff same m (BreaksOff took spoils s t)
-broke_at_once starts same m s t spoiled = broke_after same m s s t [] [] tt refl (starts s) spoiled

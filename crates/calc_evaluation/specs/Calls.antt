@@ -1,20 +1,20 @@
 -- What a call of a script replies, and how it moves what a cache of outcomes keeps, with the scripts that its run calls.
 use Rattle.std.specs.Prelude.{◌≡◌, ◌≢◌, ⊤, ℕ, List, IsTrue, String, string_bytes}
 use Rattle.std.specs.Global.{Global}
-use Rattle.comemo_base.specs.Answers.{Agrees}
+use Rattle.comemo.specs.Answers.{Agrees}
 use Rattle.comemo.specs.Meaning.{Run}
 use Rattle.comemo.specs.Cache.{Stands, HasNone, Touches}
 use Rattle.comemo.specs.Called.{IsReply, CameByHit}
 use Rattle.comemo.specs.Finish.{Ends}
-use Rattle.comemo.specs.declared.finish.How.{How}
-use Rattle.comemo.specs.declared.finish.How.TheVariants as how
-use Rattle.comemo.specs.declared.finish.Reply.{Reply}
-use Rattle.scripts.specs.Calls.{Moves, RunLeads}
-use Rattle.scripts.specs.declared.outcome.Outcome.{Outcome}
-use Rattle.interpreter.specs.declared.files.Files.{Files}
-use Rattle.interpreter.specs.Files.{JoinedCall, JoinedAnswer, answers_of, with_key}
-use Rattle.interpreter.specs.Joined.{same_answer, same_key, with_files}
-use Rattle.interpreter.specs.Evaluations.{At, ComesTo, Outcomes, evaluating}
+use Rattle.comemo.specs.declared.pending.How.{How}
+use Rattle.comemo.specs.declared.pending.How.TheVariants as how
+use Rattle.comemo.specs.declared.pending.Reply.{Reply}
+use Rattle.calc_scripts.specs.Calls.{Moves, RunLeads}
+use Rattle.calc_scripts.specs.declared.outcome.Outcome.{Outcome}
+use Rattle.calc_files.specs.declared.files.Files.{Files}
+use Rattle.calc_files.specs.Files.{JoinedCall, JoinedAnswer, answers_of, with_key}
+use Rattle.calc_files.specs.Joined.{same_answer, same_key, with_files}
+use Rattle.calc_evaluation.specs.Evaluations.{At, ComesTo, Outcomes, evaluating}
 
 module _ (files : Files) (script : List ℕ) where
   -- an entry of es under the script agrees with the files, its outcome is what the script comes to, and it was touched

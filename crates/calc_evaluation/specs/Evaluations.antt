@@ -2,17 +2,15 @@
 use Rattle.std.specs.Prelude.{◌≡◌, ⊤, ℕ, List, String, string_bytes}
 use Rattle.std.specs.Global.{Global}
 use Rattle.comemo.specs.Cache.{Entries}
-use Rattle.comemo.specs.Function.{Fits}
 use Rattle.comemo.specs.Meaning.{Meaning, reading}
-use Rattle.comemo.specs.Recording.{Recording}
-use Rattle.scripts.specs.Meaning.{Means, PartMeans, Deep}
-use Rattle.scripts.specs.Parts.{IsEval}
-use Rattle.scripts.specs.declared.outcome.Outcome.{Outcome}
-use Rattle.interpreter.specs.declared.files.Files.{Files}
-use Rattle.interpreter.specs.Files.{JoinedCall, JoinedAnswer, OnFiles, answers_of, with_key}
-use Rattle.interpreter.specs.Joined.{same_call, same_answer, joined}
-use Rattle.interpreter.specs.declared.files.FileCall.{FileCall}
-use Rattle.interpreter.specs.declared.files.FileCall.TheVariants.{Read}
+use Rattle.calc_scripts.specs.Meaning.{Means, PartMeans, Deep}
+use Rattle.calc_scripts.specs.Parts.{IsEval}
+use Rattle.calc_scripts.specs.declared.outcome.Outcome.{Outcome}
+use Rattle.calc_files.specs.declared.files.Files.{Files}
+use Rattle.calc_files.specs.Files.{JoinedCall, JoinedAnswer, OnFiles, answers_of, with_key}
+use Rattle.calc_files.specs.Joined.{same_call, same_answer, joined}
+use Rattle.calc_files.specs.declared.files.FileCall.{FileCall}
+use Rattle.calc_files.specs.declared.files.FileCall.TheVariants.{Read}
 
 -- the text at a path is what is answered when that path is read
 abbrev pub At : (FileCall → String Global) → List ℕ → List ℕ → Type 0
@@ -29,10 +27,6 @@ PartComesTo m part outcome = PartMeans (At m) part outcome.value outcome.height
 -- the part calls a script that goes deeper than the limit
 abbrev pub CallsDeep : (FileCall → String Global) → List ℕ → ℕ → Type 0
 CallsDeep m part limit = (path text : List ℕ) × IsEval part path × At m path text × Deep (At m) text limit
-
--- what is recorded is whole, and agrees with the files
-abbrev pub FilesFit : Files → Recording JoinedCall JoinedAnswer → Type 0
-FilesFit files recording = Fits same_call same_answer recording (with_key (answers_of files))
 
 -- what the memoized function means: there are no writes, and the script comes to the outcome, at the files' answers alone
 abbrev pub IsOutcome : String Global × ⊤ → (JoinedCall → JoinedAnswer) → Outcome → List JoinedCall → Type 0

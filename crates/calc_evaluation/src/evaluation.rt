@@ -9,25 +9,26 @@ ghost use Rattle.comemo.specs.Begin.{IsRun};
 ghost use Rattle.comemo.specs.Begun.{OnBegun};
 ghost use Rattle.comemo.specs.Called.{IsReply};
 ghost use Rattle.comemo.specs.Finish.{BrokeOff};
-ghost use Rattle.scripts.specs.Kinds.{IsPart};
-ghost use Rattle.scripts.specs.Meaning.{Deep, IsTooDeep};
-ghost use Rattle.scripts.specs.Calls.{CallLeads, CallFails, PartLeads, PartFails, RunLeads, RunFails};
-ghost use Rattle.interpreter.specs.Joined.{same_call, same_answer, with_files};
-ghost use Rattle.interpreter.specs.Files.{OnFiles, Reads, texts_of, answers_of, with_key};
-ghost use Rattle.interpreter.specs.Evaluations.{At, ComesTo, PartComesTo, CallsDeep, FilesFit, IsOutcome, evaluating};
-ghost use Rattle.interpreter.specs.Calls.{moves, EvalReply};
+ghost use Rattle.calc_scripts.specs.Kinds.{IsPart};
+ghost use Rattle.calc_scripts.specs.Meaning.{Deep, IsTooDeep};
+ghost use Rattle.calc_scripts.specs.Calls.{CallLeads, CallFails, PartLeads, PartFails, RunLeads, RunFails};
+ghost use Rattle.calc_files.specs.Joined.{same_call, same_answer, with_files};
+ghost use Rattle.calc_files.specs.Files.{OnFiles, Reads, texts_of, answers_of, with_key};
+ghost use Rattle.calc_evaluation.specs.Evaluations.{At, ComesTo, PartComesTo, CallsDeep, IsOutcome, evaluating};
+ghost use Rattle.calc_files.specs.Joined.{FilesFit};
+ghost use Rattle.calc_evaluation.specs.Calls.{moves, EvalReply};
 
-use crate::files::{FileCall, Files, JoinedAnswer, JoinedCall};
-use comemo::begin::begin;
+use calc_files::{FileCall, Files, JoinedAnswer, JoinedCall};
+use calc_scripts::{CalcFault, Outcome, Part, Parts, Total};
 use comemo::{
-    Begun, CacheData, Constraint, Hashed, How, Memo, Multi, MultiAnswer, MultiCall, Reply, Sink,
-    Tracked,
+    Begun, Breaking, CacheData, Constraint, Hashed, How, Memo, Multi, MultiAnswer, MultiCall,
+    Reply, Sink, Tracked, begin,
 };
-use scripts::{CalcFault, Outcome, Part, Parts, Total};
 use std::alloc::Global;
-use tracking::Breaking;
 
-/// What a script comes to.
+/// What a script comes to: what the cache of `evaluate` is the cache of, as `CacheData<Eval>`.
+///
+/// Its key is the script's text, which is joined with the files; its calls are reads of files.
 pub struct Eval;
 
 impl Memo for Eval {
@@ -49,10 +50,10 @@ impl Memo for Eval {
     } };
 }
 
-/// Why a script was not evaluated.
+/// Why a script was not evaluated. Each fault spoils the sink.
 #[derive(Clone, Copy, Debug, PartialEq, Eq)]
 pub enum EvalFault {
-    /// The script goes deeper than the limit.
+    /// The script goes deeper than the limit, or never ends.
     TooDeep,
     /// There was no memory.
     Memory,
@@ -235,9 +236,14 @@ fn evaluate_within(
 
 /// What a script comes to, kept under the script and what was read of the files.
 ///
-/// Each script that a run calls is a call too, in the same cache and in the turn of its part: a hit there, or a run, which
-/// is kept. `TooDeep` comes exactly where the script is higher than the limit or never ends, on a hit as on a run; `Memory`
-/// says that there was no memory. Both spoil the sink; what was kept on the way stays.
+/// Each script that a run calls is a call too, in the same cache and in the turn of its part: a hit there, or a run,
+/// which is kept. `TooDeep` comes exactly where the script is higher than the limit or never ends, on a hit as on a
+/// run; `Memory` says that there was no memory. Both spoil the sink; what was kept on the way stays.
+///
+/// Each call, a nested one and a hit too, finds the script by one hash look-up, and follows one stored path: it finds
+/// the text of each file on it by binary search among the texts that are kept at its place. It copies the script, and
+/// the text of each such file. Runs nest on the stack, at most `limit` of them. comemo's example `calc` has `evaluate`
+/// with neither a limit nor faults.
 pub fn evaluate<S: Sink<Call = JoinedCall, Answer = JoinedAnswer>>(
     alloc: Global,
     cache: &mut CacheData<Eval>,

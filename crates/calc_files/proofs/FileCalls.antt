@@ -2,11 +2,11 @@
 use Rattle.std.proofs.Common.{◌≡◌, ◌&&◌, true, IsTrue, String, string_bytes, string_eq, rules}
 use Rattle.std.specs.Cmp.{IsEquivalence}
 use Rattle.std.specs.Global.{Global}
-use Rattle.comemo_base.specs.Answers.{Respects}
-use Rattle.interpreter.specs.declared.files.Files.{Files}
-use Rattle.interpreter.specs.Files.{answers_of}
-use Rattle.interpreter.specs.declared.files.FileCall.TheVariants.{Read}
-use Rattle.interpreter.specs.contracts.files.FileCallPartialEq.TheImpl.{ghosts}
+use Rattle.comemo.specs.Answers.{Respects}
+use Rattle.calc_files.specs.declared.files.Files.{Files}
+use Rattle.calc_files.specs.Files.{answers_of}
+use Rattle.calc_files.specs.declared.files.FileCall.TheVariants.{Read}
+use Rattle.calc_files.specs.contracts.files.FileCallPartialEq.TheImpl.{ghosts}
 
 pub same_bytes : (a b : String Global) → IsTrue (string_eq a b) → string_bytes a ≡ string_bytes b
 same_bytes a b h = search rules

@@ -1,8 +1,8 @@
 -- The calls of a key joined with files are told apart by their paths, and the answers by their texts.
 use Rattle.std.proofs.Common.{refl}
-use Rattle.tracking.proofs.KeyedViews.{KeyedTests}
-use Rattle.interpreter.specs.Joined.{same_call, same_answer}
-use Rattle.interpreter.proofs.FileCalls.{same_calls, same_texts}
+use Rattle.comemo.proofs.KeyedViews.{KeyedTests}
+use Rattle.calc_files.specs.Joined.{same_call, same_answer}
+use Rattle.calc_files.proofs.FileCalls.{same_calls, same_texts}
 
 pub tests : KeyedTests same_call same_answer
 tests = record {

@@ -2,8 +2,8 @@
 use Rattle.std.proofs.Common.{◌≡◌, ◌∙◌, ℕ, true, List, [], ◌∷◌, Result, Ok, Err, IfOk, OnErr, refl, subst, inr, String, string_bytes, string_eq, length, sym, ap}
 use Rattle.std.specs.Bool.{⊤}
 use Rattle.std.specs.Global.{Global}
-use Rattle.comemo_base.specs.Answers.{Respects, Agrees}
-use Rattle.comemo_base.specs.Sequence.{absorbed}
+use Rattle.comemo.specs.Answers.{Respects, Agrees}
+use Rattle.comemo.specs.Sequence.{absorbed}
 use Rattle.comemo.specs.Begin.{PendingRun, IsHit, IsRun}
 use Rattle.comemo.specs.Cache.{Stands, Touches}
 use Rattle.comemo.specs.Meaning.{run as came}
@@ -12,20 +12,20 @@ use Rattle.comemo.specs.Mapped.{Through}
 use Rattle.comemo.specs.Multi.{second_call, second_answer}
 use Rattle.comemo.specs.Recording.{Recording, Took}
 use Rattle.comemo.specs.Sending.{Asks}
-use Rattle.comemo.specs.declared.finish.How.TheVariants as how
-use Rattle.comemo.specs.declared.finish.Reply.{Reply}
+use Rattle.comemo.specs.declared.pending.How.TheVariants as how
+use Rattle.comemo.specs.declared.pending.Reply.{Reply}
 use Rattle.comemo.proofs.Calls.{recorded, reply_by_hit, stands_at_call}
-use Rattle.tracking.proofs.KeyedViews.{keyed_calls, keyed_answers}
-use Rattle.tracking.specs.MultiLaws.{second_respects}
-use Rattle.interpreter.specs.declared.files.Files.{Files}
-use Rattle.interpreter.specs.declared.files.FileCall.TheVariants.{Read}
-use Rattle.interpreter.specs.Files.{JoinedCall, JoinedAnswer, text_at, answers_of}
-use Rattle.interpreter.specs.Joined.{same_call, same_answer, with_files}
-use Rattle.interpreter.specs.Evaluations.{FilesFit}
-use Rattle.interpreter.specs.Size.{IsSizeOf, ReadsAlone, SizeReply, Sizes, sizing}
-use Rattle.interpreter.proofs.Evaluations.{files_fit_none, fits_read, learns_read, writes_read, text_read}
-use Rattle.interpreter.proofs.FileCalls.{same_bytes, same_text, key_bytes}
-use Rattle.interpreter.proofs.JoinedCalls.{tests}
+use Rattle.comemo.proofs.KeyedViews.{keyed_calls, keyed_answers}
+use Rattle.comemo.specs.MultiLaws.{second_respects}
+use Rattle.calc_files.specs.declared.files.Files.{Files}
+use Rattle.calc_files.specs.declared.files.FileCall.TheVariants.{Read}
+use Rattle.calc_files.specs.Files.{JoinedCall, JoinedAnswer, text_at, answers_of}
+use Rattle.calc_files.specs.Joined.{same_call, same_answer, with_files}
+use Rattle.calc_files.specs.Joined.{FilesFit}
+use Rattle.calc_files.specs.Size.{IsSizeOf, ReadsAlone, SizeReply, Sizes, sizing}
+use Rattle.calc_files.proofs.WhatReadsTell.{files_fit_none, fits_read, learns_read, writes_read, text_read}
+use Rattle.calc_files.proofs.FileCalls.{same_bytes, same_text, key_bytes}
+use Rattle.calc_files.proofs.JoinedCalls.{tests}
 
 module _ (files : Files) {own text : String Global} {s t : Recording JoinedCall JoinedAnswer} (asks : Asks string_eq (answers_of files) (Read own) text (Through second_call second_answer (Took same_call s t))) (whole : s.whole ≡ true) (none : s.pairs ≡ []) where
   -- the files fit what a run has recorded that read one text

@@ -4,11 +4,11 @@ use Rattle.std.specs.Global.{Global}
 use Rattle.std.specs.HashMap.{get_by_text}
 use Rattle.comemo.specs.Function.{OnPart}
 use Rattle.comemo.specs.Multi.{part_answers, second_call, second_answer}
-use Rattle.tracking.specs.declared.multi.MultiCall.{MultiCall}
-use Rattle.tracking.specs.declared.multi.MultiAnswer.{MultiAnswer}
-use Rattle.interpreter.specs.declared.files.Files.{Files}
-use Rattle.interpreter.specs.declared.files.FileCall.{FileCall}
-use Rattle.interpreter.specs.declared.files.FileCall.TheVariants.{Read}
+use Rattle.comemo_track.specs.declared.multi.MultiCall.{MultiCall}
+use Rattle.comemo_track.specs.declared.multi.MultiAnswer.{MultiAnswer}
+use Rattle.calc_files.specs.declared.files.Files.{Files}
+use Rattle.calc_files.specs.declared.files.FileCall.{FileCall}
+use Rattle.calc_files.specs.declared.files.FileCall.TheVariants.{Read}
 
 -- the text of the file at a path; a file that was never written has the text of a missing one
 abbrev pub text_at : Files → List ℕ → String Global

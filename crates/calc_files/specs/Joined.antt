@@ -5,14 +5,16 @@ use Rattle.std.specs.contracts.prelude.UnitPartialEq.TheImpl as unit
 use Rattle.std.specs.contracts.string.String as string
 use Rattle.std.specs.contracts.alloc.Global as global
 use Rattle.std.specs.contracts.impls.GlobalAllocator.TheImpl as allocator
-use Rattle.tracking.specs.contracts.multi.MultiCallPartialEq.TheImpl as multi_call
-use Rattle.tracking.specs.contracts.multi.MultiAnswerPartialEq.TheImpl as multi_answer
+use Rattle.comemo_track.specs.contracts.multi.MultiCallPartialEq.TheImpl as multi_call
+use Rattle.comemo_track.specs.contracts.multi.MultiAnswerPartialEq.TheImpl as multi_answer
 use Rattle.comemo.specs.Meaning.{Meaning, Invocation, invocation}
+use Rattle.comemo.specs.Function.{Fits}
 use Rattle.comemo.specs.Multi.{by_part}
-use Rattle.interpreter.specs.declared.files.Files.{Files}
-use Rattle.interpreter.specs.contracts.files.FileCall as file_call
-use Rattle.interpreter.specs.contracts.files.FileCallPartialEq.TheImpl as call
-use Rattle.interpreter.specs.Files.{JoinedCall, JoinedAnswer, answers_of, with_key}
+use Rattle.comemo.specs.Recording.{Recording}
+use Rattle.calc_files.specs.declared.files.Files.{Files}
+use Rattle.calc_files.specs.contracts.files.FileCall as file_call
+use Rattle.calc_files.specs.contracts.files.FileCallPartialEq.TheImpl as call
+use Rattle.calc_files.specs.Files.{JoinedCall, JoinedAnswer, answers_of, with_key}
 
 -- the derived tests of joined calls, of their answers, and of keys
 abbrev pub same_call : JoinedCall → JoinedCall → Bool
@@ -31,3 +33,7 @@ joined def = record { same_call = same_call; same_answer = same_answer; same_key
 -- its call at a text and these files
 abbrev pub with_files : String Global → Files → Invocation (String Global × ⊤) JoinedCall JoinedAnswer
 with_files key files = invocation (key, tt) (with_key (answers_of files)) true
+
+-- what is recorded is whole, and agrees with the files
+abbrev pub FilesFit : Files → Recording JoinedCall JoinedAnswer → Type 0
+FilesFit files recording = Fits same_call same_answer recording (with_key (answers_of files))

@@ -5,13 +5,13 @@ use Rattle.comemo.specs.Cache.{Entries}
 use Rattle.comemo.specs.Meaning.{Meaning, reading}
 use Rattle.comemo.specs.Called.{IsReply}
 use Rattle.comemo.specs.Multi.{second_call, second_answer}
-use Rattle.comemo.specs.declared.finish.How.TheVariants as how
-use Rattle.comemo.specs.declared.finish.Reply.{Reply}
-use Rattle.interpreter.specs.declared.files.Files.{Files}
-use Rattle.interpreter.specs.Files.{JoinedCall, JoinedAnswer, OnFiles}
-use Rattle.interpreter.specs.Joined.{joined, with_files}
-use Rattle.interpreter.specs.declared.files.FileCall.{FileCall}
-use Rattle.interpreter.specs.declared.files.FileCall.TheVariants.{Read}
+use Rattle.comemo.specs.declared.pending.How.TheVariants as how
+use Rattle.comemo.specs.declared.pending.Reply.{Reply}
+use Rattle.calc_files.specs.declared.files.Files.{Files}
+use Rattle.calc_files.specs.Files.{JoinedCall, JoinedAnswer, OnFiles}
+use Rattle.calc_files.specs.Joined.{joined, with_files}
+use Rattle.calc_files.specs.declared.files.FileCall.{FileCall}
+use Rattle.calc_files.specs.declared.files.FileCall.TheVariants.{Read}
 
 -- the length in bytes of what is answered for the path
 abbrev pub IsSize : String Global → (FileCall → String Global) → ℕ → Type 0

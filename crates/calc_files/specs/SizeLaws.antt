@@ -3,11 +3,11 @@ use Rattle.std.proofs.Common.{◌≡◌, ◌∙◌, IsTrue, ℕ, String, string_
 use Rattle.std.specs.Bool.{⊤}
 use Rattle.std.specs.Global.{Global}
 use Rattle.comemo.specs.MultiLaws.{second_respects}
-use Rattle.comemo_base.specs.Answers.{Respects}
-use Rattle.interpreter.specs.Files.{JoinedCall, JoinedAnswer, OnFiles}
-use Rattle.interpreter.specs.Joined.{same_call, same_answer, same_key}
-use Rattle.interpreter.specs.Size.{IsSize}
-use Rattle.interpreter.specs.declared.files.FileCall.TheVariants.{Read}
+use Rattle.comemo.specs.Answers.{Respects}
+use Rattle.calc_files.specs.Files.{JoinedCall, JoinedAnswer, OnFiles}
+use Rattle.calc_files.specs.Joined.{same_call, same_answer, same_key}
+use Rattle.calc_files.specs.Size.{IsSize}
+use Rattle.calc_files.specs.declared.files.FileCall.TheVariants.{Read}
 
 -- a key is a path and nothing more
 pub size_alike : (j k : String Global × ⊤) (m : JoinedCall → JoinedAnswer) (out : ℕ) → Respects same_call same_answer m → IsTrue (same_key j k) → OnFiles (λ n. IsSize j.0 n out) m → OnFiles (λ n. IsSize k.0 n out) m

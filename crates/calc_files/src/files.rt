@@ -5,14 +5,14 @@ ghost use Rattle.std.specs.Global.{Global};
 ghost use Rattle.comemo.specs.Sending.{Asks};
 ghost use Rattle.comemo.specs.Mapped.{Through};
 ghost use Rattle.comemo.specs.Multi.{second_call, second_answer};
-ghost use Rattle.interpreter.specs.declared.files.FileCall.TheVariants.{Read};
+ghost use Rattle.calc_files.specs.declared.files.FileCall.TheVariants.{Read};
 
 use comemo::{Call, MultiAnswer, MultiCall, Second, Sink, Track, Tracked};
 use std::alloc::{AllocError, Global};
 use std::collections::HashMap;
 use std::hash::Hash;
 
-/// A call to the files.
+/// A call to the files. Each is a read, and to clone it copies its path.
 #[derive(Clone, Drop, Debug, PartialEq, Eq, Hash)]
 pub enum FileCall {
     /// The text of the file at a path.
@@ -38,6 +38,9 @@ impl Call for FileCall {
 }
 
 /// Files in memory: a text for each path. A file that was never written is empty.
+///
+/// As a tracked value it answers each read with a copy of the text, and refuses only where there is no memory for that.
+/// Paths are told apart by their bytes alone. comemo's example `calc` has `Files`, whose paths are `PathBuf`s.
 #[derive(Drop)]
 pub struct Files {
     texts: HashMap<String, String>,
@@ -46,7 +49,7 @@ pub struct Files {
 }
 
 impl Files {
-    ghost use Rattle.interpreter.specs.Files.{text_at, answers_of};
+    ghost use Rattle.calc_files.specs.Files.{text_at, answers_of};
 
     /// No files. It takes no memory.
     pub fn new(alloc: Global) -> Self
@@ -68,7 +71,11 @@ impl Files {
         }
     }
 
-    /// Writes a text to the file at a path. An error says that there was no memory; then the files are as they were.
+    /// Writes a text to the file at a path, in the place of any text before it.
+    ///
+    /// An error says that there was no memory; then the files are as they were, and the path and the text are gone. It
+    /// copies neither; beside the time to hash the path it takes constant expected time, over many writes. `write` of
+    /// `Files` in comemo's example `calc`.
     pub fn write(&mut self, path: String, text: String) -> Result<(), AllocError>
         ensures ok { OnOk result ((q : List ℕ) → text_at self.new q
             ≡ (if bytes_eq q (string_bytes path) then text else text_at self.old q)) }
@@ -81,7 +88,10 @@ impl Files {
     }
 
     /// The text of the file at a path, asked of a view, into a recording of a key joined with the files.
-    pub(crate) fn read<S: Sink<Call = JoinedCall, Answer = JoinedAnswer>>(
+    ///
+    /// It copies the path, and the text once for the caller and once for the sink. An error says that there was no
+    /// memory for those or in the sink; then the sink is as it was. `read` of `Files` in comemo's example `calc`.
+    pub fn read<S: Sink<Call = JoinedCall, Answer = JoinedAnswer>>(
         alloc: Global,
         view: &Tracked<'_, Files>,
         path: &str,
@@ -102,7 +112,7 @@ impl Track for Files {
 
     type Answer = String;
 
-    ghost use Rattle.interpreter.specs.Files.{answers_of};
+    ghost use Rattle.calc_files.specs.Files.{answers_of};
 
     ghost answers = { answers_of };
 

@@ -2,20 +2,20 @@
 ghost use Rattle.std.specs.Prelude.{◌≡◌, string_bytes, length, IfOk, IfErr, OnErr};
 ghost use Rattle.std.proofs.Common.{rules};
 ghost use Rattle.comemo.specs.Finish.{BrokeOff};
-ghost use Rattle.interpreter.specs.Size.{IsSizeOf, SizeReply};
-ghost use Rattle.interpreter.specs.Joined.{same_answer};
-ghost use Rattle.interpreter.specs.Files.{text_at, answers_of, with_key};
+ghost use Rattle.calc_files.specs.Size.{IsSizeOf, SizeReply};
+ghost use Rattle.calc_files.specs.Joined.{same_answer};
+ghost use Rattle.calc_files.specs.Files.{text_at, answers_of, with_key};
 
 use crate::files::{FileCall, Files, JoinedAnswer, JoinedCall};
-use comemo::begin::begin;
 use comemo::{
-    Begun, CacheData, Fault, Hashed, How, Memo, Multi, MultiAnswer, MultiCall, Pending, Reply,
-    Sink, Tracked,
+    Begun, Breaking, CacheData, Fault, Hashed, How, Memo, Multi, MultiAnswer, MultiCall, Pending,
+    Reply, Sink, Tracked, begin,
 };
 use std::alloc::Global;
-use tracking::Breaking;
 
-/// How many bytes the file at a path has.
+/// How many bytes the file at a path has: what the cache of `size` is the cache of, as `CacheData<FileSize>`.
+///
+/// Its key is a path, which is joined with the files; a run's one call is the read of that path.
 pub struct FileSize;
 
 impl Memo for FileSize {
@@ -27,7 +27,7 @@ impl Memo for FileSize {
 
     type Out = u64;
 
-    ghost use Rattle.interpreter.specs.SizeLaws.{size_alike};
+    ghost use Rattle.calc_files.specs.SizeLaws.{size_alike};
 
     ghost def = { IsSizeOf };
 
@@ -42,7 +42,9 @@ impl Memo for FileSize {
 /// How many bytes the file at a path has, kept under the path and what was read.
 ///
 /// The size is that of the present text, on a hit as on a miss. `Memory` says that there was no memory for the answer:
-/// then the cache is as it was, and the sink is spoiled. A hit costs one look-up and a comparison of the texts.
+/// then the cache is as it was, and the sink is spoiled. A call, a hit too, finds the path by one hash look-up, and the
+/// text by binary search among those kept under the path; it takes memory for some copies of the path and the text. A
+/// run that is stored keeps the text, and the path where none was kept under it.
 pub fn size<S: Sink<Call = JoinedCall, Answer = JoinedAnswer>>(
     alloc: Global,
     cache: &mut CacheData<FileSize>,

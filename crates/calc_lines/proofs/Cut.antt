@@ -9,7 +9,7 @@ use Rattle.std.specs.Io.KnownBytes.{Consumes}
 use Rattle.std.specs.Io.BufRead.{first_line, drop_through, take_through, strip_last, ends_with_byte, DropsThrough}
 use Rattle.std.proofs.KnownBytes.{Consumes-nil}
 use Rattle.std.proofs.Transfers.{All-of_StopsAt}
-use Rattle.lines.specs.Lines.{FirstLines, no_line, last_line, one_line, HasNoLineFeed, TakesLines, without_line_end}
+use Rattle.calc_lines.specs.Lines.{FirstLines, no_line, last_line, one_line, HasNoLineFeed, TakesLines, without_line_end}
 
 -- the first line feed of these bytes, or none
 abbrev Cut : List ℕ → Type 0

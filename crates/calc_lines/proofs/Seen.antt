@@ -1,10 +1,10 @@
 -- What a session answers, seen through a function of its states.
 use Rattle.std.proofs.Common.{ℕ, List, Option, Result, Ok, Err}
-use Rattle.lines.specs.Answers.{Answered, no_line, empty_line, answered, refused}
-use Rattle.lines.specs.Runs.{AnswersFront, Ran}
-use Rattle.lines.specs.Started.{RanAs}
-use Rattle.lines.specs.declared.fault.RunFault.{RunFault}
-use Rattle.lines.specs.declared.fault.RunFault.TheVariants.{Read, Write, Memory, NotText}
+use Rattle.calc_lines.specs.Answers.{Answered, no_line, empty_line, answered, refused}
+use Rattle.calc_lines.specs.Runs.{AnswersFront, Ran}
+use Rattle.calc_lines.specs.Started.{RanAs}
+use Rattle.calc_lines.specs.declared.fault.RunFault.{RunFault}
+use Rattle.calc_lines.specs.declared.fault.RunFault.TheVariants.{Read, Write, Memory, NotText}
 
 module _ {S T : Type 0} (f : S → T) (answers : S → List ℕ → List ℕ → S → Type 0) (refuses : S → List ℕ → S → Type 0) (answers' : T → List ℕ → List ℕ → T → Type 0) (refuses' : T → List ℕ → T → Type 0)
     (one : (s : S) (line text : List ℕ) (t : S) → answers s line text t → answers' (f s) line text (f t)) (none : (s : S) (line : List ℕ) (t : S) → refuses s line t → refuses' (f s) line (f t)) where

@@ -2,13 +2,13 @@
 use Rattle.std.proofs.Common.{◌≡◌, ℕ, ◌<◌, List, [], ◌∷◌, ◌++◌, length, Option, Some, None, Result, Ok, Err, IfSome, MatchResult, IsErrAnd, IsUtf8, subst, sym, ap, append-nil, append_assoc}
 use Rattle.std.specs.Io.KnownBytes.{Appends}
 use Rattle.std.proofs.KnownBytes.{Appends-nil, Appends-trans}
-use Rattle.lines.specs.declared.fault.RunFault.{RunFault}
-use Rattle.lines.specs.Lines.{TakesLines}
-use Rattle.lines.specs.Lines.{no_line as ends}
-use Rattle.lines.specs.Answers.{Answered, answered, refused, empty_line, no_line, out_of_memory}
-use Rattle.lines.specs.Written.{AnswersLine, WritesBeginning}
-use Rattle.lines.specs.Runs.{AnswersFront}
-use Rattle.lines.proofs.Cut.{more_lines}
+use Rattle.calc_lines.specs.declared.fault.RunFault.{RunFault}
+use Rattle.calc_lines.specs.Lines.{TakesLines}
+use Rattle.calc_lines.specs.Lines.{no_line as ends}
+use Rattle.calc_lines.specs.Answers.{Answered, answered, refused, empty_line, no_line, out_of_memory}
+use Rattle.calc_lines.specs.Written.{AnswersLine, WritesBeginning}
+use Rattle.calc_lines.specs.Runs.{AnswersFront}
+use Rattle.calc_lines.proofs.Cut.{more_lines}
 
 takes_none : (input : Option (List ℕ)) → TakesLines input [] input
 takes_none None = tt

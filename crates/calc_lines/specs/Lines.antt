@@ -2,8 +2,8 @@
 use Rattle.std.specs.Prelude.{◌≡◌, ◌≢◌, ℕ, ◌<◌, List, [], ◌∷◌, ◌++◌, length, All, Option, None, Some, IfSome, if◌then◌else◌}
 use Rattle.std.specs.Io.BufRead.{strip_last, ends_with_byte}
 use Rattle.std.specs.Io.KnownBytes.{Consumes}
-use Rattle.lines.specs.declared.fault.RunFault.{RunFault}
-use Rattle.lines.specs.declared.fault.RunFault.TheVariants.{Read, Write, Memory, NotText}
+use Rattle.calc_lines.specs.declared.fault.RunFault.{RunFault}
+use Rattle.calc_lines.specs.declared.fault.RunFault.TheVariants.{Read, Write, Memory, NotText}
 
 -- no line feed is among these bytes
 abbrev pub HasNoLineFeed : List ℕ → Type 0

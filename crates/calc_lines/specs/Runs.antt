@@ -1,11 +1,11 @@
 -- What a run read and wrote, and where it left the session, by how it ended.
 use Rattle.std.specs.Prelude.{ℕ, List, [], ◌∷◌, Option, Result, Ok, Err, IsUtf8}
 use Rattle.std.specs.Io.KnownBytes.{Appends}
-use Rattle.lines.specs.Lines.{TakesLines, BeginsLine, MeetsEnd}
-use Rattle.lines.specs.Answers.{Answered}
-use Rattle.lines.specs.Written.{WritesBeginning}
-use Rattle.lines.specs.declared.fault.RunFault.{RunFault}
-use Rattle.lines.specs.declared.fault.RunFault.TheVariants.{Read, Write, Memory, NotText}
+use Rattle.calc_lines.specs.Lines.{TakesLines, BeginsLine, MeetsEnd}
+use Rattle.calc_lines.specs.Answers.{Answered}
+use Rattle.calc_lines.specs.Written.{WritesBeginning}
+use Rattle.calc_lines.specs.declared.fault.RunFault.{RunFault}
+use Rattle.calc_lines.specs.declared.fault.RunFault.TheVariants.{Read, Write, Memory, NotText}
 
 -- the lines that were taken of the input, up to this rest, led the session from s to t, and what they print was written
 abbrev pub AnswersFront : {S : Type 0} → (S → List ℕ → List ℕ → S → Type 0) → (S → List ℕ → S → Type 0)

@@ -1,9 +1,9 @@
 -- What a program's start does: its status and its message.
 use Rattle.std.specs.Prelude.{◌≡◌, ℕ, List, [], ◌++◌, take, Option, Result, Ok, Err, codes}
 use Rattle.std.specs.Io.KnownBytes.{Appends}
-use Rattle.lines.specs.Runs.{Ran}
-use Rattle.lines.specs.declared.fault.RunFault.{RunFault}
-use Rattle.lines.specs.declared.fault.RunFault.TheVariants.{Read, Write, Memory, NotText}
+use Rattle.calc_lines.specs.Runs.{Ran}
+use Rattle.calc_lines.specs.declared.fault.RunFault.{RunFault}
+use Rattle.calc_lines.specs.declared.fault.RunFault.TheVariants.{Read, Write, Memory, NotText}
 
 -- what the message of a fault says after the program's name
 abbrev pub fault_text : RunFault → List ℕ

@@ -1,8 +1,8 @@
 -- What a broken off write leaves, and what one line writes.
 use Rattle.std.specs.Prelude.{ℕ, ◌<◌, List, [], ◌∷◌, length, take, Option, Result, Ok, Err}
 use Rattle.std.specs.Io.KnownBytes.{Appends}
-use Rattle.lines.specs.Answers.{Answered}
-use Rattle.lines.specs.declared.fault.RunFault.{RunFault}
+use Rattle.calc_lines.specs.Answers.{Answered}
+use Rattle.calc_lines.specs.declared.fault.RunFault.{RunFault}
 
 -- known bytes grow by a beginning of these, and not by all
 abbrev pub WritesBeginning : Option (List ℕ) → Option (List ℕ) → List ℕ → Type 0

@@ -1,6 +1,6 @@
 ghost use Rattle.std.specs.Prelude.{◌≡◌, ◌≢◌, [], ◌∷◌, IfOk, IfErr, OnErr, IfSome, IfNone};
 ghost use Rattle.std.specs.Io.BufRead.{ends_with_byte};
-ghost use Rattle.lines.specs.Lines.{without_line_end, TakesLines, BeginsLine, MeetsEnd, IsReadFault};
+ghost use Rattle.calc_lines.specs.Lines.{without_line_end, TakesLines, BeginsLine, MeetsEnd, IsReadFault};
 
 use crate::RunFault;
 use std::alloc::Global;

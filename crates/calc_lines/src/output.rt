@@ -1,6 +1,6 @@
 ghost use Rattle.std.specs.Prelude.{◌≡◌, ℕ, ◌<◌, ◌≤◌, length, take, IfOk, IfErr, MatchResult};
 ghost use Rattle.std.specs.Io.KnownBytes.{Appends, WriteAppends};
-ghost use Rattle.lines.specs.Written.{WritesBeginning};
+ghost use Rattle.calc_lines.specs.Written.{WritesBeginning};
 
 use crate::RunFault;
 use std::io::{ErrorKind, Write};

@@ -1,6 +1,6 @@
 ghost use Rattle.std.specs.Prelude.{◌≡◌, ℕ, ◌<◌, ◌++◌, length, OnOk};
 ghost use Rattle.std.specs.Io.KnownBytes.{Appends};
-ghost use Rattle.lines.specs.Started.{WritesFront, RanAs, fault_text, usage_of};
+ghost use Rattle.calc_lines.specs.Started.{WritesFront, RanAs, fault_text, usage_of};
 
 use crate::output::put;
 use crate::{RunFault, Session, run};

@@ -1,6 +1,6 @@
 ghost use Rattle.std.specs.Prelude.{◌≡◌, IfErr};
-ghost use Rattle.lines.specs.Runs.{Ran};
-ghost use Rattle.lines.specs.Written.{AnswersLine};
+ghost use Rattle.calc_lines.specs.Runs.{Ran};
+ghost use Rattle.calc_lines.specs.Written.{AnswersLine};
 
 use crate::input::next_line;
 use crate::output::put;

@@ -3,6 +3,8 @@ ghost use Rattle.std.specs.Prelude.{ℕ, List, IfOk, OnErr, string_bytes};
 use std::alloc::AllocError;
 
 /// What a line program knows and does: its state between two lines, and its answer to a line.
+///
+/// An implementation says by `answers` what a line may print, and by `refuses` what stands where there was no memory.
 pub trait Session {
     // The session may print this text for this line, and is then in this state.
     ghost answers: { Self → List ℕ → List ℕ → Self → Type 0 };

@@ -1,13 +1,13 @@
 -- How the calls of a script add up while a loop takes its parts from the left.
 use Rattle.std.proofs.Common.{◌≡◌, ℕ, max, List, [], ◌∷◌, ℤ, pos, ◌+ℤ◌, Ok, Err, refl, sym, subst}
-use Rattle.scripts.specs.Parts.{parts}
-use Rattle.scripts.specs.Meaning.{Value, Fits, PartMeans, Takes, ends, adds, overflows, fails}
-use Rattle.scripts.specs.Calls.{Moves, CallLeads, is_hit, is_run, PartLeads, no_call, one_call, PartsLead, at_end, at_number, at_overflow, at_fault, RunLeads, PartFails, PartsFail, at_this, after_number, RunFails}
-use Rattle.scripts.specs.declared.outcome.CalcFault.{CalcFault}
-use Rattle.scripts.specs.declared.outcome.CalcFault.TheVariants.{Overflow}
-use Rattle.scripts.proofs.Meanings.{same_path, ok_is, ok_is_no_err, one_part_meaning}
-use Rattle.scripts.specs.Taken.{Taken}
-use Rattle.scripts.specs.Totals.{IsAdded}
+use Rattle.calc_scripts.specs.Parts.{parts}
+use Rattle.calc_scripts.specs.Meaning.{Value, Fits, PartMeans, Takes, ends, adds, overflows, fails}
+use Rattle.calc_scripts.specs.Calls.{Moves, CallLeads, is_hit, is_run, PartLeads, no_call, one_call, PartsLead, at_end, at_number, at_overflow, at_fault, RunLeads, PartFails, PartsFail, at_this, after_number, RunFails}
+use Rattle.calc_scripts.specs.declared.outcome.CalcFault.{CalcFault}
+use Rattle.calc_scripts.specs.declared.outcome.CalcFault.TheVariants.{Overflow}
+use Rattle.calc_scripts.proofs.Meanings.{same_path, ok_is, ok_is_no_err, one_part_meaning}
+use Rattle.calc_scripts.specs.Taken.{Taken}
+use Rattle.calc_scripts.specs.Totals.{IsAdded}
 
 module _ (At : List ℕ → List ℕ → Type 0) {S : Type 0} (move : Moves S) where
   -- in a run of a script that began at s, these parts are left after this was taken, which led to m: where they lead, the run leads

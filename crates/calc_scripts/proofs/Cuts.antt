@@ -6,7 +6,7 @@ use Rattle.std.specs.List.{after_first}
 use Rattle.std.proofs.lemmas.List.Splits.{slice_split_first, slice_split_none}
 use Rattle.std.proofs.lemmas.List.Sums.{fails_before_first}
 use Rattle.std.proofs.lemmas.Str.Pattern.{IsSplitOnceResult, split_once_first}
-use Rattle.scripts.specs.Parts.{parts}
+use Rattle.calc_scripts.specs.Parts.{parts}
 
 -- where a `+` was found, the first part stands before it, and the others after it
 pub parts_first : (bs : List ℕ) (found : Bor (List ℕ) × Bor (List ℕ)) → IsSplitOnceResult 43 bs (Some found) → parts bs ≡ trim found.0.now ∷ parts found.1.now

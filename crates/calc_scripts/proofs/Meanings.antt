@@ -3,9 +3,9 @@ use Rattle.std.proofs.Common.{arith, ◌≡◌, ℕ, zero, suc, ◌≤◌, ◌<�
 use Rattle.std.specs.Prelude.{codes}
 use Rattle.std.proofs.lemmas.Bool.{cases_lt}
 use Rattle.std.proofs.lemmas.List.{append_cancel_left}
-use Rattle.scripts.specs.Parts.{IsEval}
-use Rattle.scripts.specs.declared.outcome.CalcFault.{CalcFault}
-use Rattle.scripts.specs.Meaning.{Value, Fits, Means, means, PartMeans, is_number, is_bad, is_eval, Takes, ends, adds, overflows, fails, Deep, no_room, below, DeepIn, here, later, IsTooDeep}
+use Rattle.calc_scripts.specs.Parts.{IsEval}
+use Rattle.calc_scripts.specs.declared.outcome.CalcFault.{CalcFault}
+use Rattle.calc_scripts.specs.Meaning.{Value, Fits, Means, means, PartMeans, is_number, is_bad, is_eval, Takes, ends, adds, overflows, fails, Deep, no_room, below, DeepIn, here, later, IsTooDeep}
 
 -- more knowledge keeps every meaning
 module _ (At Bt : List ℕ → List ℕ → Type 0) (more : (path text : List ℕ) → At path text → Bt path text) where

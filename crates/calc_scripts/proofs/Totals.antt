@@ -1,11 +1,11 @@
 -- How the parts of a script are taken one after the other: what one part adds, and what all come to.
 use Rattle.std.proofs.Common.{◌≡◌, ℕ, suc, ◌+◌, ◌-◌, ◌<◌, arith, add-one, max, List, [], ◌∷◌, ℤ, pos, Ok, Err, w32, FitsSigned, to_z, of_z, sym, subst, ◌∙◌}
 use Rattle.std.proofs.lemmas.Int.{to_z-of_z}
-use Rattle.scripts.specs.Parts.{parts, IsEval, IsNumber}
-use Rattle.scripts.specs.declared.outcome.CalcFault.{CalcFault}
-use Rattle.scripts.specs.Meaning.{Value, Means, means, PartMeans, is_number, Takes, ends, adds, overflows, fails, Deep, below, DeepIn, here, later}
-use Rattle.scripts.specs.Taken.{Taken}
-use Rattle.scripts.specs.Totals.{IsAdded, value_at}
+use Rattle.calc_scripts.specs.Parts.{parts, IsEval, IsNumber}
+use Rattle.calc_scripts.specs.declared.outcome.CalcFault.{CalcFault}
+use Rattle.calc_scripts.specs.Meaning.{Value, Means, means, PartMeans, is_number, Takes, ends, adds, overflows, fails, Deep, below, DeepIn, here, later}
+use Rattle.calc_scripts.specs.Taken.{Taken}
+use Rattle.calc_scripts.specs.Totals.{IsAdded, value_at}
 
 module _ (At : List ℕ → List ℕ → Type 0) where
   -- a part that is a number, as an `i32` holds it

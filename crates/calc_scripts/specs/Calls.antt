@@ -1,8 +1,8 @@
 -- How calls of scripts move a state, such as what a cache keeps, each in the turn in which the parts of a script are taken.
 use Rattle.std.specs.Prelude.{ℕ, List, [], ◌∷◌, ℤ, pos, ◌+ℤ◌, Ok, Err}
-use Rattle.scripts.specs.Parts.{parts, IsEval, IsNoEval}
-use Rattle.scripts.specs.Meaning.{Fits, PartMeans}
-use Rattle.scripts.specs.declared.outcome.CalcFault.{CalcFault}
+use Rattle.calc_scripts.specs.Parts.{parts, IsEval, IsNoEval}
+use Rattle.calc_scripts.specs.Meaning.{Fits, PartMeans}
+use Rattle.calc_scripts.specs.declared.outcome.CalcFault.{CalcFault}
 
 -- what a call of a script does by itself, the calls that its run makes aside
 pub record Moves (S : Type 0) : Type 1 where

@@ -1,8 +1,8 @@
 -- What a `Part` says of the bytes of a part.
 use Rattle.std.specs.Prelude.{ℕ, List}
-use Rattle.scripts.specs.declared.part.Part.{Part}
-use Rattle.scripts.specs.declared.part.Part.TheVariants.{Eval, Number, Bad}
-use Rattle.scripts.specs.Parts.{IsEval, IsNumber, IsBad}
+use Rattle.calc_scripts.specs.declared.part.Part.{Part}
+use Rattle.calc_scripts.specs.declared.part.Part.TheVariants.{Eval, Number, Bad}
+use Rattle.calc_scripts.specs.Parts.{IsEval, IsNumber, IsBad}
 
 abbrev pub IsPart : List ℕ → Part → Type 0
 IsPart bytes (Eval path) = IsEval bytes path.now

@@ -1,9 +1,9 @@
 -- What a script means, where it is known which text stands at each path.
 use Rattle.std.specs.Prelude.{ℕ, zero, suc, ◌≤◌, max, List, [], ◌∷◌, ℤ, pos, ◌+ℤ◌, FitsSigned, Result, Ok, Err}
 use Rattle.std.specs.Int.{w32}
-use Rattle.scripts.specs.Parts.{parts, IsEval, IsNumber, IsBad}
-use Rattle.scripts.specs.declared.outcome.CalcFault.{CalcFault}
-use Rattle.scripts.specs.declared.outcome.CalcFault.TheVariants.{NotANumber, Overflow}
+use Rattle.calc_scripts.specs.Parts.{parts, IsEval, IsNumber, IsBad}
+use Rattle.calc_scripts.specs.declared.outcome.CalcFault.{CalcFault}
+use Rattle.calc_scripts.specs.declared.outcome.CalcFault.TheVariants.{NotANumber, Overflow}
 
 -- a number, or the fault of the script
 abbrev pub Value : Type 0

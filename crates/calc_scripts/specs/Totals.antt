@@ -1,8 +1,8 @@
 -- What taking a part does to the sum, and the value at the end.
 use Rattle.std.specs.Prelude.{◌≡◌, ℤ, ◌+ℤ◌, Result, Ok, Err}
-use Rattle.scripts.specs.declared.outcome.CalcFault.{CalcFault}
-use Rattle.scripts.specs.declared.outcome.CalcFault.TheVariants.{Overflow}
-use Rattle.scripts.specs.Meaning.{Value, Fits}
+use Rattle.calc_scripts.specs.declared.outcome.CalcFault.{CalcFault}
+use Rattle.calc_scripts.specs.declared.outcome.CalcFault.TheVariants.{Overflow}
+use Rattle.calc_scripts.specs.Meaning.{Value, Fits}
 
 -- after a part of this value the sum is this one, and this is answered
 abbrev pub IsAdded : ℤ → Value → ℤ → Result (Unit {0}) CalcFault → Type 0

@@ -1,11 +1,11 @@
 -- A list of requests and their answers, with one more.
 use Rattle.std.proofs.Common.{◌≡◌, ◌∙◌, ◌<◌, ◌+◌, ℕ, List, [], ◌∷◌, ◌++◌, length, map, take, get_or, sym, ap, subst}
 use Rattle.std.proofs.lemmas.List.{map-append, take_more}
-use Rattle.commands.specs.Requests.{Request, request_of}
-use Rattle.commands.specs.declared.command.Command.{Command}
-use Rattle.commands.specs.declared.answer.Answer.{Answer}
-use Rattle.interpreter.specs.Files.{Texts}
-use Rattle.interpreter.specs.Sessions.{Answers, AnswersEach, none_asked, one_asked}
+use Rattle.calc_commands.specs.Requests.{Request, request_of}
+use Rattle.calc_commands.specs.declared.command.Command.{Command}
+use Rattle.calc_commands.specs.declared.answer.Answer.{Answer}
+use Rattle.calc_files.specs.Files.{Texts}
+use Rattle.calc_sessions.specs.Sessions.{Answers, AnswersEach, none_asked, one_asked}
 
 pub one_more : {before mid after : Texts} {requests : List Request} {replies : List Answer} {request : Request} {reply : Answer} → AnswersEach before requests replies mid → Answers mid request reply after → AnswersEach before (requests ++ request ∷ []) (replies ++ reply ∷ []) after
 one_more none_asked a = one_asked a none_asked

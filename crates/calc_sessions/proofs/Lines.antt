@@ -2,11 +2,11 @@
 use Rattle.std.proofs.Common.{◌≡◌, Bool, true, false, ℕ, List, Result, Ok, Err, IfOk, String, string_bytes, refl, sym, subst}
 use Rattle.std.specs.Prelude.{if◌then◌else◌}
 use Rattle.std.specs.Global.{Global}
-use Rattle.commands.specs.Requests.{Request, IsLineOf, IsNoCommand}
-use Rattle.commands.specs.Printed.{printed, bad_command}
-use Rattle.commands.specs.declared.answer.Answer.{Answer}
-use Rattle.interpreter.specs.Files.{Texts}
-use Rattle.interpreter.specs.Sessions.{Same, Answers, Prints, is_answered, is_bad}
+use Rattle.calc_commands.specs.Requests.{Request, IsLineOf, IsNoCommand}
+use Rattle.calc_commands.specs.Printed.{printed, bad_command}
+use Rattle.calc_commands.specs.declared.answer.Answer.{Answer}
+use Rattle.calc_files.specs.Files.{Texts}
+use Rattle.calc_sessions.specs.Sessions.{Same, Answers, Prints, is_answered, is_bad}
 
 module _ {E : Type 0} {before after : Texts} (line : List ℕ) where
   pub prints_answer : {request : Request} {reply : Answer} (r : Result (String Global) E) → IsLineOf line request → Answers before request reply after → IfOk r (λ text. string_bytes text ≡ printed reply) → IfOk r (λ text. Prints before line (string_bytes text) after)

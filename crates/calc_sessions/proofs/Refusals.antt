@@ -1,10 +1,10 @@
 -- A command whose text was refused left the texts.
 use Rattle.std.proofs.Common.{◌≢◌, Result, Ok, Err, OnErr, refl}
-use Rattle.commands.specs.Requests.{Request}
-use Rattle.commands.specs.declared.answer.Answer.{Answer}
-use Rattle.commands.specs.declared.answer.Answer.TheVariants as answer
-use Rattle.interpreter.specs.Files.{Texts}
-use Rattle.interpreter.specs.Sessions.{Same, Answers, written, value, too_deep, bytes_at, no_memory}
+use Rattle.calc_commands.specs.Requests.{Request}
+use Rattle.calc_commands.specs.declared.answer.Answer.{Answer}
+use Rattle.calc_commands.specs.declared.answer.Answer.TheVariants as answer
+use Rattle.calc_files.specs.Files.{Texts}
+use Rattle.calc_sessions.specs.Sessions.{Same, Answers, written, value, too_deep, bytes_at, no_memory}
 
 pub texts_stay : {before after : Texts} {request : Request} {reply : Answer} → Answers before request reply after → reply ≢ answer.Written → Same before after
 texts_stay (written changed) not = absurd (not refl)

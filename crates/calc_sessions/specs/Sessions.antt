@@ -1,14 +1,14 @@
 -- What a session answers.
-use Rattle.comemo.specs.declared.finish.How.{How}
-use Rattle.comemo.specs.declared.finish.How.TheVariants as how
+use Rattle.comemo.specs.declared.pending.How.{How}
+use Rattle.comemo.specs.declared.pending.How.TheVariants as how
 use Rattle.std.specs.Prelude.{Bool, true, false, ◌≡◌, ◌≤◌, ℕ, List, [], ◌∷◌, bytes_eq, length, if◌then◌else◌}
-use Rattle.commands.specs.Requests.{Request, write, eval, size, IsLineOf, IsNoCommand}
-use Rattle.commands.specs.Printed.{printed, bad_command}
-use Rattle.commands.specs.declared.answer.Answer.{Answer}
-use Rattle.commands.specs.declared.answer.Answer.TheVariants as answer
-use Rattle.scripts.specs.Meaning.{Value, Means, IsTooDeep}
-use Rattle.interpreter.specs.declared.state.State.{State}
-use Rattle.interpreter.specs.Files.{Texts, texts_of, Reads}
+use Rattle.calc_commands.specs.Requests.{Request, write, eval, size, IsLineOf, IsNoCommand}
+use Rattle.calc_commands.specs.Printed.{printed, bad_command}
+use Rattle.calc_commands.specs.declared.answer.Answer.{Answer}
+use Rattle.calc_commands.specs.declared.answer.Answer.TheVariants as answer
+use Rattle.calc_scripts.specs.Meaning.{Value, Means, IsTooDeep}
+use Rattle.calc_sessions.specs.declared.state.State.{State}
+use Rattle.calc_files.specs.Files.{Texts, texts_of, Reads}
 
 -- the texts of a session's files
 abbrev pub texts_in : State → Texts

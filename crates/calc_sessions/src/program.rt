@@ -1,13 +1,13 @@
 //! The program: lines in, lines out.
 ghost use Rattle.std.specs.Prelude.{◌≡◌, ◌<◌, ℕ, List, [], codes, length, Option};
-ghost use Rattle.lines.specs.Runs.{Ran};
-ghost use Rattle.lines.specs.Started.{RanAs, WritesFront, usage_of};
-ghost use Rattle.interpreter.specs.Files.{Texts};
-ghost use Rattle.interpreter.specs.Sessions.{texts_in, Prints, Refuses};
+ghost use Rattle.calc_lines.specs.Runs.{Ran};
+ghost use Rattle.calc_lines.specs.Started.{RanAs, WritesFront, usage_of};
+ghost use Rattle.calc_files.specs.Files.{Texts};
+ghost use Rattle.calc_sessions.specs.Sessions.{texts_in, Prints, Refuses};
 
 use crate::state::State;
-use commands::Command;
-use lines::{RunFault, Session};
+use calc_commands::Command;
+use calc_lines::{RunFault, Session};
 use std::alloc::{AllocError, Global};
 use std::io::{BufRead, Write};
 
@@ -30,7 +30,8 @@ impl Session for State {
 /// the script's number, `not a number` or `overflow`, or `too deep` where it is higher than 128 or never ends;
 /// `size PATH` prints `miss N` or `hit N`, N the bytes of the file; any other line that isn't empty prints
 /// `bad command`; and a command that found no memory prints `out of memory`. How lines end, which fault comes when,
-/// what stands then and what it costs is as in `lines::run`.
+/// what stands then and what it costs is as in `calc_lines::run`; the session's answers cost what `State::carry_out`
+/// does, and what it keeps stays until the run ends.
 pub fn run<R: BufRead, W: Write>(
     alloc: Global,
     reader: &mut R,
@@ -40,14 +41,15 @@ pub fn run<R: BufRead, W: Write>(
         × Ran Prints Refuses (R.remaining reader.old) (R.remaining reader.new)
         (W.contents writer.old) (W.contents writer.new) before after result }
 {
-    lines::run(alloc, reader, writer, &mut State::new(alloc))
+    calc_lines::run(alloc, reader, writer, &mut State::new(alloc))
 }
 
 /// All of the program but its streams: `run`, and the program's status. `words` are the arguments after its name.
 ///
 /// With any words it writes `usage: calc` on `errors` and the status is 2. Else the status is 0 where all lines were
 /// answered and 1 where a fault ended the run, which is written on `errors`: `calc: cannot read`, `calc: cannot write`,
-/// `calc: out of memory` or `calc: not UTF-8`. A failure of `errors` changes nothing else.
+/// `calc: out of memory` or `calc: not UTF-8`. A failure of `errors` changes nothing else. With words it reads and
+/// writes nothing else, and takes no memory; else it costs what `run` does.
 pub fn start<R: BufRead, W: Write, E: Write>(
     alloc: Global,
     words: &[String],
@@ -67,5 +69,5 @@ pub fn start<R: BufRead, W: Write, E: Write>(
     ensures usage_keeps_writer { 0 < length words.now → writer.new ≡ writer.old }
 {
     let mut state = State::new(alloc);
-    lines::start(alloc, "calc", words, reader, writer, errors, &mut state)
+    calc_lines::start(alloc, "calc", words, reader, writer, errors, &mut state)
 }

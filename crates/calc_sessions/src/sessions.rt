@@ -1,11 +1,11 @@
 //! A whole session: a list of commands to the list of their answers.
 ghost use Rattle.std.specs.Prelude.{◌≡◌, ℕ, List, [], map, IfOk};
-ghost use Rattle.commands.specs.Requests.{request_of};
-ghost use Rattle.interpreter.specs.Files.{Texts};
-ghost use Rattle.interpreter.specs.Sessions.{texts_in, Answers, AnswersEach};
+ghost use Rattle.calc_commands.specs.Requests.{request_of};
+ghost use Rattle.calc_files.specs.Files.{Texts};
+ghost use Rattle.calc_sessions.specs.Sessions.{texts_in, Answers, AnswersEach};
 
 use crate::state::State;
-use commands::{Answer, Command};
+use calc_commands::{Answer, Command};
 use std::alloc::{AllocError, Global};
 
 /// Carries out a clone of a command.
@@ -20,8 +20,9 @@ fn answer_to(state: &mut State, command: &Command) -> Answer
 
 /// Carries out commands one after the other, from no files and nothing kept, and gives the answer of each.
 ///
-/// An error says that there was no memory for the list of answers; then no command was carried out. A command that found
-/// no memory is answered by `Answer::Memory`, and the next one goes on.
+/// An error says that there was no memory for the list of answers; then no command was carried out. A command that
+/// found no memory is answered by `Answer::Memory`, and the next one goes on. It clones each command, keeps one answer
+/// for each, and costs what `State::carry_out` does.
 pub fn session(alloc: Global, commands: &[Command]) -> Result<Vec<Answer>, AllocError>
     ensures { IfOk result (λ answers. (before after : Texts) × ((path : List ℕ) → before path ≡ [])
         × AnswersEach before (map request_of commands.now) answers.items after) }

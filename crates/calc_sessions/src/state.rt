@@ -1,19 +1,20 @@
 //! The state of a session, and what it answers to a command.
 ghost use Rattle.std.specs.Prelude.{◌≡◌, ℕ, List, []};
-ghost use Rattle.commands.specs.Requests.{request_of, eval as eval_of, size as size_of};
-ghost use Rattle.interpreter.specs.Sessions.{in_cache, texts_in, Answers};
+ghost use Rattle.calc_commands.specs.Requests.{request_of, eval as eval_of, size as size_of};
+ghost use Rattle.calc_sessions.specs.Sessions.{in_cache, texts_in, Answers};
 
-use crate::evaluation::{Eval, EvalFault, evaluate};
-use crate::files::Files;
-use crate::measure::{FileSize, size};
+use calc_commands::{Answer, Command};
+use calc_evaluation::{Eval, EvalFault, evaluate};
+use calc_files::{FileSize, Files, size};
 use comemo::{CacheData, How, Reply, Top, Track};
-use commands::{Answer, Command};
 use std::alloc::Global;
 
 /// The greatest height of a script that a session evaluates.
 const HEIGHT_LIMIT: u64 = 128;
 
 /// What a session knows between two commands: its files, and what its memoized functions gave.
+///
+/// All that they gave stays kept as long as the state, with the texts that were asked for.
 #[derive(Drop)]
 pub struct State {
     pub(crate) alloc: Global,
@@ -44,8 +45,10 @@ impl State {
 
     /// Carries out a command, and gives its answer.
     ///
-    /// The answer is the one that the files as they are have, whatever was asked before. `Memory` says that there was no
-    /// memory for the command; then the files are as they were.
+    /// The answer is the one that the files as they are have, whatever was asked before. `Memory` says that there was
+    /// no memory for the command; then the files are as they were, and what was kept on the way stays. A script is
+    /// evaluated to a height of 128 at most. A write takes constant expected time, and copies nothing; the others cost
+    /// what `evaluate` and `size` do, which follow one stored path in each look-up.
     pub fn carry_out(&mut self, command: Command) -> Answer
         ensures { Answers (texts_in self.old) (request_of command) result (texts_in self.new) }
     {

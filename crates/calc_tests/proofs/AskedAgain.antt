@@ -9,27 +9,27 @@ use Rattle.std.specs.Map.{lookup}
 use Rattle.std.proofs.lemmas.Bool.{cases_Bool}
 use Rattle.std.proofs.lemmas.List.Elements.{All-contains, All-contains_itself, All-head}
 use Rattle.std.proofs.lemmas.List.Sorted.{Contains-permutation}
-use Rattle.comemo_base.specs.Answers.{Respects, Agrees}
-use Rattle.comemo_base.specs.Insertion.{Has, AllAmong, IsNewPath, outside}
-use Rattle.comemo_base.specs.Lookup.{under}
-use Rattle.comemo_base.specs.Tree.{Stored, stored}
-use Rattle.comemo_base.proofs.Paths.{joined}
-use Rattle.comemo_base.proofs.Under.{All-from_under}
+use Rattle.comemo.specs.Answers.{Respects, Agrees}
+use Rattle.comemo.specs.Insertion.{Has, AllAmong, IsNewPath, outside}
+use Rattle.comemo.specs.Lookup.{under}
+use Rattle.comemo.specs.Tree.{Stored, stored}
+use Rattle.comemo.proofs.Paths.{joined}
+use Rattle.comemo.proofs.Under.{All-from_under}
 use Rattle.comemo.specs.Cache.{Kept}
 use Rattle.comemo.specs.Finish.{Ends, Stores}
 use Rattle.comemo.specs.Meaning.{Run, run}
 use Rattle.comemo.specs.Multi.{second_call, second_answer}
-use Rattle.comemo.specs.declared.finish.How.TheVariants as how
-use Rattle.comemo.specs.declared.finish.Reply.{Reply}
-use Rattle.tracking.proofs.KeyedViews.{keyed_calls, keyed_answers}
-use Rattle.interpreter.specs.declared.files.Files.{Files}
-use Rattle.interpreter.specs.declared.files.FileCall.TheVariants.{Read}
-use Rattle.interpreter.specs.Files.{JoinedCall, JoinedAnswer, text_at, answers_of, with_key}
-use Rattle.interpreter.specs.Joined.{same_answer, same_key}
-use Rattle.interpreter.specs.Size.{Sizes, sizing, SizeReply}
-use Rattle.interpreter.proofs.Evaluations.{files_respect}
-use Rattle.interpreter.proofs.FileCalls.{key_bytes, key_alike}
-use Rattle.interpreter.proofs.JoinedCalls.{tests}
+use Rattle.comemo.specs.declared.pending.How.TheVariants as how
+use Rattle.comemo.specs.declared.pending.Reply.{Reply}
+use Rattle.comemo.proofs.KeyedViews.{keyed_calls, keyed_answers}
+use Rattle.calc_files.specs.declared.files.Files.{Files}
+use Rattle.calc_files.specs.declared.files.FileCall.TheVariants.{Read}
+use Rattle.calc_files.specs.Files.{JoinedCall, JoinedAnswer, text_at, answers_of, with_key}
+use Rattle.calc_files.specs.Joined.{same_answer, same_key}
+use Rattle.calc_files.specs.Size.{Sizes, sizing, SizeReply}
+use Rattle.calc_files.proofs.WhatReadsTell.{files_respect}
+use Rattle.calc_files.proofs.FileCalls.{key_bytes, key_alike}
+use Rattle.calc_files.proofs.JoinedCalls.{tests}
 
 module _ {C R : Type 0} {eq : C → C → Bool} {same : R → R → Bool} (calls : IsEquivalence eq) (answers : IsEquivalence same) (m : C → R) (respects : Respects eq same m) where
   -- answers that agree with a sequence agree with a pair that it has
@@ -79,14 +79,15 @@ stored_is_found {files = files} {files' = files'} {path = path} {es = es} {mid =
             | inl hit ↦ let never : how.Hit ≡ how.Stored = sym hit.0 ∙ was in cc
             | inr ran ↦
                 let entry : Run (String Global × ⊤) JoinedCall JoinedAnswer ℕ = record (run (a.key, tt) p.pairs first.output p.writes) { key = ran.own } in
-                let (not_there, not_missing, adds) : Stores sizing es entry mid = subst (λ h. Ends sizing es entry h mid) was ran.ends in
+                let (not_there, not_missing, stores) : Stores sizing es entry mid = subst (λ h. Ends sizing es entry h mid) was ran.ends in
                 let (own, text, named, alone) = a.asks (λ is. let never : how.Hit ≡ how.Stored = sym is ∙ was in cc) in
                 let agrees = read_again files files' path own text named stays p.pairs alone p.agrees in
+                let adds = stores.adds in
                 let found = agrees_stored (keyed_calls tests) (keyed_answers tests) (with_key (answers_of files')) (files_respect files') (under same_key es ran.own) p.pairs adds.path adds.is_new agrees in
-                let new : Stored (String Global × ⊤) JoinedCall JoinedAnswer (Kept ℕ JoinedCall) = stored ran.own adds.path (record { output = adds.kept; writes = p.writes }) in
+                let new : Stored (String Global × ⊤) JoinedCall JoinedAnswer (Kept ℕ JoinedCall) = stored adds.own adds.path (record { output = stores.kept; writes = p.writes }) in
                 let here : Contains mid new = Contains-permutation (new ∷ es) mid new adds.entries (All-head (Contains (new ∷ es)) new es (All-contains_itself (new ∷ es))) in
                 let none = All-from_under same_key mid (b.key, tt) (λ e. ¬ Agrees same_answer (with_key (answers_of files')) e.path) (missed.none refl) in
-                let alike : IsTrue (same_key ran.own (b.key, tt)) = key_alike ran.own.0 b.key (sym (key_bytes a.key ran.own.0 ran.has_key) ∙ a.names ∙ sym b.names) in
+                let alike : IsTrue (same_key adds.own (b.key, tt)) = key_alike adds.own.0 b.key (key_bytes adds.own.0 ran.own.0 adds.is_key ∙ sym (key_bytes a.key ran.own.0 ran.has_key) ∙ a.names ∙ sym b.names) in
                 absurd (All-contains (λ e. IsTrue (same_key e.key (b.key, tt)) → ¬ Agrees same_answer (with_key (answers_of files')) e.path) mid new none here alike found)
           ]
     ]

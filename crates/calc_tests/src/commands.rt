@@ -1,5 +1,6 @@
-use super::*;
-use scripts::CalcFault;
+//! Which line asks for which command, and what each answer prints.
+use calc_commands::{Answer, Command};
+use calc_scripts::CalcFault;
 use std::test::Fail;
 
 #[test]

@@ -1,6 +1,10 @@
 //! Tests of `evaluate` and of `session`.
-use super::*;
 use CalcFault::{NotANumber, Overflow};
+use calc_commands::{Answer, Command};
+use calc_evaluation::{Eval, EvalFault, evaluate};
+use calc_files::{FileCall, Files, JoinedAnswer, JoinedCall, size};
+use calc_scripts::{CalcFault, Outcome};
+use calc_sessions::session;
 use comemo::{CacheData, Constraint, How, MultiAnswer, MultiCall, Reply, Sink, Top, Track};
 use std::alloc::{AllocError, Global};
 use std::test::Fail;

@@ -1,13 +1,10 @@
+//! The memoized size of a file: how many bytes it has, and what it is kept through.
 ghost use Rattle.std.specs.Prelude.{◌≡◌, ◌≢◌, string_bytes, IfOk};
 
-use super::*;
+use calc_files::{FileSize, Files, size};
 use comemo::{CacheData, Fault, How, Reply, Top, Track};
 use std::alloc::{AllocError, Global};
 use std::test::Fail;
-
-mod sessions;
-mod starts;
-mod states;
 
 /// Writes a text to the file at a path.
 fn put(alloc: Global, files: &mut Files, path: &str, text: &str) -> Result<(), AllocError> {

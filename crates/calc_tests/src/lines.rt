@@ -1,4 +1,5 @@
-use super::*;
+//! The line loop: which lines it asks, what it writes, and what stands after each fault.
+use calc_lines::{RunFault, Session, run, start};
 use std::alloc::{AllocError, Global};
 use std::io::{BufReader, Error, ErrorKind, Read, Result as IoResult, Write};
 use std::test::Fail;

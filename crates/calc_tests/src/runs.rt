@@ -1,4 +1,6 @@
-use crate::{RunFault, run};
+//! Whole runs of the program: input in, output out, some of them as the original answered.
+use calc_lines::RunFault;
+use calc_sessions::run;
 use std::alloc::Global;
 use std::test::Fail;
 

@@ -1,5 +1,5 @@
 //! Sessions answered by comemo's own interpreter, made at random or by hand: lines, each beside what it printed for it.
-use crate::session_tests::{Row, both};
+use crate::sessions::{Row, both};
 use std::test::Fail;
 
 #[test]

@@ -1,9 +1,10 @@
+//! The parts of a script, and what they add up to.
 ghost use Rattle.std.specs.Prelude.{◌≡◌, ℕ, List, IfSome};
-ghost use Rattle.scripts.specs.Kinds.{IsPart};
-ghost use Rattle.scripts.specs.Meaning.{Means, PartMeans};
+ghost use Rattle.calc_scripts.specs.Kinds.{IsPart};
+ghost use Rattle.calc_scripts.specs.Meaning.{Means, PartMeans};
 
-use super::*;
 use Part::{Bad, Eval, Number};
+use calc_scripts::{CalcFault, Outcome, Part, Parts, Total};
 
 /// What a part comes to that calls no script, or `None` where it calls one.
 fn part_alone(part: Part<'_>) -> Option<Outcome>

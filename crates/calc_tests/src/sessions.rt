@@ -1,5 +1,5 @@
 //! Whole sessions: lines, each beside what is printed for it.
-use super::*;
+use calc_sessions::run;
 use std::alloc::{AllocError, Global};
 use std::test::Fail;
 

@@ -1,4 +1,5 @@
-use crate::start;
+//! The program from its words on: its status, and what it writes where something failed.
+use calc_sessions::start;
 use std::io::{BufReader, Error, ErrorKind, Read, Result as IoResult, Write};
 use std::test::Fail;
 

@@ -1,4 +1,6 @@
-use crate::{Answer, Command, State};
+//! The state of a session: the answer to each command, a hit or a miss.
+use calc_commands::{Answer, Command};
+use calc_sessions::State;
 use std::test::Fail;
 
 #[test]

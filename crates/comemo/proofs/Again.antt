@@ -12,14 +12,14 @@ use Rattle.comemo_base.specs.Insertion.{Has, AllAmong, IsNewPath, outside}
 use Rattle.comemo_base.specs.Tree.{Stored, stored}
 use Rattle.comemo_base.proofs.Paths.{joined, turned}
 use Rattle.comemo_base.proofs.Under.{Any-from_under, All-from_under}
-use Rattle.tracking.specs.Recording.{Recording, Took}
-use Rattle.tracking.proofs.Told.{told_pairs}
+use Rattle.comemo_track.specs.Recording.{Recording, Took}
+use Rattle.comemo_track.proofs.Telling.{told_pairs}
 use Rattle.comemo.specs.Meaning.{Meaning, Invocation, Run, run, invocation}
 use Rattle.comemo.specs.Cache.{Kept, Entries, IsEntryOf, HasNone}
 use Rattle.comemo.specs.Called.{IsReply}
 use Rattle.comemo.specs.Finish.{Ends, Stores}
-use Rattle.comemo.specs.declared.finish.Reply.{Reply}
-use Rattle.comemo.specs.declared.finish.How.TheVariants as how
+use Rattle.comemo.specs.declared.pending.Reply.{Reply}
+use Rattle.comemo.specs.declared.pending.How.TheVariants as how
 use Rattle.comemo.proofs.Entries.{All-cons, HasNone-alike}
 
 module _ {C R : Type 0} {eq : C → C → Bool} {same : R → R → Bool} (answers : IsEquivalence same) (m : C → R) (respects : Respects eq same m) where
@@ -78,11 +78,12 @@ module _ {K C R O : Type 0} (M : Meaning K C R O) where
   still_has : IsEquivalence M.same_answer → IsEquivalence M.same_key → {es mid es' : Entries K C R O} {first : Invocation K C R} (second : Invocation K C R) {sent : List (C × R) → List C → Type 0} {one : Reply O} → (is : IsReply M first es mid sent one es') → one.how ≡ how.Stored → IsTrue (M.same_key first.key second.key) → Respects M.same_call M.same_answer second.answers → Agrees M.same_answer second.answers is.pairs → HasNone M es' second → ⊥
   still_has answers keys {es} {mid} {es'} {first} second {sent} {one} is stored_it same_key respects agrees =
       let ran = stored_run es mid es' first sent one is stored_it in
-      let stores = ran.stores.2 in
-      let e = stored ran.own stores.path (record { output = stores.kept; writes = is.writes }) in
-      has_some mid es' e second stores.entries
-      (joined keys ran.own first.key second.key (turned keys first.key ran.own ran.has_key) same_key)
-      (agrees_stored_path answers second.answers respects _ is.pairs stores.path stores.is_new agrees)
+      let adds = ran.stores.2.adds in
+      let e = stored adds.own adds.path (record { output = ran.stores.2.kept; writes = is.writes }) in
+      let own_key = joined keys adds.own ran.own first.key adds.is_key (turned keys first.key ran.own ran.has_key) in
+      has_some mid es' e second adds.entries
+      (joined keys adds.own first.key second.key own_key same_key)
+      (agrees_stored_path answers second.answers respects _ is.pairs adds.path adds.is_new agrees)
 
   module _ (answers : IsEquivalence M.same_answer) (keys : IsEquivalence M.same_key) {es mid mid' es' es'' : Entries K C R O} {first second : Invocation K C R} {sent sends : List (C × R) → List C → Type 0} {one two : Reply O} where
     -- the next call is a hit
@@ -97,14 +98,13 @@ module _ {K C R O : Type 0} (M : Meaning K C R O) where
     finds_again is stored_it same_key respects agrees enabled none next = elim next.came [
       | inl hit ↦
           let stores = (stored_run es mid es' first sent one is stored_it).stores.2 in
-          let own = (stored_run es mid es' first sent one is stored_it).own in
           let X : Type 0 = (kept : O) × M.is_clone one.output kept × M.is_clone kept two.output in
           let found : Run K C R O = run second.key next.pairs two.output next.writes in
           let Q : Stored K C R (Kept O C) → Type 0 = λ e. IsTrue (M.same_key e.key second.key) × IsEntryOf M second.answers found e in
-          let e : Stored K C R (Kept O C) = stored own stores.path (record { output = stores.kept; writes = is.writes }) in
+          let e : Stored K C R (Kept O C) = stored stores.adds.own stores.adds.path (record { output = stores.kept; writes = is.writes }) in
           let before = All-from_under M.same_key mid second.key (λ x. ¬ Agrees M.same_answer second.answers x.path) none in
           let each = All-cons (λ x. Q x → X) e mid (λ q. (stores.kept, stores.is_clone, q.1.2)) (λ k d l q. absurd (before k d l q.0 q.1.0)) in
-          from_any Q es' (All-permutation (λ x. Q x → X) (e ∷ mid) es' stores.entries each) (Any-from_under M.same_key es' second.key (IsEntryOf M second.answers found) hit.1.kept)
+          from_any Q es' (All-permutation (λ x. Q x → X) (e ∷ mid) es' stores.adds.entries each) (Any-from_under M.same_key es' second.key (IsEntryOf M second.answers found) hit.1.kept)
       | inr ran ↦ absurd (still_has answers keys second is stored_it same_key respects agrees (ran.none enabled))
     ]
 

@@ -2,14 +2,14 @@
 use Rattle.std.proofs.Common.{◌≡◌, Bool, true, false, List, [], inl, inr, Result, Ok, Err, OnErr, refl, sym, subst}
 use Rattle.std.specs.Cmp.{IsEquivalence}
 use Rattle.comemo_base.specs.Answers.{Respects, Agrees}
-use Rattle.tracking.specs.Recording.{Recording}
+use Rattle.comemo_track.specs.Recording.{Recording}
 use Rattle.comemo.specs.Begin.{PendingRun, came_to, IsHit, IsRun, IsBrokenOff}
 use Rattle.comemo.specs.Meaning.{Meaning, Invocation, run}
 use Rattle.comemo.specs.Cache.{Entries, Stands, Touches}
 use Rattle.comemo.specs.Called.{IsReply}
 use Rattle.comemo.specs.Finish.{Ends, Finished, BreaksOffRun, BrokeOff}
-use Rattle.comemo.specs.declared.finish.How.TheVariants as how
-use Rattle.comemo.specs.declared.finish.Reply.{Reply}
+use Rattle.comemo.specs.declared.pending.How.TheVariants as how
+use Rattle.comemo.specs.declared.pending.Reply.{Reply}
 use Rattle.comemo_base.proofs.Paths.{Agrees-same, IsSamePath-turned}
 use Rattle.comemo.proofs.Endings.{gives_itself}
 

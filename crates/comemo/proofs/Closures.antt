@@ -1,16 +1,16 @@
 -- What `begin`, a closure's run and `finish` say together.
 use Rattle.std.proofs.Common.{◌≡◌, ◌↔◌, inl, inr, Bool, true, false, List, [], Result, Ok, Err, IfOk, IfErr, OnErr, refl, sym, ap, subst}
 use Rattle.std.specs.Borrow.{MutBor}
-use Rattle.tracking.specs.Recording.{Recording}
+use Rattle.comemo_track.specs.Recording.{Recording}
 use Rattle.comemo.specs.Meaning.{Meaning, Invocation, run}
 use Rattle.comemo.specs.Cache.{Entries, Stands}
 use Rattle.comemo.specs.Begin.{PendingRun, came_to, IsRun, IsBrokenOff}
 use Rattle.comemo.specs.Finish.{Ends, Finished, BreaksOffRun}
 use Rattle.comemo.proofs.Calls.{recorded, stands_at_call}
 use Rattle.comemo.specs.Closure.{Ran, Ended, IsFault, IsBroken}
-use Rattle.comemo.specs.declared.begin.Fault.{Fault}
-use Rattle.comemo.specs.declared.begin.Fault.TheVariants as fault
-use Rattle.comemo.specs.declared.finish.Reply.{Reply}
+use Rattle.comemo.specs.declared.pending.Fault.{Fault}
+use Rattle.comemo.specs.declared.pending.Fault.TheVariants as fault
+use Rattle.comemo.specs.declared.pending.Reply.{Reply}
 
 -- only a spoiled run is incomplete, so that one that is finished was whole
 pub whole_of_ok : {O : Type 0} (r : Result O Fault) (w : Bool) → (r ≡ Err fault.Incomplete) ↔ (w ≡ false) → IfOk r (λ _. w ≡ true)

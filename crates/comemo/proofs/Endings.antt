@@ -1,14 +1,14 @@
 -- How a run ends, where a clone of its output is kept.
 use Rattle.std.proofs.Common.{Bool, List, [], ◌∷◌, subst}
-use Rattle.std.specs.List.Sorted.{IsPermutation}
 use Rattle.std.specs.Cmp.{IsEquivalence}
-use Rattle.comemo_base.specs.Tree.{IsSamePath, stored}
+use Rattle.comemo_base.specs.Insertion.{Adds}
+use Rattle.comemo_base.specs.Tree.{IsSamePath}
 use Rattle.comemo_base.proofs.Paths.{Agrees-same, IsSamePath-turned}
 use Rattle.comemo.specs.Meaning.{Meaning, run, exactly}
 use Rattle.comemo.specs.Cache.{Entries}
 use Rattle.comemo.specs.Finish.{Ends, Gives, BreaksOffRun}
-use Rattle.comemo.specs.declared.finish.How.{How}
-use Rattle.comemo.specs.declared.finish.How.TheVariants as how
+use Rattle.comemo.specs.declared.pending.How.{How}
+use Rattle.comemo.specs.declared.pending.How.TheVariants as how
 
 pub IsSamePath-itself : {C R : Type 0} {eq : C → C → Bool} {same : R → R → Bool} → IsEquivalence eq → IsEquivalence same → (ps : List (C × R)) → IsSamePath eq same ps ps
 IsSamePath-itself calls answers [] = tt
@@ -34,7 +34,7 @@ module _ {K C R O : Type 0} {M : Meaning K C R O} (calls : IsEquivalence M.same_
 module _ {K C R O : Type 0} (M : Meaning K C R O) (es : Entries K C R O) (key : K) (pairs : List (C × R)) (writes : List C) (output kept : O) (is : M.is_clone output kept) where
   pub Ends-cloned : (h : How) (es' : Entries K C R O) → Ends (exactly M) es (run key pairs kept writes) h es' → Ends M es (run key pairs output writes) h es'
   Ends-cloned how.Hit es' e = e
-  Ends-cloned how.Stored es' e = (e.0, e.1, record { path = e.2.path; is_new = e.2.is_new; kept = kept; is_clone = is; entries = subst (λ o. IsPermutation (stored key e.2.path (record { output = o; writes = writes }) ∷ es) es') e.2.is_clone e.2.entries })
+  Ends-cloned how.Stored es' e = (e.0, e.1, record { kept = kept; is_clone = is; adds = subst (λ o. Adds M.same_call M.same_answer M.same_key es key pairs (record { output = o; writes = writes }) es') e.2.is_clone e.2.adds })
   Ends-cloned how.AlreadyExists es' e = e
   Ends-cloned how.MissingCall es' e = e
   Ends-cloned how.NotStored es' e = e

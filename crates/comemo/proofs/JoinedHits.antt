@@ -1,12 +1,12 @@
 -- For the authors of functions of two arguments: what a hit at joined answers says.
 use Rattle.std.proofs.Common.{Bool, List}
 use Rattle.comemo_base.specs.Answers.{Respects}
-use Rattle.tracking.specs.Multi.{part_answers}
-use Rattle.tracking.specs.declared.multi.MultiCall.{MultiCall}
-use Rattle.tracking.specs.declared.multi.MultiCall.TheVariants as call
-use Rattle.tracking.specs.declared.multi.MultiAnswer.{MultiAnswer}
-use Rattle.tracking.specs.declared.multi.MultiAnswer.TheVariants as answer
-use Rattle.tracking.proofs.Joined.{TellsCalls, joined_respect}
+use Rattle.comemo_track.specs.Multi.{part_answers}
+use Rattle.comemo_track.specs.declared.multi.MultiCall.{MultiCall}
+use Rattle.comemo_track.specs.declared.multi.MultiCall.TheVariants as call
+use Rattle.comemo_track.specs.declared.multi.MultiAnswer.{MultiAnswer}
+use Rattle.comemo_track.specs.declared.multi.MultiAnswer.TheVariants as answer
+use Rattle.comemo_track.proofs.Joined.{TellsCalls, joined_respect}
 use Rattle.comemo.specs.Begin.{IsHit}
 use Rattle.comemo.specs.Meaning.{Meaning, invocation}
 use Rattle.comemo.specs.Cache.{Entries}

@@ -11,3 +11,9 @@ pub mod Growing
 pub mod JoinedHits
 pub mod ThroughMaps
 pub mod Again
+pub use Rattle.comemo_base.proofs.Paths
+pub use Rattle.comemo_base.proofs.Under
+pub use Rattle.comemo_track.proofs.Telling
+pub use Rattle.comemo_track.proofs.Through
+pub use Rattle.comemo_track.proofs.KeyedViews
+pub use Rattle.comemo_track.proofs.Joined

@@ -1,12 +1,12 @@
 -- What was asked of both of two values, told of the part that was asked.
 use Rattle.std.proofs.Common.{◌≡◌, Bool, false, true, IsTrue, List, [], ◌∷◌, sym, ◌∙◌}
-use Rattle.tracking.specs.Sending.{Asks}
-use Rattle.tracking.specs.Mapped.{Through}
-use Rattle.tracking.specs.Multi.{first_call, second_call, first_answer, second_answer, part_answers}
-use Rattle.tracking.specs.declared.multi.MultiCall.{MultiCall}
-use Rattle.tracking.specs.declared.multi.MultiCall.TheVariants as call
-use Rattle.tracking.specs.declared.multi.MultiAnswer.{MultiAnswer}
-use Rattle.tracking.specs.declared.multi.MultiAnswer.TheVariants as answer
+use Rattle.comemo_track.specs.Sending.{Asks}
+use Rattle.comemo_track.specs.Mapped.{Through}
+use Rattle.comemo_track.specs.Multi.{first_call, second_call, first_answer, second_answer, part_answers}
+use Rattle.comemo_track.specs.declared.multi.MultiCall.{MultiCall}
+use Rattle.comemo_track.specs.declared.multi.MultiCall.TheVariants as call
+use Rattle.comemo_track.specs.declared.multi.MultiAnswer.{MultiAnswer}
+use Rattle.comemo_track.specs.declared.multi.MultiAnswer.TheVariants as answer
 
 module _ {X Y P Q : Type 0} (same : MultiAnswer P Q → MultiAnswer P Q → Bool) (went : List (MultiCall X Y × MultiAnswer P Q) → List (MultiCall X Y) → Type 0) where
   module _ (alike : P → P → Bool) (tells : (a b : P) → same (answer.A a) (answer.A b) ≡ alike a b) (apart : (a : P) (b : Q) → same (answer.A a) (answer.B b) ≡ false) (m : X → P) (c : X) (a : P) where

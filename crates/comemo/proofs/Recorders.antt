@@ -3,17 +3,17 @@ use Rattle.std.proofs.Common.{◌≡◌, ◌∙◌, Bool, true, false, List, [],
 use Rattle.std.specs.Cmp.{IsEquivalence}
 use Rattle.comemo_base.specs.Answers.{Respects, Agrees}
 use Rattle.comemo_base.proofs.Paths.{turned, joined}
-use Rattle.tracking.specs.Recording.{Recording, Took, Spoiled}
-use Rattle.tracking.specs.Sending.{Asks, BreaksOff}
+use Rattle.comemo_track.specs.Recording.{Recording, Took, Spoiled}
+use Rattle.comemo_track.specs.Sending.{Asks, BreaksOff}
 use Rattle.comemo.specs.Meaning.{Meaning, Invocation}
 use Rattle.comemo.specs.Cache.{Entries}
 use Rattle.comemo.specs.Called.{IsReply}
 use Rattle.comemo.specs.Finish.{BrokeOff}
 use Rattle.comemo.specs.Function.{Recorded, IsRecorded, Fits, Tells}
-use Rattle.comemo.specs.declared.begin.Fault.{Fault}
-use Rattle.comemo.specs.declared.begin.Fault.TheVariants as fault
-use Rattle.comemo.specs.declared.finish.Reply.{Reply}
-use Rattle.tracking.proofs.Told.{told_pairs}
+use Rattle.comemo.specs.declared.pending.Fault.{Fault}
+use Rattle.comemo.specs.declared.pending.Fault.TheVariants as fault
+use Rattle.comemo.specs.declared.pending.Reply.{Reply}
+use Rattle.comemo_track.proofs.Telling.{told_pairs}
 
 module _ {C R : Type 0} {eq : C → C → Bool} {same : R → R → Bool} (calls : IsEquivalence eq) (answers : IsEquivalence same) (m : C → R) (respects : Respects eq same m) {s t : Recording C R} (P : List (C × R)) (W : List C) (took : Took eq s t P W) (a : Agrees same m P) (before : s.whole ≡ true → Agrees same m s.pairs) where
   was_whole : t.whole ≡ true → s.whole ≡ true

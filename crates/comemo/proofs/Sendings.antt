@@ -1,7 +1,7 @@
 -- How pairs go to a sink one after the other.
 use Rattle.std.proofs.Common.{◌≡◌, ◌∙◌, suc, Bool, false, List, [], ◌∷◌, ◌++◌, refl, sym, ap, subst, Result, Ok, Err, OnErr, arith, append_assoc, append-nil}
 use Rattle.std.specs.List.{All}
-use Rattle.tracking.specs.Sending.{BreaksOff}
+use Rattle.comemo_track.specs.Sending.{BreaksOff}
 
 pub reads_left : {C R : Type 0} (w : C → Bool) (old new : List (C × R)) (p : C × R) → old ≡ p ∷ new → All (λ q. w q.0 ≡ false) old → All (λ q. w q.0 ≡ false) new
 reads_left w old new p e h = let h' = subst (λ ps. All (λ q. w q.0 ≡ false) ps) e h in λ k d l. h' (suc k) d (omega arith)

@@ -3,15 +3,15 @@ use Rattle.std.proofs.Common.{◌≡◌, ◌∙◌, Bool, true, List, [], ◌∷
 use Rattle.std.proofs.lemmas.List.{map-append}
 use Rattle.std.specs.Cmp.{IsEquivalence}
 use Rattle.comemo_base.specs.Answers.{Respects, Agrees}
-use Rattle.tracking.specs.Mapped.{mapped_pairs, Through}
-use Rattle.tracking.specs.Recording.{Recording, Took}
-use Rattle.tracking.specs.Sending.{BreaksOff}
+use Rattle.comemo_track.specs.Mapped.{mapped_pairs, Through}
+use Rattle.comemo_track.specs.Recording.{Recording, Took}
+use Rattle.comemo_track.specs.Sending.{BreaksOff}
 use Rattle.comemo.specs.Meaning.{invocation}
 use Rattle.comemo.specs.Cache.{Entries}
 use Rattle.comemo.specs.Called.{IsReply}
 use Rattle.comemo.specs.Finish.{BrokeOff}
 use Rattle.comemo.specs.Function.{Recorded, IsRecorded, Fits, Tells, OnPart}
-use Rattle.comemo.specs.declared.finish.Reply.{Reply}
+use Rattle.comemo.specs.declared.pending.Reply.{Reply}
 use Rattle.comemo.proofs.Recorders.{fitted, fits_taken, still_agrees}
 
 module _ {C D R Q : Type 0} (eq : C → C → Bool) (same : R → R → Bool) (eqd : D → D → Bool) (like : Q → Q → Bool) (f : C → D) (g : R → Q) (apart : (x y : C) → eqd (f x) (f y) ≡ eq x y) (answers_apart : (x y : R) → like (g x) (g y) ≡ same x y) where

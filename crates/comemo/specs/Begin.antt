@@ -2,7 +2,7 @@
 use Rattle.std.specs.Prelude.{◌≡◌, ◌⊎◌, Bool, true, List, [], IsTrue, refl}
 use Rattle.std.specs.Coded.{Coded, code_by, coded×, coded_bool}
 use Rattle.comemo_base.specs.Answers.{Respects, Agrees}
-use Rattle.tracking.specs.Recording.{Recording, recording_code}
+use Rattle.comemo_track.specs.Recording.{Recording, recording_code}
 use Rattle.comemo.specs.Meaning.{Meaning, Invocation, Run, run}
 use Rattle.comemo.specs.Cache.{Entries, Stands, HasNone, Has}
 

@@ -1,6 +1,6 @@
 -- By which way a call began.
-use Rattle.comemo.specs.declared.begin.Begun.{Begun}
-use Rattle.comemo.specs.declared.begin.Begun.TheVariants.{Hit, Run}
+use Rattle.comemo.specs.declared.pending.Begun.{Begun}
+use Rattle.comemo.specs.declared.pending.Begun.TheVariants.{Hit, Run}
 use Rattle.comemo.specs.Begin.{PendingRun}
 
 -- the first of a hit's output, the second of a run that began

@@ -5,9 +5,9 @@ use Rattle.comemo_base.specs.Answers.{Agrees}
 use Rattle.comemo.specs.Meaning.{Meaning, Invocation, Run, run}
 use Rattle.comemo.specs.Cache.{Entries, Stands, HasNone, Has, Touches}
 use Rattle.comemo.specs.Finish.{Ends, Gives}
-use Rattle.comemo.specs.declared.finish.Reply.{Reply}
-use Rattle.comemo.specs.declared.finish.How.{How}
-use Rattle.comemo.specs.declared.finish.How.TheVariants as how
+use Rattle.comemo.specs.declared.pending.Reply.{Reply}
+use Rattle.comemo.specs.declared.pending.How.{How}
+use Rattle.comemo.specs.declared.pending.How.TheVariants as how
 
 module _ {K C R O : Type 0} (M : Meaning K C R O) (call : Invocation K C R) where
   -- an entry of es that has the key and agrees with the answers came to this, and was touched

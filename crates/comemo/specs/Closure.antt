@@ -1,15 +1,15 @@
 -- A call of a memoized function whose run is a closure.
 use Rattle.std.specs.Prelude.{◌≡◌, ◌↔◌, ◌⊎◌, true, false, List, [], IsTrue, Result, Ok, Err}
 use Rattle.std.specs.Borrow.{MutBor}
-use Rattle.tracking.specs.Recording.{Recording}
+use Rattle.comemo_track.specs.Recording.{Recording}
 use Rattle.comemo.specs.Meaning.{Meaning, Invocation, run}
 use Rattle.comemo.specs.Cache.{Entries, Stands, HasNone}
 use Rattle.comemo.specs.Begin.{IsBrokenOff}
 use Rattle.comemo.specs.Finish.{Ends, Gives, BreaksOffRun}
-use Rattle.comemo.specs.declared.begin.Fault.{Fault}
-use Rattle.comemo.specs.declared.begin.Fault.TheVariants as fault
-use Rattle.comemo.specs.declared.finish.How.{How}
-use Rattle.comemo.specs.declared.finish.How.TheVariants as how
+use Rattle.comemo.specs.declared.pending.Fault.{Fault}
+use Rattle.comemo.specs.declared.pending.Fault.TheVariants as fault
+use Rattle.comemo.specs.declared.pending.How.{How}
+use Rattle.comemo.specs.declared.pending.How.TheVariants as how
 
 module _ {K C R O : Type 0} (M : Meaning K C R O) (es : Entries K C R O) (call : Invocation K C R) where
   module _ {I P : Type 0} (did : I → I → List C → Type 0) (recorded : P → Recording C R) where

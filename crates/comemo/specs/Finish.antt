@@ -1,30 +1,27 @@
 -- How a run of a memoized function ends.
-use Rattle.std.specs.Prelude.{◌≡◌, ◌↔◌, Bool, true, false, List, ◌∷◌}
-use Rattle.std.specs.List.Sorted.{IsPermutation}
+use Rattle.std.specs.Prelude.{◌≡◌, ◌↔◌, Bool, true, false, List}
 use Rattle.comemo_base.specs.Answers.{Respects, Agrees}
-use Rattle.comemo_base.specs.Tree.{IsSamePath, stored}
+use Rattle.comemo_base.specs.Tree.{IsSamePath}
 use Rattle.comemo_base.specs.Lookup.{under}
-use Rattle.comemo_base.specs.Insertion.{Exists, Misses, IsNewPath}
+use Rattle.comemo_base.specs.Insertion.{Exists, Misses, Adds}
 use Rattle.comemo.specs.Meaning.{Meaning, Run}
 use Rattle.comemo.specs.Cache.{Entries}
 use Rattle.comemo.specs.Begin.{PendingRun, came_to}
-use Rattle.comemo.specs.declared.finish.How.{How}
-use Rattle.comemo.specs.declared.finish.How.TheVariants as how
-use Rattle.comemo.specs.declared.finish.Reply.{Reply}
+use Rattle.comemo.specs.declared.pending.How.{How}
+use Rattle.comemo.specs.declared.pending.How.TheVariants as how
+use Rattle.comemo.specs.declared.pending.Reply.{Reply}
 
 module _ {K C R O : Type 0} (M : Meaning K C R O) (es : Entries K C R O) where
   module _ (ran : Run K C R O) where
-    -- one more entry: the key, the path that the pairs take, a clone of the output, and the writes
-    pub record Adds (es' : Entries K C R O) : Type 0 where
-      pub path : List (C × R)
-      pub is_new : IsNewPath M.same_call M.same_answer (under M.same_key es ran.key) ran.pairs path
+    -- one more entry: a clone of the output, and the writes, at the path that the pairs take, under an equal key
+    pub record AddsRun (es' : Entries K C R O) : Type 0 where
       pub kept : O
       pub is_clone : M.is_clone ran.output kept
-      pub entries : IsPermutation (stored ran.key path (record { output = kept; writes = ran.writes }) ∷ es) es'
+      pub adds : Adds M.same_call M.same_answer M.same_key es ran.key ran.pairs (record { output = kept; writes = ran.writes }) es'
 
     -- so a run is stored: no entry has all its pairs among those of the run, none lacks a call of it, and there is one more
     abbrev pub Stores : Entries K C R O → Type 0
-    Stores es' = (¬ Exists M.same_call M.same_answer (under M.same_key es ran.key) ran.pairs) × (¬ Misses M.same_call M.same_answer (under M.same_key es ran.key) ran.pairs) × Adds es'
+    Stores es' = (¬ Exists M.same_call M.same_answer (under M.same_key es ran.key) ran.pairs) × (¬ Misses M.same_call M.same_answer (under M.same_key es ran.key) ran.pairs) × AddsRun es'
 
     -- the entries after a run that came to this, by what became of it; only a stored run adds one
     abbrev pub Ends : How → Entries K C R O → Type 0

@@ -2,9 +2,9 @@
 use Rattle.std.specs.Prelude.{◌≡◌, Bool, true, false, IsTrue, [], Result, IfOk, OnOk, IfErr, refl}
 use Rattle.std.specs.Coded.{Coded, code_by, coded×}
 use Rattle.comemo_base.specs.Answers.{Respects, Agrees}
-use Rattle.tracking.specs.Recording.{Recording, recording_code}
-use Rattle.comemo.specs.declared.begin.Fault.{Fault}
-use Rattle.comemo.specs.declared.begin.Fault.TheVariants as fault
+use Rattle.comemo_track.specs.Recording.{Recording, recording_code}
+use Rattle.comemo.specs.declared.pending.Fault.{Fault}
+use Rattle.comemo.specs.declared.pending.Fault.TheVariants as fault
 
 -- a recorder: the value that is asked, and what it was asked
 pub record Recorded (V C R : Type 0) : Type 0 where

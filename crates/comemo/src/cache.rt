@@ -8,24 +8,30 @@ ghost use Rattle.comemo.specs.Meaning.{Meaning, exactly, invocation, run};
 ghost use Rattle.comemo.specs.Cache.{MemoLaws, Stands, HasNone, Has, IsMiss, IsRefusedLook};
 ghost use Rattle.comemo.specs.Finish.{Stores};
 
-use comemo_base::{CallSequence, CallTree, InsertError};
+use comemo_base::{CallSequence, InsertError};
+use comemo_track::input::Input;
+use comemo_track::track::Call;
+use comemo_tree::CallTree;
 use std::alloc::{AllocError, Global};
 use std::hash::Hash;
 use std::marker::Model;
-use tracking::input::Input;
-use tracking::track::Call;
 
 /// A memoized function: the types of its calls, keys, answers and outputs, and what it means.
 ///
 /// `def` says which outputs and writes are right at a key and at answers. It knows of no cache. Its laws say that, at
-/// answers that tell no equal calls apart, it doesn't tell apart equal keys, or a clone from its original. This project's own: comemo has the function alone.
+/// answers that tell no equal calls apart, it doesn't tell apart equal keys, or a clone from its original. This
+/// project's own: comemo has the function alone.
 pub trait Memo {
+    /// What a run can ask.
     type Call: Call;
 
+    /// What a call of the function is kept under: what isn't tracked of its arguments.
     type Key: Clone + Eq + Hash;
 
+    /// What a run is answered: one type for all calls.
     type Answer: Clone + Ord;
 
+    /// What the function gives.
     type Out: Clone;
 
     // at this key and these answers, this output and these writes are right
@@ -74,7 +80,9 @@ impl<M: Memo> Model for KeptRun<M> {
 /// A cache of one memoized function: outputs under the keys and the paths of calls of their runs.
 ///
 /// Contracts see it as a list of entries, of whose order no clause speaks. Its type keeps that each entry is legal:
-/// whichever answers agree with its path, its output is right at its key. comemo's `CacheData`.
+/// whichever answers agree with its path, its output is right at its key. It keeps keys, calls, answers and outputs
+/// themselves. All entries under a key share two copies of it, and those whose paths have an equal front share its
+/// calls and answers. It drops no entry as long as it lives. comemo's `CacheData`.
 #[derive(Drop)]
 pub struct CacheData<M: Memo> {
     tree: CallTree<M::Key, M::Call, M::Answer, KeptRun<M>>,
@@ -104,14 +112,18 @@ impl<M: Memo> Model for CacheData<M> {
     })) s.tree };
 }
 
-/// What a look-up found: clones of the path and the output of an entry.
+/// What a look-up found: the path of an entry, with its calls cloned, and a clone of its output.
+///
+/// This project's own.
 #[derive(Drop)]
 pub struct Found<M: Memo> {
+    /// The path: the calls that were asked, in order, with the answers that were given, which equal the kept ones.
     pub pairs: Vec<(M::Call, M::Answer)>,
+    /// The output.
     pub output: M::Out,
 }
 
-/// The path under a key of a tree of reads that an input's answers agree with, cloned, with its value.
+/// The path under a key of a tree of reads that an input's answers agree with, its calls cloned, with its value.
 fn find_agreeing<'a, K: Clone + Eq + Hash, In: Input, T>(
     tree: &'a CallTree<K, In::Call, In::Answer, T>,
     key: &K,
@@ -167,9 +179,11 @@ impl<M: Memo> CacheData<M> {
 
     /// Looks for the entry under a key whose path the input's answers agree with, and gives clones of it.
     ///
-    /// It asks the input the calls along one stored path, each once. Nothing changes. An error says that there was no
-    /// memory for an answer of the input or, where an entry was found, for its clones. It is the first half of a hit of
-    /// comemo's `memoize`.
+    /// It asks the input the calls along one stored path, each once, as `CallTree::find` does: it finds the key by one
+    /// hash look-up, and each answer by binary search among those that are stored at its place. It keeps a list of the
+    /// pairs on its way, and clones nothing but what it gives: the calls and the output. Nothing changes. An error says
+    /// that there was no memory for an answer of the input or, where an entry was found, for the list or the clones. It
+    /// is the first half of a hit of comemo's `memoize`.
     pub fn look<In: Input<Call = M::Call, Key = M::Key, Answer = M::Answer>>(
         &self,
         key: &M::Key,
@@ -203,9 +217,11 @@ impl<M: Memo> CacheData<M> {
 
     /// Keeps the output of a run under a key and the sequence of calls that the run asked.
     ///
-    /// The output has to be right for all answers that agree with the sequence, which holds reads alone. The entry's path
-    /// is the one that the sequence takes in the tree. Every error leaves the cache as it was; what was handed in is
-    /// dropped then. It is the end of a miss of comemo's `memoize`.
+    /// The output has to be right for all answers that agree with the sequence, which holds reads alone. The entry's
+    /// path is the one that the sequence takes in the tree. Every error leaves the cache as it was, and comes where
+    /// [`InsertError`] says so; what was handed in is dropped then. As `CallTree::insert` does, it takes each pair of
+    /// the stored front out of the sequence, and then adds a node for each pair that is left. It is the end of a miss
+    /// of comemo's `memoize`.
     pub fn store(
         &mut self,
         key: M::Key,

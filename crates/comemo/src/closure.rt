@@ -2,25 +2,26 @@
 ghost use Rattle.std.specs.Prelude.{◌≡◌, [], true, IfOk, IfErr, OnErr, Ok};
 ghost use Rattle.std.specs.Borrow.{MutBor};
 ghost use Rattle.comemo.specs.Begin.{IsHit};
-ghost use Rattle.tracking.specs.Recording.{Recording};
+ghost use Rattle.comemo_track.specs.Recording.{Recording};
 ghost use Rattle.comemo.specs.Meaning.{run};
 ghost use Rattle.comemo.specs.Cache.{Stands, Touches};
 ghost use Rattle.comemo.specs.Closure.{Starts, Ran, Ended, IsFault, IsBroken};
 
-use crate::begin::{Begun, Fault, Invoked, begin};
-use crate::finish::{How, Reply};
-use crate::memoize::{CacheData, Meant, Memo};
+use crate::cache::{CacheData, Meant, Memo};
+use crate::pending::{Begun, Fault, How, Invoked, Reply, begin};
+use comemo_track::constraint::Constraint;
+use comemo_track::input::Input;
+use comemo_track::track::{Breaking, Call, Sink};
 use std::alloc::Global;
-use tracking::constraint::Constraint;
-use tracking::input::Input;
-use tracking::track::{Breaking, Call, Sink};
 
 /// The recording that a closure is handed. `Constraint` is one, and there is no other.
 ///
 /// It stands where the closure's type can't name `Constraint` in a bound. This project's own.
 pub trait Record {
+    /// What a run can ask.
     type Call: Call;
 
+    /// What a run is answered: one type for all calls.
     type Answer: Clone + Ord;
 
     // what it holds
@@ -32,7 +33,7 @@ pub trait Record {
         ensures writes { (recorded result).writes ≡ [] }
         ensures whole { (recorded result).whole ≡ true };
 
-    /// The recording itself.
+    /// The recording itself. It takes no memory and constant time.
     fn into_constraint(self) -> Constraint<Self::Call, Self::Answer>
         ensures { result ≡ recorded self };
 }
@@ -53,14 +54,15 @@ impl<C: Call, R: Clone + Ord> Record for Constraint<C, R> {
     }
 }
 
-/// Calls a memoized function whose run is a closure: gives the output of an entry that agrees, or does the run and keeps
-/// what it gave.
+/// Calls a memoized function whose run is a closure: gives the output of an entry that agrees, or does the run and
+/// keeps what it gave.
 ///
-/// The closure gets the input and the recording that what it asks has to go to. It is called only where no entry agrees,
-/// and its output has to be right for all answers that agree with what it recorded. A fault of the closure is answered, and
-/// nothing is stored then. With `enabled` false there is no look-up, and nothing is stored. What it costs is what `begin`,
-/// the closure and `finish` cost. Every fault leaves the cache as it was and spoils the sink, to which a run that failed or
-/// is spoiled gives nothing. A function that calls itself takes `begin` and `finish` in its place. comemo's `memoize`.
+/// The closure gets the input and the recording that what it asks has to go to. It is called only where no entry
+/// agrees, or none is looked for, and its output has to be right for all answers that agree with what it recorded. A
+/// fault of the closure is answered, and nothing is stored then. With `enabled` false there is no look-up, and nothing
+/// is stored. What it costs is what `begin`, the closure and `finish` cost. Every fault leaves the cache as it was and
+/// spoils the sink, to which a run that failed or is spoiled gives nothing. A function that calls itself takes `begin`
+/// and `finish` in its place. comemo's `memoize`.
 pub fn memoize<
     M: Memo,
     In: Input<Call = M::Call, Key = M::Key, Answer = M::Answer> + Drop,

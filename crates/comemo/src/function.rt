@@ -3,19 +3,18 @@ ghost use Rattle.std.specs.Prelude.{◌≡◌, [], List, true, false, IsTrue, If
 ghost use Rattle.comemo.specs.Meaning.{invocation, reading};
 ghost use Rattle.comemo.specs.Called.{IsReply};
 ghost use Rattle.comemo.specs.Finish.{BrokeOff};
-ghost use Rattle.tracking.specs.Recording.{Recording, Took, Spoiled};
-ghost use Rattle.tracking.specs.Sending.{Asks, BreaksOff};
+ghost use Rattle.comemo_track.specs.Recording.{Recording, Took, Spoiled};
+ghost use Rattle.comemo_track.specs.Sending.{Asks, BreaksOff};
 ghost use Rattle.comemo.specs.Function.{Recorded, Fits, Tells, Laws};
 
-use crate::begin::{Begun, Fault, begin};
-use crate::finish::{How, Reply};
-use crate::memoize::{CacheData, Meant, Memo};
+use crate::cache::{CacheData, Meant, Memo};
+use crate::pending::{Begun, Fault, How, Reply, begin};
+use comemo_track::constraint::Constraint;
+use comemo_track::input::Keyed;
+use comemo_track::track::{Breaking, Call, Sink, Track, Tracked};
 use std::alloc::Global;
 use std::hash::Hash;
 use std::marker::{Model, PhantomData};
-use tracking::constraint::Constraint;
-use tracking::input::Keyed;
-use tracking::track::{Breaking, Call, Sink, Track, Tracked};
 
 /// What a recorder tells of a tracked value's answers, for contracts to cite, as `⟦<T as Told>⟧.fits`.
 ///
@@ -44,14 +43,17 @@ impl<T: Track> Told for T {
 
 /// A memoized function of a key and a tracked value.
 ///
-/// Several arguments that aren't tracked are one key, as a tuple. An implementation says by `means` what the function is,
-/// and how it is done by `run`; the laws are found by the checker where keys and outputs are plain values. This project's
-/// own: what comemo's `#[memoize]` makes of a function.
+/// Several arguments that aren't tracked are one key, as a tuple. An implementation says by `means` what the function
+/// is, and how it is done by `run`; the laws are found by the checker where keys and outputs are plain values. This
+/// project's own: what comemo's `#[memoize]` makes of a function.
 pub trait Function {
+    /// What isn't tracked of the arguments: what a call is kept under.
     type Key: Clone + Eq + Hash;
 
+    /// The tracked value that a run asks, or `()`.
     type Of: Track;
 
+    /// What the function gives.
     type Out: Clone;
 
     /// What a run takes beside its arguments: the caches of the functions that it calls, or `()`.
@@ -63,7 +65,8 @@ pub trait Function {
     /// Does the function: asks the value through the recorder, which keeps what it was told.
     ///
     /// The output has to be right for all answers that agree with what was recorded. A run may answer `Incomplete` only
-    /// where its recording was spoiled, as by a call that failed.
+    /// where its recording was spoiled, as by a call that failed. After a fault nothing is stored for the run; what
+    /// it did to its needs stays.
     fn run(
         key: &Self::Key,
         of: &mut Recorder<'_, Self::Of>,
@@ -119,8 +122,9 @@ impl<'a, T: Track> Recorder<'a, T> {
 
     /// Asks the value a read, and records the call with its answer.
     ///
-    /// It clones the answer for the recording. `Memory` says that there was none for the answer, its clone or the recording,
-    /// which is as it was then.
+    /// It asks the value once, also where the read is recorded already, and clones the answer, and a call that is new,
+    /// for the recording. `Memory` says that there was none for the answer, its clone or the recording, which is as it
+    /// was then. It stands in the place of the methods that comemo's macro `track` writes.
     pub fn ask(&mut self, call: T::Call) -> Result<T::Answer, Fault>
         requires { T.Call.is_write call ≡ false }
         ensures tells { Tells ⟦<T as Told>⟧.fits self.old self.new result
@@ -136,7 +140,9 @@ impl<'a, T: Track> Recorder<'a, T> {
 
     /// Calls another memoized function of the same value, and records what it asked.
     ///
-    /// A fault leaves the other's cache as it was, and the recording is spoiled: the run that is recorded can't be finished.
+    /// A fault leaves the other's cache as it was, and the recording is spoiled: the run that is recorded can't be
+    /// finished. It costs what `memoized` costs, with the recording as its sink. This project's own: in comemo it is a
+    /// call like any.
     pub fn call<G: FunctionOf<T>>(
         &mut self,
         cache: &mut CacheData<G>,
@@ -166,7 +172,7 @@ impl<'a, T: Track> Recorder<'a, T> {
 
 /// What a cache takes a function for: `CacheData<MemoOf<F>>` is the cache of `F`.
 ///
-/// This project's own.
+/// There is no value of it to make. This project's own.
 pub struct MemoOf<F> {
     function: PhantomData<F>,
 }
@@ -193,12 +199,13 @@ impl<F: Function> Memo for MemoOf<F> {
 /// A memoized function of a key and `T`, where `T` may borrow: several tracked values as one, by `Both`, or a view of a
 /// user's own.
 ///
-/// What the function means is its `Memo`, which names no lifetime, so that its cache outlives the values. A `Function` is
-/// one by its `MemoOf`, with nothing to write. This project's own.
+/// What the function means is its `Memo`, which names no lifetime, so that its cache outlives the values. A `Function`
+/// is one by its `MemoOf`, with nothing to write. This project's own.
 pub trait FunctionOf<T: Track>: Memo<Call = T::Call, Answer = T::Answer> {
+    /// What a run takes beside its arguments: the caches of the functions that it calls, or `()`.
     type Needs;
 
-    /// Does the function, as `Function::run` does.
+    /// Does the function, as `Function::run` does, and with the same said of its output and its faults.
     fn run(
         key: &Self::Key,
         of: &mut Recorder<'_, T>,
@@ -233,10 +240,10 @@ impl<F: Function> FunctionOf<F::Of> for MemoOf<F> {
 /// Calls a memoized function: gives the output that its cache keeps where an entry agrees, or runs it and keeps what it
 /// gave.
 ///
-/// The sink takes what was asked: the recording of the run around the call, or `Top` where there is none. With `enabled`
-/// false there is no look-up, and nothing is kept. A fault leaves the cache as it was and spoils the sink; what the run did
-/// to its needs stays. A hit costs what `begin` costs. This project's own: a call of a function under comemo's
-/// `#[memoize]`.
+/// The sink takes what was asked: the recording of the run around the call, or `Top` where there is none. With
+/// `enabled` false there is no look-up, and nothing is kept. A fault leaves the cache as it was and spoils the sink;
+/// what the run did to its needs stays. A hit costs what `begin` costs, any other call what `begin`, the run and
+/// `finish` cost. This project's own: a call of a function under comemo's `#[memoize]`.
 pub fn memoized<M: FunctionOf<T>, T: Track, S: Sink<Call = T::Call, Answer = T::Answer>>(
     alloc: Global,
     cache: &mut CacheData<M>,

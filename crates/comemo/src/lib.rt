@@ -1,20 +1,50 @@
 //! Constrained memoization: the output of a memoized function is kept with the questions that its run asked of its
 //! tracked arguments, and is given again while those questions would be answered alike.
+//!
+//! `Warmth` is a function of a `Town`, of which its run asks how many degrees it has, and nothing else. So the second
+//! call is answered from the cache, though more people live there now, and the third is not:
+//!
+//! ```rust
+//! use comemo::{CacheData, How, MemoOf, Top, Track, memoized};
+//! use comemo_samples::Town;
+//! use std::test::Fail;
+//!
+//! fn a_town_that_grows_is_as_warm(rt: HostRuntime) -> Result<(), Fail> {
+//!     let alloc = rt.alloc();
+//!     let mut cache: CacheData<MemoOf<Warmth>> = CacheData::new(alloc);
+//!     let calls = [
+//!         (900, 21, How::Stored),
+//!         (1000, 21, How::Hit),
+//!         (1000, 4, How::Stored),
+//!     ];
+//!     for (people, degrees, how) in calls {
+//!         let town = Town { people, degrees };
+//!         let view = town.track(alloc);
+//!         let reply = memoized(alloc, &mut cache, &mut (), (), &view, &mut Top::new(), true)?;
+//!         assert_eq!(rt; reply.output, degrees);
+//!         assert_eq!(rt; reply.how, how);
+//!     }
+//!     Ok(())
+//! }
+//! ```
+//!
+//! `Town` is of the crate `comemo_samples`. These lines run as a test in the crate `comemo_tests`, in
+//! `src/examples.rt`, where `Warmth` stands too; how such a function is written says `docs/GUIDE.md`.
 #![tactic(auto)]
 
-pub mod begin;
+pub mod cache;
 pub mod closure;
-pub mod finish;
 pub mod function;
-pub mod memoize;
 pub mod parts;
+pub mod pending;
 
-pub use begin::{Begun, Fault, Pending};
-pub use closure::Record;
-pub use finish::{How, Reply};
-pub use function::{Function, FunctionOf, MemoOf, Recorder, Told};
-pub use memoize::{CacheData, Found, Meant, Memo};
-pub use tracking::{
-    Both, Call, CallMap, Constraint, First, Hashed, Input, Keyed, MappedSink, Multi, MultiAnswer,
-    MultiCall, Second, Sink, Top, Track, Tracked, TrackedWith,
+pub use cache::{CacheData, Found, Meant, Memo};
+pub use closure::{Record, memoize};
+pub use comemo_base::{CallSequence, InsertError, Prehashed, SipHasher13, Tagged, hash, hash_any};
+pub use comemo_track::{
+    Both, Breaking, Call, CallMap, Constraint, First, Hashed, Input, Keyed, MappedSink, Multi,
+    MultiAnswer, MultiCall, Second, Sink, Top, Track, Tracked, TrackedWith,
 };
+pub use comemo_tree::CallTree;
+pub use function::{Function, FunctionOf, MemoOf, Recorder, Told, memoized};
+pub use pending::{Begun, Fault, How, Invoked, Pending, Reply, begin};

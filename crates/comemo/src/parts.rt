@@ -2,18 +2,17 @@
 ghost use Rattle.std.specs.Prelude.{◌≡◌, [], true, false, IsTrue, IfOk, IfErr, OnOk, OnErr};
 ghost use Rattle.comemo.specs.Meaning.{invocation};
 ghost use Rattle.comemo.specs.Called.{IsReply};
-ghost use Rattle.tracking.specs.Sending.{Asks};
-ghost use Rattle.tracking.specs.Mapped.{Through};
+ghost use Rattle.comemo_track.specs.Sending.{Asks};
+ghost use Rattle.comemo_track.specs.Mapped.{Through};
 ghost use Rattle.comemo.specs.Function.{Tells, OnPart};
 
-use crate::begin::Fault;
-use crate::finish::Reply;
+use crate::cache::{CacheData, Meant};
 use crate::function::{FunctionOf, Recorder, Told, memoized};
-use crate::memoize::{CacheData, Meant};
-use tracking::both::Both;
-use tracking::mapped::{CallMap, MappedSink};
-use tracking::multi::{First, MultiAnswer, MultiCall, Second};
-use tracking::track::{Track, Tracked};
+use crate::pending::{Fault, Reply};
+use comemo_track::both::Both;
+use comemo_track::mapped::{CallMap, MappedSink};
+use comemo_track::multi::{First, MultiAnswer, MultiCall, Second};
+use comemo_track::track::{Track, Tracked};
 
 impl<'a, T: Track> Recorder<'a, T> {
     /// Calls a memoized function of a part of the value, and records what it asked through a map.
@@ -54,11 +53,11 @@ impl<'a, T: Track> Recorder<'a, T> {
 
 /// What a run asks of two values that are one.
 impl<'a, 'b, A: Track, B: Track> Recorder<'a, Both<'b, A, B>> {
-    ghost use Rattle.tracking.specs.Multi.{first_call, second_call, first_answer, second_answer};
-    ghost use Rattle.tracking.specs.declared.multi.MultiCall.{MultiCall};
-    ghost use Rattle.tracking.specs.declared.multi.MultiAnswer.{MultiAnswer};
+    ghost use Rattle.comemo_track.specs.Multi.{first_call, second_call, first_answer, second_answer};
+    ghost use Rattle.comemo_track.specs.declared.multi.MultiCall.{MultiCall};
+    ghost use Rattle.comemo_track.specs.declared.multi.MultiAnswer.{MultiAnswer};
 
-    /// Asks the first value a read, and records it as a call of both. Else it is as `ask`.
+    /// Asks the first value a read, and records it as a call of both. Else it is as `ask`. This project's own.
     pub fn ask_first(&mut self, call: A::Call) -> Result<A::Answer, Fault>
         requires { A.Call.is_write call ≡ false }
         ensures tells { Tells ⟦<Both<'b, A, B> as Told>⟧.fits self.old self.new result
@@ -77,7 +76,7 @@ impl<'a, 'b, A: Track, B: Track> Recorder<'a, Both<'b, A, B>> {
         }
     }
 
-    /// Asks the second value a read, and records it as a call of both. Else it is as `ask`.
+    /// Asks the second value a read, and records it as a call of both. Else it is as `ask`. This project's own.
     pub fn ask_second(&mut self, call: B::Call) -> Result<B::Answer, Fault>
         requires { B.Call.is_write call ≡ false }
         ensures tells { Tells ⟦<Both<'b, A, B> as Told>⟧.fits self.old self.new result
@@ -97,6 +96,7 @@ impl<'a, 'b, A: Track, B: Track> Recorder<'a, Both<'b, A, B>> {
     }
 
     /// Calls a memoized function of the first value, and records what it asked as calls of both. Else it is as `call`.
+    /// This project's own.
     pub fn call_first<G: FunctionOf<A>>(
         &mut self,
         cache: &mut CacheData<G>,
@@ -118,6 +118,7 @@ impl<'a, 'b, A: Track, B: Track> Recorder<'a, Both<'b, A, B>> {
     }
 
     /// Calls a memoized function of the second value, and records what it asked as calls of both. Else it is as `call`.
+    /// This project's own.
     pub fn call_second<G: FunctionOf<B>>(
         &mut self,
         cache: &mut CacheData<G>,

@@ -1,18 +1,44 @@
-//! How a run of a memoized function ends: it is finished, and stored where it can be, or given up.
-ghost use Rattle.std.specs.Prelude.{◌≡◌, [], ◌∷◌, ◌++◌, ◌↔◌, List, Bool, true, false, IsTrue, IfOk, IfErr, OnOk, OnErr, Ok, Err};
+//! Calls of memoized functions, from their beginning to their end: a hit, or a run, which is finished and stored where
+//! it can be, or given up.
+ghost use Rattle.std.specs.Prelude.{◌≡◌, [], ◌∷◌, ◌++◌, ◌↔◌, List, Bool, true, false, IsTrue, IfOk, IfErr, OnOk, OnErr, Ok, Err, ⊤};
 ghost use Rattle.std.specs.List.{All};
 ghost use Rattle.comemo_base.specs.Tree.{IsSamePath};
-ghost use Rattle.comemo.specs.Meaning.{exactly, run};
-ghost use Rattle.comemo.specs.Cache.{Stands};
-ghost use Rattle.comemo.specs.Begin.{came_to};
+ghost use Rattle.comemo.specs.Meaning.{Invocation, exactly, invocation, run};
+ghost use Rattle.comemo.specs.Cache.{Stands, Touches};
+ghost use Rattle.comemo.specs.Begin.{IsHit, IsRun, IsBrokenOff, came_to};
+ghost use Rattle.comemo.specs.Begun.{OnBegun};
 ghost use Rattle.comemo.specs.Finish.{Ends, Gives, Finished, BreaksOffRun};
 
-use crate::begin::{Fault, Pending, give_pairs};
-use crate::memoize::{CacheData, Meant, Memo};
+use crate::cache::{CacheData, Found, Meant, Memo};
 use comemo_base::{CallSequence, InsertError};
+use comemo_track::constraint::Constraint;
+use comemo_track::input::Input;
+use comemo_track::track::{Breaking, Call, Sink};
 use std::alloc::{AllocError, Global};
-use tracking::constraint::Constraint;
-use tracking::track::{Breaking, Call, Sink};
+use std::marker::Model;
+
+/// Why a call of a memoized function failed, or a question of its run. A call that fails spoils its sink.
+///
+/// This project's own: comemo's calls can't fail.
+#[derive(Clone, Copy, Debug, PartialEq, Eq)]
+pub enum Fault {
+    /// A request for memory was refused.
+    Memory,
+    /// The run's recording is spoiled: something that it should hold is lost.
+    Incomplete,
+}
+
+/// So that `?` hands on a refused request of a run.
+impl From<AllocError> for Fault {
+    ghost use Rattle.std.specs.Prelude.{◌≡◌};
+    ghost use Rattle.comemo.specs.declared.pending.Fault.TheVariants.{Memory};
+
+    ghost from_gives = { λ _ fault. fault ≡ Memory };
+
+    fn from(_error: AllocError) -> Fault {
+        Fault::Memory
+    }
+}
 
 /// What became of a call of a memoized function. With all but `Hit` the sink has the run's recording.
 ///
@@ -34,10 +60,180 @@ pub enum How {
 }
 
 /// The answer of a memoized function: its output, and what became of the call.
+///
+/// This project's own: comemo gives the output alone.
 #[derive(Drop)]
 pub struct Reply<Out> {
+    /// What the function gives.
     pub output: Out,
+    /// What became of the call.
     pub how: How,
+}
+
+/// How a call of a memoized function began.
+///
+/// This project's own.
+pub enum Begun<M: Memo> {
+    /// An entry agreed: its output.
+    Hit(M::Out),
+    /// None did: the run that is to be done.
+    Run(Pending<M>),
+}
+
+/// A call at an input, as one value, for contracts to cite: `⟦<In as Invoked>⟧.invoked`.
+///
+/// There is nothing to implement. This project's own.
+pub trait Invoked: Input {
+    ghost invoked: { Self → Bool → Invocation Self.Key Self.Call Self.Answer };
+}
+
+impl<In: Input> Invoked for In {
+    ghost invoked = { λ s enabled. invocation (In.key_of s) (In.answers s) enabled };
+}
+
+/// A run of a memoized function that began. It is to be finished or given up, and can't be dropped.
+///
+/// It holds no part of the cache. This project's own: comemo's `memoize` takes the run as a closure.
+pub struct Pending<M: Memo> {
+    pub(crate) alloc: Global,
+    pub(crate) key: M::Key,
+    pub(crate) enabled: bool,
+    pub(crate) recording: Constraint<M::Call, M::Answer>,
+}
+
+impl<M: Memo> Model for Pending<M> {
+    ghost use Rattle.comemo.specs.Begin.{PendingRun, run_code};
+
+    ghost Value = { PendingRun M.Key M.Call M.Answer };
+
+    ghost coded = { run_code M.Key.code M.Call.code M.Answer.code };
+
+    ghost view = { λ s. record { key = s.key; enabled = s.enabled; recording = s.recording } };
+}
+
+impl<M: Memo> Pending<M> {
+    ghost use Rattle.std.specs.Borrow.{sem, Lends};
+    ghost use Rattle.comemo.specs.contracts.pending.Pending.{the_row};
+    ghost use Rattle.comemo_track.specs.contracts.constraint.Constraint.{the_row as recording_row};
+
+    /// What the run has recorded, to be recorded into: the sink of what the run asks. It takes no memory and constant
+    /// time.
+    ///
+    /// This project's own: comemo's `memoize` hands its closure an input that records.
+    pub fn recording(&mut self) -> &mut Constraint<M::Call, M::Answer>
+        ensures* writes_back { sem 𝓛 (Lends (the_row M.row M.Call.row M.Key.row M.Answer.row M.Out.row M.Memo.own M.Call.Call.own M.Call.Clone.own M.Call.PartialEq.own M.Call.Hash.own M.Key.Clone.own M.Key.PartialEq.own M.Key.Hash.own M.Answer.Clone.own M.Answer.Ord.own M.Answer.PartialEq.own M.Answer.PartialOrd.own M.Out.Clone.own) (recording_row M.Call.row M.Answer.row M.Call.Call.own M.Call.Clone.own M.Call.PartialEq.own M.Call.Hash.own) self.entry result (λ w. record self.old { recording = w })) }
+        ensures value { result.now ≡ self.old.recording }
+    {
+        &mut self.recording
+    }
+
+    /// Ends the run with its output: gives its recording to the sink, and stores it.
+    ///
+    /// The output has to be right for all answers that agree with the recorded pairs. A run that was begun with
+    /// `enabled` false isn't stored; nor is one for whose clones there is no memory. `Incomplete` comes exactly where
+    /// the recording is spoiled, and `Memory` where the sink found no memory: then the cache is as it was, and the sink
+    /// is spoiled, after it took perhaps a beginning of the recorded pairs.
+    ///
+    /// It clones each recorded pair and the output once, sends each pair to the sink, and stores as `CacheData::store`
+    /// does; with `enabled` false it sends the pairs alone, and clones nothing itself. The second half of comemo's
+    /// `memoize`.
+    pub fn finish<S: Sink<Call = M::Call, Answer = M::Answer>>(
+        self,
+        cache: &mut CacheData<M>,
+        sink: &mut S,
+        output: M::Out,
+    ) -> Result<Reply<M::Out>, Fault>
+        requires { self.recording.whole ≡ true
+            → Stands ⟦<M as Meant>⟧.meaning (came_to self output) }
+        ensures finished { IfOk result (λ reply. Finished ⟦<M as Meant>⟧.meaning cache.old self
+            (S.took sink.old sink.new) output reply cache.new) }
+        ensures incomplete { (result ≡ Err Fault.Incomplete) ↔ (self.recording.whole ≡ false) }
+        ensures spoils { self.recording.whole ≡ false → S.spoils sink.old sink.new }
+        ensures err { OnErr result ((cache.new ≡ cache.old)
+            × BreaksOffRun ⟦<M as Meant>⟧.meaning (⟦<S as Breaking>⟧.breaks_off sink.old sink.new)
+            self.recording.pairs) }
+    {
+        let Pending {
+            alloc,
+            key,
+            enabled,
+            recording,
+        } = self;
+        if !recording.is_whole() {
+            sink.spoil();
+            return Err(Fault::Incomplete);
+        }
+        let reads = recording.into_reads();
+        let how = if enabled {
+            end_run(alloc, cache, sink, key, reads, &output)?
+        } else {
+            give_reads(reads, sink)?;
+            How::Disabled
+        };
+        Ok(Reply { output, how })
+    }
+
+    /// Ends the run as it went: finishes it with its output, or gives it up with its fault.
+    ///
+    /// It is as `finish` on an output, and as `give_up` on a fault, which it hands on. This project's own.
+    pub fn end<S: Sink<Call = M::Call, Answer = M::Answer>>(
+        self,
+        cache: &mut CacheData<M>,
+        sink: &mut S,
+        ran: Result<M::Out, Fault>,
+    ) -> Result<Reply<M::Out>, Fault>
+        requires { (output : M.Out) → ran ≡ Ok output → self.recording.whole ≡ true
+            → Stands ⟦<M as Meant>⟧.meaning (came_to self output) }
+        ensures finished { IfOk result (λ reply. (output : M.Out) × (ran ≡ Ok output)
+            × Finished ⟦<M as Meant>⟧.meaning cache.old self
+            (S.took sink.old sink.new) output reply cache.new) }
+        ensures incomplete { IfOk ran
+            (λ _. (result ≡ Err Fault.Incomplete) ↔ (self.recording.whole ≡ false)) }
+        ensures fault { IfErr ran (λ fault. (result ≡ Err fault) × S.spoils sink.old sink.new) }
+        ensures spoils { self.recording.whole ≡ false → S.spoils sink.old sink.new }
+        ensures err { OnErr result ((cache.new ≡ cache.old)
+            × BreaksOffRun ⟦<M as Meant>⟧.meaning (⟦<S as Breaking>⟧.breaks_off sink.old sink.new)
+            self.recording.pairs) }
+    {
+        match ran {
+            Ok(output) => self.finish(cache, sink, output),
+            Err(fault) => {
+                self.give_up(sink);
+                Err(fault)
+            }
+        }
+    }
+
+    /// Gives the run up: nothing is stored, and the sink is spoiled. It takes no memory. This project's own.
+    pub fn give_up<S: Sink<Call = M::Call, Answer = M::Answer>>(self, sink: &mut S)
+        ensures { S.spoils sink.old sink.new }
+    {
+        let Pending {
+            alloc: _,
+            key,
+            enabled: _,
+            recording,
+        } = self;
+        drop(key);
+        drop(recording);
+        sink.spoil();
+    }
+}
+
+/// Gives reads with their answers to a sink, and spoils it where there is no memory.
+fn give_pairs<S: Sink>(pairs: Vec<(S::Call, S::Answer)>, sink: &mut S) -> Result<(), Fault>
+    requires { All (λ p. S.Call.is_write p.0 ≡ false) pairs.items }
+    ensures ok { OnOk result (S.took sink.old sink.new pairs.items []) }
+    ensures fault { IfErr result (λ fault. fault ≡ Fault.Memory) }
+    ensures err { OnErr result (⟦<S as Breaking>⟧.breaks_off sink.old sink.new pairs.items) }
+{
+    for (call, answer) in pairs {
+        let Ok(_) = sink.emit(call, Some(answer)) else {
+            sink.spoil();
+            return Err(Fault::Memory);
+        };
+    }
+    Ok(())
 }
 
 /// Clones of the pairs of a sequence.
@@ -84,8 +280,8 @@ fn give_reads<S: Sink>(
     ensures fault { IfErr result (λ fault. fault ≡ Fault.Memory) }
     ensures err { OnErr result (⟦<S as Breaking>⟧.breaks_off sink.old sink.new reads.pairs) }
 {
-    while let Some((call, answer)) = reads.next() {
-        let Ok(_) = sink.emit(call, Some(answer)) else {
+    while let Some(read) = reads.next() {
+        let Ok(_) = sink.emit(read.0, Some(read.1)) else {
             sink.spoil();
             return Err(Fault::Memory);
         };
@@ -143,92 +339,64 @@ fn end_run<M: Memo, S: Sink<Call = M::Call, Answer = M::Answer>>(
     Ok(keep(cache, key, reads, kept))
 }
 
-impl<M: Memo> Pending<M> {
-    /// Ends the run with its output: gives its recording to the sink, and stores it.
-    ///
-    /// The output has to be right for all answers that agree with the recorded pairs. A run that was begun with `enabled`
-    /// false isn't stored; nor is one for whose clones there is no memory. `Incomplete` comes exactly where the recording
-    /// is spoiled, and `Memory` where the sink found no memory: then the cache is as it was, and the sink is spoiled. The
-    /// second half of comemo's `memoize`.
-    pub fn finish<S: Sink<Call = M::Call, Answer = M::Answer>>(
-        self,
-        cache: &mut CacheData<M>,
-        sink: &mut S,
-        output: M::Out,
-    ) -> Result<Reply<M::Out>, Fault>
-        requires { self.recording.whole ≡ true
-            → Stands ⟦<M as Meant>⟧.meaning (came_to self output) }
-        ensures finished { IfOk result (λ reply. Finished ⟦<M as Meant>⟧.meaning cache.old self
-            (S.took sink.old sink.new) output reply cache.new) }
-        ensures incomplete { (result ≡ Err Fault.Incomplete) ↔ (self.recording.whole ≡ false) }
-        ensures spoils { self.recording.whole ≡ false → S.spoils sink.old sink.new }
-        ensures err { OnErr result ((cache.new ≡ cache.old)
-            × BreaksOffRun ⟦<M as Meant>⟧.meaning (⟦<S as Breaking>⟧.breaks_off sink.old sink.new)
-            self.recording.pairs) }
-    {
-        let Pending {
-            alloc,
-            key,
-            enabled,
-            recording,
-        } = self;
-        if !recording.is_whole() {
-            sink.spoil();
-            return Err(Fault::Incomplete);
-        }
-        let reads = recording.into_reads();
-        let how = if enabled {
-            end_run(alloc, cache, sink, key, reads, &output)?
-        } else {
-            give_reads(reads, sink)?;
-            How::Disabled
-        };
-        Ok(Reply { output, how })
-    }
-
-    /// Ends the run as it went: finishes it with its output, or gives it up with its fault.
-    ///
-    /// It is as `finish` on an output, and as `give_up` on a fault, which it hands on.
-    pub fn end<S: Sink<Call = M::Call, Answer = M::Answer>>(
-        self,
-        cache: &mut CacheData<M>,
-        sink: &mut S,
-        ran: Result<M::Out, Fault>,
-    ) -> Result<Reply<M::Out>, Fault>
-        requires { (output : M.Out) → ran ≡ Ok output → self.recording.whole ≡ true
-            → Stands ⟦<M as Meant>⟧.meaning (came_to self output) }
-        ensures finished { IfOk result (λ reply. (output : M.Out) × (ran ≡ Ok output)
-            × Finished ⟦<M as Meant>⟧.meaning cache.old self
-            (S.took sink.old sink.new) output reply cache.new) }
-        ensures incomplete { IfOk ran
-            (λ _. (result ≡ Err Fault.Incomplete) ↔ (self.recording.whole ≡ false)) }
-        ensures fault { IfErr ran (λ fault. (result ≡ Err fault) × S.spoils sink.old sink.new) }
-        ensures spoils { self.recording.whole ≡ false → S.spoils sink.old sink.new }
-        ensures err { OnErr result ((cache.new ≡ cache.old)
-            × BreaksOffRun ⟦<M as Meant>⟧.meaning (⟦<S as Breaking>⟧.breaks_off sink.old sink.new)
-            self.recording.pairs) }
-    {
-        match ran {
-            Ok(output) => self.finish(cache, sink, output),
-            Err(fault) => {
-                self.give_up(sink);
-                Err(fault)
-            }
-        }
-    }
-
-    /// Gives the run up: nothing is stored, and the sink is spoiled.
-    pub fn give_up<S: Sink<Call = M::Call, Answer = M::Answer>>(self, sink: &mut S)
-        ensures { S.spoils sink.old sink.new }
-    {
-        let Pending {
-            alloc: _,
-            key,
-            enabled: _,
-            recording,
-        } = self;
-        drop(key);
-        drop(recording);
+/// Begins a call of a memoized function: looks for an entry that agrees, and gives its output; or begins a run.
+///
+/// With `enabled` false there is no look-up, and the run won't be stored. On a hit the entry's path is given to the
+/// sink. A run changes nothing yet. `Memory` comes where the key, an answer of the input, a clone of the entry found or
+/// the sink found no memory: then the cache is as it was, nothing was written to the input, and the sink is spoiled,
+/// after it took perhaps a beginning of the entry's path.
+///
+/// It clones the key, and looks as `CacheData::look` does, which asks each call of one stored path once and finds its
+/// answer by binary search. On a hit it clones the calls of the entry's path and its output, and sends each pair of the
+/// path to the sink. The first half of comemo's `memoize`.
+pub fn begin<
+    M: Memo,
+    In: Input<Call = M::Call, Key = M::Key, Answer = M::Answer>,
+    S: Sink<Call = M::Call, Answer = M::Answer>,
+>(
+    alloc: Global,
+    cache: &mut CacheData<M>,
+    input: &mut In,
+    sink: &mut S,
+    enabled: bool,
+) -> Result<Begun<M>, Fault>
+    ensures hit { IfOk result (λ b. OnBegun b
+        (λ output. IsHit ⟦<M as Meant>⟧.meaning cache.old
+        (⟦<In as Invoked>⟧.invoked input.old enabled)
+        (In.did input.old input.new) (S.took sink.old sink.new) output
+        × Touches cache.old cache.new)
+        (λ _. ⊤)) }
+    ensures run { IfOk result (λ b. OnBegun b (λ _. ⊤)
+        (λ run. IsRun ⟦<M as Meant>⟧.meaning cache.old
+        (⟦<In as Invoked>⟧.invoked input.old enabled) run
+        × In.did input.old input.new [] × (sink.new ≡ sink.old) × (cache.new ≡ cache.old))) }
+    ensures fault { IfErr result (λ fault. fault ≡ Fault.Memory) }
+    ensures err { OnErr result ((cache.new ≡ cache.old) × In.did input.old input.new []
+        × IsBrokenOff ⟦<M as Meant>⟧.meaning cache.old (⟦<In as Invoked>⟧.invoked input.old enabled)
+        (⟦<S as Breaking>⟧.breaks_off sink.old sink.new)) }
+{
+    let Ok(key) = input.key() else {
         sink.spoil();
+        return Err(Fault::Memory);
+    };
+    if enabled {
+        let Ok(looked) = cache.look(&key, input) else {
+            sink.spoil();
+            return Err(Fault::Memory);
+        };
+        if let Some(found) = looked {
+            let Found {
+                pairs: path,
+                output,
+            } = found;
+            give_pairs(path, sink)?;
+            return Ok(Begun::Hit(output));
+        }
     }
+    Ok(Begun::Run(Pending {
+        alloc,
+        key,
+        enabled,
+        recording: Constraint::new(alloc),
+    }))
 }

@@ -1,15 +1,41 @@
-//! The ground of constrained memoization: SipHash-1-3-128, values with their hash, sequences of calls, and the call tree
-//! that memoized outputs are found in. The crate `comemo` stands on it.
+//! The ground of constrained memoization: SipHash-1-3-128, values with their hash, sequences of calls, and what a call
+//! tree is: its definitions, and the tree as a plain list. The crate `comemo_tree` has the tree that memoized outputs
+//! are found in, under the same contracts.
+//!
+//! A tree keeps a value under a key and the calls that a run asked, each with its answer. It gives the value again to
+//! an oracle that answers these calls so, and nothing to one that answers one of them otherwise:
+//!
+//! ```rust
+//! use comemo_base::{CallSequence, PlainTree};
+//! use std::test::Fail;
+//!
+//! fn what_is_stored_is_found_by_its_answers(rt: HostRuntime) -> Result<(), Fail> {
+//!     let mut run = CallSequence::new(rt.alloc());
+//!     let _ = run.insert(b'a', 10)?;
+//!     let _ = run.insert(b'b', 20)?;
+//!     let mut tree: PlainTree<u32, u8, u64, u64> = PlainTree::new(rt.alloc());
+//!     tree.insert(7, run, 30)?;
+//!     let found = tree.get(&7, &mut |call: &u8| Ok(if *call == b'a' { 10 } else { 20 }))?;
+//!     assert_eq!(rt; found.copied(), Some(30));
+//!     let other = tree.get(&7, &mut |_: &u8| Ok(10))?;
+//!     assert_eq!(rt; other.copied(), None);
+//!     Ok(())
+//! }
+//! ```
+//!
+//! These lines run as a test in the crate `comemo_base_tests`, in `src/examples.rt`.
 #![tactic(auto)]
 
-pub mod hash;
+pub mod hashing;
+pub mod insertion;
+pub mod plain;
 pub mod sequence;
 pub mod sip;
 pub mod tags;
-pub mod tree;
 
-pub use hash::{Prehashed, hash_any};
+pub use hashing::{Prehashed, hash, hash_any};
+pub use insertion::InsertError;
+pub use plain::PlainTree;
 pub use sequence::CallSequence;
 pub use sip::SipHasher13;
 pub use tags::Tagged;
-pub use tree::{CallTree, InsertError};

@@ -1,8 +1,8 @@
-//! The call tree: a map from a key and a path of calls with their answers to a value, which is looked up by asking an
-//! oracle the calls along one path.
+//! The call tree as a plain list: a map from a key and a path of calls with their answers to a value, which is looked
+//! up by asking an oracle the calls along one path.
 //!
-//! It is kept as a plain list that is searched whole: the program that a faster tree is compared with. Its contracts say
-//! nothing of an order of entries, so a faster tree can keep them word for word.
+//! The list is searched whole. It is the definition's own program, short and slow, which the tree of `comemo_tree` is
+//! compared with: their contracts are alike, and say nothing of an order of entries. No cache stands on it.
 ghost use Rattle.std.specs.Prelude.{◌≡◌, ◌≤◌, ◌<◌, ◌↔◌, ◌⊎◌, ◌∷◌, ◌++◌, [], List, length, IsTrue, Some, IfSome, IfNone, IfOk, IfErr, OnOk, OnErr, IsOk, option_copied, option_map};
 ghost use Rattle.std.specs.List.{All, HoldsAt};
 ghost use Rattle.std.specs.List.Sorted.{IsPermutation};
@@ -11,49 +11,14 @@ ghost use Rattle.comemo_base.specs.Sequence.{HasDistinctCalls};
 ghost use Rattle.comemo_base.specs.Answers.{Respects};
 ghost use Rattle.comemo_base.specs.Tree.{Parts, IsSamePath, IsTree, stored};
 ghost use Rattle.comemo_base.specs.Lookup.{under, Answered, AnswersAs, CanBeAsked, IsAsked, LooksUp, LooksUpPath, IsLookupRefused, FindsAgreeing, FindsAgreeingPath};
-ghost use Rattle.comemo_base.specs.Insertion.{Exists, Misses, IsStem, IsNewPath, IsReason, outside};
+ghost use Rattle.comemo_base.specs.Insertion.{Exists, Misses, IsStem, IsNewPath, IsReason, Adds, outside};
 ghost use Rattle.comemo_base.specs.Steps.{Follows};
 
+use crate::insertion::InsertError;
 use crate::sequence::CallSequence;
-use std::alloc::{AllocError, AllocFailed, Global};
+use std::alloc::{AllocError, Global};
 use std::hash::Hash;
 use std::marker::Model;
-
-/// Why an insertion stored nothing. Each leaves the tree as it was.
-///
-/// comemo's `InsertError`, and `Memory`.
-#[derive(Clone, Copy, Debug, PartialEq, Eq)]
-pub enum InsertError {
-    /// A stored path under the key has all its pairs among those of the sequence.
-    AlreadyExists,
-    /// After a front whose pairs are among those of the sequence, a stored path under the key goes on with a call that
-    /// the sequence lacks: the function that was run isn't determined by its key and answers.
-    MissingCall,
-    /// A request for memory was refused.
-    Memory,
-}
-
-impl From<AllocError> for InsertError {
-    ghost use Rattle.std.specs.Prelude.{◌≡◌};
-    ghost use Rattle.comemo_base.specs.declared.tree.InsertError.TheVariants.{Memory};
-
-    ghost from_gives = { λ _ e. e ≡ Memory };
-
-    fn from(_: AllocError) -> Self {
-        InsertError::Memory
-    }
-}
-
-impl<T: Drop> From<AllocFailed<T>> for InsertError {
-    ghost use Rattle.std.specs.Prelude.{◌≡◌};
-    ghost use Rattle.comemo_base.specs.declared.tree.InsertError.TheVariants.{Memory};
-
-    ghost from_gives = { λ _ e. e ≡ Memory };
-
-    fn from(_refused: AllocFailed<T>) -> Self {
-        InsertError::Memory
-    }
-}
 
 /// A value under a key and a path.
 #[derive(Debug, Drop)]
@@ -77,13 +42,14 @@ impl<K, C, R, T> Model for Entry<K, C, R, T> {
 ///
 /// Contracts see it as a list of entries, of whose order no clause speaks. Any two paths under one key part: after an
 /// equal front they go on with the same call and different answers. So at most one path under a key agrees with given
-/// answers. comemo's `CallTree`, with keys and answers themselves in the place of their hashes.
+/// answers. Each entry has its key, its whole path and its value for itself: paths with an equal front share no memory.
+/// comemo's `CallTree` as a plain list, with keys and answers themselves in the place of their hashes.
 #[derive(Debug, Drop)]
-pub struct CallTree<K: Eq + Hash, C: Eq + Hash, R: Ord, T> {
+pub struct PlainTree<K: Eq + Hash, C: Eq + Hash, R: Ord, T> {
     entries: Vec<Entry<K, C, R, T>>,
 }
 
-impl<K: Eq + Hash, C: Eq + Hash, R: Ord, T> Model for CallTree<K, C, R, T> {
+impl<K: Eq + Hash, C: Eq + Hash, R: Ord, T> Model for PlainTree<K, C, R, T> {
     ghost use Rattle.std.specs.Prelude.{List};
     ghost use Rattle.std.specs.Coded.{coded_list};
     ghost use Rattle.comemo_base.specs.Tree.{Stored, stored_code, IsTree};
@@ -190,20 +156,20 @@ fn get_in<'a, K: Eq + Hash, C: Eq + Hash, R: Ord + Drop, T, O: FnMut(&C) -> Resu
     }
 }
 
-impl<K: Eq + Hash, C: Eq + Hash, R: Ord, T> CallTree<K, C, R, T> {
+impl<K: Eq + Hash, C: Eq + Hash, R: Ord, T> PlainTree<K, C, R, T> {
     /// An empty tree. It takes no memory.
     ///
     /// comemo's `CallTree::new`.
     pub fn new(alloc: Global) -> Self
         ensures { result ≡ [] }
     {
-        CallTree {
+        PlainTree {
             entries: Vec::new(alloc),
         }
     }
 
-    /// Tells a proof that any two paths under equal keys part, and that the calls of each path are distinct, which every
-    /// tree keeps. It does nothing when it runs.
+    /// Tells a proof that any two paths under equal keys part, and that the calls of each path are distinct, which
+    /// every tree keeps. It does nothing when it runs. This project's own.
     pub fn is_parted(&self)
         ensures { IsTree C.eq R.eq K.eq self.now }
     {
@@ -220,9 +186,13 @@ impl<K: Eq + Hash, C: Eq + Hash, R: Ord, T> CallTree<K, C, R, T> {
     /// The value of the path under a key whose answers the oracle gives, or `None` where there is none.
     ///
     /// It asks the calls along one stored path, each once and in order, until the path ends or no stored path goes on
-    /// with the answer that was given; with no path under the key, or an empty one, it asks nothing. So the oracle needs to
-    /// answer stored calls alone. It is lent, so its state afterwards is known. An oracle that refuses an answer ends the
-    /// look-up with its error; nothing else does, and the tree takes no memory of its own. comemo's `CallTree::get`.
+    /// with the answer that was given; with no path under the key, or an empty one, it asks nothing. So the oracle
+    /// needs to answer stored calls alone. It is lent, so its state afterwards is known. An oracle that refuses an
+    /// answer ends the look-up with its error; nothing else does, and the tree takes no memory of its own.
+    ///
+    /// To begin, and again after each call that it asks, it goes through the entries from the first on, until one fits.
+    /// It compares the key of each of them and, where that is equal, the answers that its path has so far. comemo's
+    /// `CallTree::get`.
     pub fn get<O: FnMut(&C) -> Result<R, AllocError>>(
         &self,
         key: &K,
@@ -254,8 +224,9 @@ impl<K: Eq + Hash, C: Eq + Hash, R: Ord, T> CallTree<K, C, R, T> {
 
     /// As `get`, with the path that was found, cloned, before its value.
     ///
-    /// It asks as `get` does. Beside an oracle that refused, an error comes where a path was found and there was no
-    /// memory for its clone. This project's own.
+    /// It asks and compares as `get` does, and clones the calls and answers of the path that was found. Beside an
+    /// oracle that refused, an error comes where a path was found and there was no memory for its clone. This project's
+    /// own.
     pub fn find<O: FnMut(&C) -> Result<R, AllocError>>(
         &self,
         key: &K,
@@ -376,13 +347,17 @@ fn new_path<K: Eq + Hash, C: Clone + Eq + Hash, R: Ord + Drop, T>(
     Ok(path)
 }
 
-impl<K: Eq + Hash + Drop, C: Clone + Eq + Hash, R: Ord + Drop, T: Drop> CallTree<K, C, R, T> {
+impl<K: Eq + Hash + Drop, C: Clone + Eq + Hash, R: Ord + Drop, T: Drop> PlainTree<K, C, R, T> {
     /// Stores a value under a key and the path that a sequence takes in the tree.
     ///
     /// The path follows stored ones as long as the sequence has their pairs, wherever these stand in it, and then has
     /// the pairs that are left in the sequence's order. Every error leaves the tree as it was: `AlreadyExists` and
     /// `MissingCall` come exactly where [`InsertError`] says so, and `Memory` where a request for memory was refused.
-    /// The key, the sequence and the value are dropped then. comemo's `CallTree::insert`.
+    /// The key, the sequence and the value are dropped then.
+    ///
+    /// It goes along stored paths as `get` does, and compares as much, with the sequence in the place of an oracle. It
+    /// clones each call that it takes from a stored path, and takes memory for the new path and, at times, for more
+    /// room for entries. comemo's `CallTree::insert`.
     pub fn insert(
         &mut self,
         key: K,
@@ -392,9 +367,8 @@ impl<K: Eq + Hash + Drop, C: Clone + Eq + Hash, R: Ord + Drop, T: Drop> CallTree
         requires { (x y : C) → C.is_clone x y → IsTrue (C.eq x y) }
         ensures ok { OnOk result ((¬ Exists C.eq R.eq (under K.eq self.old key) sequence.pairs)
             × (¬ Misses C.eq R.eq (under K.eq self.old key) sequence.pairs)) }
-        ensures stored { OnOk result ((path : List (C × R))
-            × IsNewPath C.eq R.eq (under K.eq self.old key) sequence.pairs path
-            × IsPermutation (stored key path value ∷ self.old) self.new) }
+        ensures stored { OnOk result
+            (Adds C.eq R.eq K.eq self.old key sequence.pairs value self.new) }
         ensures reason { IfErr result
             (IsReason C.eq R.eq (under K.eq self.old key) sequence.pairs) }
         ensures err { OnErr result (self.new ≡ self.old) }

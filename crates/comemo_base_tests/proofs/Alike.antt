@@ -13,7 +13,7 @@ use Rattle.comemo_base.specs.Lookup.{FindsAgreeing}
 use Rattle.comemo_base.specs.Insertion.{Has, AllAmong, LacksNextCall, Exists, Misses}
 use Rattle.comemo_base.proofs.Under.{Any-weaker}
 use Rattle.comemo_base.proofs.Paths.{turned, joined, IsSamePath-turned}
-use Rattle.base_tests.specs.Laws.{AgreesAlike, HasDistinctCallsAlike, PartsAlike, FindsAlike, ExistsAlike, MissesAlike}
+use Rattle.comemo_base_tests.specs.Laws.{AgreesAlike, HasDistinctCallsAlike, PartsAlike, FindsAlike, ExistsAlike, MissesAlike}
 
 -- both are nothing, or they are equal
 abbrev pub IsSameOption : {R : Type 0} → (R → R → Bool) → Option R → Option R → Type 0

@@ -10,10 +10,10 @@ use Rattle.comemo_base.specs.Insertion.{IsStem, outside}
 use Rattle.comemo_base.proofs.Under.{Any-weaker}
 use Rattle.comemo_base.proofs.Paths.{turned, joined, IsSamePath-turned, IsSamePath-joined}
 use Rattle.comemo_base.proofs.Steps.{AllAmong-same as AllAmong-path}
-use Rattle.base_tests.specs.Laws.{IsFrontAlike, IsNextAlike, IsAskedAlike, IsRefusedAlike, FindsPathAlike, IsStemAlike, IsNewPathAlike, IsTreeAlike}
-use Rattle.base_tests.proofs.Agreeing.{IsSamePath-itself}
-use Rattle.base_tests.proofs.Alike.{AllAmong-same, HasDistinctCalls-same, Parts-same, Agrees-alike}
-use Rattle.base_tests.proofs.AlikePairs.{IsSamePath-append, outside_alike}
+use Rattle.comemo_base_tests.specs.Laws.{IsFrontAlike, IsNextAlike, IsAskedAlike, IsRefusedAlike, FindsPathAlike, IsStemAlike, IsNewPathAlike, IsTreeAlike}
+use Rattle.comemo_base_tests.proofs.Agreeing.{IsSamePath-itself}
+use Rattle.comemo_base_tests.proofs.Alike.{AllAmong-same, HasDistinctCalls-same, Parts-same, Agrees-alike}
+use Rattle.comemo_base_tests.proofs.AlikePairs.{IsSamePath-append, outside_alike}
 
 module _ {C R : Type 0} {eq : C → C → Bool} {same : R → R → Bool} (calls : IsEquivalence eq) (answers : IsEquivalence same) where
   IsFront-same : (ps ps' qs qs' : List (C × R)) → IsSamePath eq same ps ps' → IsSamePath eq same qs qs' → IsFront eq same ps qs → IsFront eq same ps' qs'

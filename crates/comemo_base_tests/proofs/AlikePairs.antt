@@ -7,8 +7,8 @@ use Rattle.std.specs.HashMap.Eq.{lookup_congr}
 use Rattle.std.specs.Cmp.{IsEquivalence}
 use Rattle.comemo_base.specs.Sequence.{held}
 use Rattle.comemo_base.specs.Tree.{IsSamePath}
-use Rattle.base_tests.specs.Laws.{HeldAlike, AbsorbedAlike, OutsideAlike, WasSeenAlike}
-use Rattle.base_tests.proofs.Alike.{IsSameOption, lookup-same}
+use Rattle.comemo_base_tests.specs.Laws.{HeldAlike, AbsorbedAlike, OutsideAlike, WasSeenAlike}
+use Rattle.comemo_base_tests.proofs.Alike.{IsSameOption, lookup-same}
 
 is_some-same : {R : Type 0} (same : R → R → Bool) (o o' : Option R) → IsSameOption same o o' → is_some o ≡ is_some o'
 is_some-same same None None h = refl

@@ -5,13 +5,12 @@ use Rattle.std.proofs.lemmas.List.Elements.{All-cons}
 use Rattle.std.proofs.lemmas.List.Sorted.{All-permutation, IsPermutation-sym}
 use Rattle.std.specs.Prelude.{IsSomeAnd}
 use Rattle.std.specs.List.{All, filter}
-use Rattle.std.specs.List.Sorted.{IsPermutation}
 use Rattle.std.specs.Map.{lookup}
 use Rattle.std.specs.Cmp.{IsEquivalence}
 use Rattle.comemo_base.specs.Answers.{Respects, Agrees}
 use Rattle.comemo_base.specs.Tree.{Stored, stored}
 use Rattle.comemo_base.specs.Lookup.{under, FindsAgreeing}
-use Rattle.comemo_base.specs.Insertion.{Has, AllAmong, LacksNextCall, Exists, Misses, IsNewPath, outside}
+use Rattle.comemo_base.specs.Insertion.{Has, AllAmong, LacksNextCall, Exists, Misses, IsNewPath, Adds, outside}
 use Rattle.comemo_base.proofs.Under.{Any-under, Any-from_under, All-from_under}
 use Rattle.comemo_base.proofs.Paths.{turned, joined, get_or_same}
 
@@ -55,27 +54,27 @@ module _ {C R : Type 0} {eq : C → C → Bool} {same : R → R → Bool} (answe
   Agrees-append [] qs a b = b
   Agrees-append (p ∷ ps) qs a b = (a.0, Agrees-append ps qs a.1 b)
 
-  module _ {K T : Type 0} {eqk : K → K → Bool} (keys : IsEquivalence eqk) (es : List (Stored K C R T)) (key : K) (s path : List (C × R)) (a : Agrees same m s) where
+  module _ {K T : Type 0} (eqk : K → K → Bool) (es : List (Stored K C R T)) (key : K) (s : List (C × R)) (a : Agrees same m s) where
     -- the path that was stored agrees with the map
-    Agrees-new_path : IsNewPath eq same (under eqk es key) s path → Agrees same m path
+    Agrees-new_path : {path : List (C × R)} → IsNewPath eq same (under eqk es key) s path → Agrees same m path
     Agrees-new_path h =
         let front : Agrees same m h.0 = elim h.1 [ inl n ↦ subst (λ ps. Agrees same m ps) (sym n.1) tt | inr n ↦ Agrees-among s h.0 a n.0 ] in
         subst (λ ps. Agrees same m ps) (sym h.2) (Agrees-append h.0 (outside eq h.0 s) front (Agrees-filter _ s a))
 
     -- and no other one does
-    alone : (value : T) → (Exists eq same (under eqk es key) s → ⊥) → (Misses eq same (under eqk es key) s → ⊥) → All (λ e. IsTrue (eqk e.key key) → Agrees same m e.path → e.value ≡ value) (stored key path value ∷ es)
-    alone value new full =
-        All-cons (λ (e : Stored K C R T). IsTrue (eqk e.key key) → Agrees same m e.path → e.value ≡ value) (stored key path value) es (λ u k. refl) (λ i d l u k.
+    alone : (own : K) (path : List (C × R)) (value : T) → (Exists eq same (under eqk es key) s → ⊥) → (Misses eq same (under eqk es key) s → ⊥) → All (λ e. IsTrue (eqk e.key key) → Agrees same m e.path → e.value ≡ value) (stored own path value ∷ es)
+    alone own path value new full =
+        All-cons (λ (e : Stored K C R T). IsTrue (eqk e.key key) → Agrees same m e.path → e.value ≡ value) (stored own path value) es (λ u k. refl) (λ i d l u k.
         let e = get_or es i d in
         let at = get_or_same es i e d l in
         absurd (not_Agrees s e.path a (λ h. new (Any-under eqk es key (λ x. AllAmong eq same s x.path) (i, e, l, at, (u, h)))) (λ h. full (Any-under eqk es key (λ x. LacksNextCall eq same s x.path) (i, e, l, at, (u, h)))) k))
 
-    pub found_as_stored : (after : List (Stored K C R T)) (value : T) (r : Option T) → (Exists eq same (under eqk es key) s → ⊥) → (Misses eq same (under eqk es key) s → ⊥) → IsNewPath eq same (under eqk es key) s path → IsPermutation (stored key path value ∷ es) after → FindsAgreeing eq same (under eqk after key) m r → r ≡ Some value
-    found_as_stored after value None new full is moved none =
-        let back = All-permutation (λ (e : Stored K C R T). IsTrue (eqk e.key key) → ¬ Agrees same m e.path) after (stored key path value ∷ es) (IsPermutation-sym _ _ moved) (All-from_under eqk after key (λ e. ¬ Agrees same m e.path) none) in
-        absurd (back 0 (stored key path value) (omega arith) (keys.refl key) (Agrees-new_path is))
-    found_as_stored after value (Some v) new full is moved found =
-        let all = All-permutation (λ (e : Stored K C R T). IsTrue (eqk e.key key) → Agrees same m e.path → e.value ≡ value) (stored key path value ∷ es) after moved (alone value new full) in
+    pub found_as_stored : (after : List (Stored K C R T)) (value : T) (r : Option T) → (Exists eq same (under eqk es key) s → ⊥) → (Misses eq same (under eqk es key) s → ⊥) → Adds eq same eqk es key s value after → FindsAgreeing eq same (under eqk after key) m r → r ≡ Some value
+    found_as_stored after value None new full adds none =
+        let back = All-permutation (λ (e : Stored K C R T). IsTrue (eqk e.key key) → ¬ Agrees same m e.path) after (stored adds.own adds.path value ∷ es) (IsPermutation-sym _ _ adds.entries) (All-from_under eqk after key (λ e. ¬ Agrees same m e.path) none) in
+        absurd (back 0 (stored adds.own adds.path value) (omega arith) adds.is_key (Agrees-new_path adds.is_new))
+    found_as_stored after value (Some v) new full adds found =
+        let all = All-permutation (λ (e : Stored K C R T). IsTrue (eqk e.key key) → Agrees same m e.path → e.value ≡ value) (stored adds.own adds.path value ∷ es) after adds.entries (alone adds.own adds.path value new full) in
         let some = Any-from_under eqk after key (λ e. Agrees same m e.path × (e.value ≡ v)) found in
         let P : Stored K C R T → Type 0 = λ e. IsTrue (eqk e.key key) → Agrees same m e.path → e.value ≡ value in
         let one : P some.1 = subst P some.3 (all some.0 some.1 some.2) in

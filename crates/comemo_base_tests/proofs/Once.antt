@@ -6,7 +6,7 @@ use Rattle.std.specs.declared.alloc.AllocError.{AllocError}
 use denote.Ref.{Bor}
 use Rattle.comemo_base.specs.Tree.{Stored, IsSamePath, IsFront}
 use Rattle.comemo_base.specs.Lookup.{Answered, LooksUp, IsLookupRefused, IsNext, IsAskedFront}
-use Rattle.base_tests.specs.Refusals.{GoesOnAfter, IsAnsweredBy, LacksAnswer}
+use Rattle.comemo_base_tests.specs.Refusals.{GoesOnAfter, IsAnsweredBy, LacksAnswer}
 
 -- the oracle answers what is left, once, and notes a refusal
 pub record AnswersOnce {O C R : Type 0} (g : Mut O (Bor C × Unit {0}) (Result R AllocError)) (left : O → Option R) (refused : O → Bool) : Type 0 where

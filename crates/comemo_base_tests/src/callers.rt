@@ -6,8 +6,7 @@ ghost use Rattle.std.specs.List.{All, Any};
 ghost use Rattle.comemo_base.specs.Answers.{Agrees};
 ghost use Rattle.comemo_base.specs.Lookup.{under, FindsAgreeing, FindsAgreeingPath};
 
-use comemo_base::sequence::CallSequence;
-use comemo_base::tree::{CallTree, InsertError};
+use comemo_base::{CallSequence, InsertError, PlainTree};
 use std::alloc::AllocError;
 use std::hash::Hash;
 
@@ -20,7 +19,7 @@ fn answer_in(table: &[u128], call: u8) -> u128
 
 /// The value whose path agrees with a table of answers. No answer is refused, so the look-up gives no error.
 pub fn get_by_table<'a, T>(
-    tree: &'a CallTree<u128, u8, u128, T>,
+    tree: &'a PlainTree<u128, u8, u128, T>,
     key: u128,
     table: &[u128],
 ) -> Option<&'a T>
@@ -37,7 +36,7 @@ pub fn get_by_table<'a, T>(
 ///
 /// The oracle reads the table there without a test, so it can be asked no other call.
 pub fn get_by_whole_table<'a, T>(
-    tree: &'a CallTree<u128, u8, u128, T>,
+    tree: &'a PlainTree<u128, u8, u128, T>,
     key: u128,
     table: &[u128],
 ) -> Option<&'a T>
@@ -59,7 +58,7 @@ pub fn get_by_whole_table<'a, T>(
 /// The path that agrees with a table of answers, and its value. Where an error comes, such a path is stored,
 /// and there was no memory for its clone.
 pub fn find_by_table<'a, T>(
-    tree: &'a CallTree<u128, u8, u128, T>,
+    tree: &'a PlainTree<u128, u8, u128, T>,
     key: u128,
     table: &[u128],
 ) -> Result<Option<(Vec<(u8, u128)>, &'a T)>, AllocError>
@@ -75,7 +74,7 @@ pub fn find_by_table<'a, T>(
 /// Stores a value, and looks it up by a table that agrees with its sequence: what was stored is found, whatever else the
 /// tree has.
 pub fn insert_then_get<'a, T: Drop>(
-    tree: &'a mut CallTree<u128, u8, u128, T>,
+    tree: &'a mut PlainTree<u128, u8, u128, T>,
     key: u128,
     sequence: CallSequence<u8, u128>,
     value: T,
@@ -110,7 +109,7 @@ pub trait Input {
 
 /// The value whose path agrees with the answers of an input, which stay as they were.
 pub fn get_by_input<'a, K: Eq + Hash, I: Input, T>(
-    tree: &'a CallTree<K, I::Call, I::Answer, T>,
+    tree: &'a PlainTree<K, I::Call, I::Answer, T>,
     key: &K,
     input: &mut I,
 ) -> Result<Option<&'a T>, AllocError>
@@ -132,7 +131,7 @@ pub fn get_by_input<'a, K: Eq + Hash, I: Input, T>(
 
 /// The path that agrees with the answers of an input, and its value. The input's answers stay as they were.
 pub fn find_by_input<'a, K: Eq + Hash, I: Input, T>(
-    tree: &'a CallTree<K, I::Call, I::Answer, T>,
+    tree: &'a PlainTree<K, I::Call, I::Answer, T>,
     key: &K,
     input: &mut I,
 ) -> Result<Option<(Vec<(I::Call, I::Answer)>, &'a T)>, AllocError>
@@ -177,7 +176,7 @@ impl Input for Page {
 
 /// The value whose path agrees with a page, under a text as key.
 pub fn get_by_page<'a>(
-    tree: &'a CallTree<String, (), String, u32>,
+    tree: &'a PlainTree<String, (), String, u32>,
     key: &String,
     page: &mut Page,
 ) -> Result<Option<&'a u32>, AllocError>
@@ -192,7 +191,7 @@ pub fn get_by_page<'a>(
 
 /// The path that agrees with a page, under a text as key, and its value.
 pub fn find_by_page<'a>(
-    tree: &'a CallTree<String, (), String, u32>,
+    tree: &'a PlainTree<String, (), String, u32>,
     key: &String,
     page: &mut Page,
 ) -> Result<Option<(Vec<((), String)>, &'a u32)>, AllocError>
@@ -212,7 +211,7 @@ mod tests {
 
     #[test]
     fn a_table_finds_the_path_of_its_answers(rt: HostRuntime) -> Result<(), Fail> {
-        let mut tree = CallTree::new(rt.alloc());
+        let mut tree = PlainTree::new(rt.alloc());
         for (second, value) in [(15, 'f'), (20, 's')] {
             let mut sequence = CallSequence::new(rt.alloc());
             assert!(rt; sequence.insert(0, 10)?);
@@ -230,7 +229,7 @@ mod tests {
 
     #[test]
     fn a_whole_table_is_read_at_stored_calls(rt: HostRuntime) -> Result<(), Fail> {
-        let mut tree = CallTree::new(rt.alloc());
+        let mut tree = PlainTree::new(rt.alloc());
         let mut sequence = CallSequence::new(rt.alloc());
         assert!(rt; sequence.insert(1, 15)?);
         tree.insert(0, sequence, 'f')?;
@@ -241,7 +240,7 @@ mod tests {
 
     #[test]
     fn what_was_stored_is_found(rt: HostRuntime) -> Result<(), Fail> {
-        let mut tree = CallTree::new(rt.alloc());
+        let mut tree = PlainTree::new(rt.alloc());
         let mut sequence = CallSequence::new(rt.alloc());
         assert!(rt; sequence.insert(0, 10)?);
         let found = insert_then_get(&mut tree, 0, sequence, 'f', &[10, 15])?;
@@ -254,7 +253,7 @@ mod tests {
         let alloc = rt.alloc();
         let mut sequence = CallSequence::new(alloc);
         assert!(rt; sequence.insert((), String::from_str(alloc, "Ada")?)?);
-        let mut tree = CallTree::new(alloc);
+        let mut tree = PlainTree::new(alloc);
         tree.insert(String::from_str(alloc, "page")?, sequence, 7)?;
         let key = String::from_str(alloc, "page")?;
         let mut page = Page {

@@ -1,7 +1,7 @@
 //! Laws of the definitions that `comemo_base`'s contracts cite: none of them tells equal keys, calls or answers apart.
 //!
 //! Each function here does nothing when it runs. What it ensures is the law.
-ghost use Rattle.base_tests.specs.Laws.{AgreesAlike, HasDistinctCallsAlike, PartsAlike, FindsAlike, ExistsAlike, MissesAlike, UnderAlike, HeldAlike, AbsorbedAlike, OutsideAlike, IsFrontAlike, IsNextAlike, IsAskedAlike, IsRefusedAlike, FindsPathAlike, IsStemAlike, IsNewPathAlike, IsTreeAlike, WasSeenAlike};
+ghost use Rattle.comemo_base_tests.specs.Laws.{AgreesAlike, HasDistinctCallsAlike, PartsAlike, FindsAlike, ExistsAlike, MissesAlike, UnderAlike, HeldAlike, AbsorbedAlike, OutsideAlike, IsFrontAlike, IsNextAlike, IsAskedAlike, IsRefusedAlike, FindsPathAlike, IsStemAlike, IsNewPathAlike, IsTreeAlike, WasSeenAlike};
 
 use std::hash::Hash;
 

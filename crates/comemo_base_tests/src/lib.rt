@@ -2,12 +2,18 @@
 //! worked examples, and numbers that another program made.
 #![tactic(auto)]
 
-pub mod callers;
-pub mod laws;
+#[cfg(test)]
+mod callers;
+#[cfg(test)]
+mod examples;
+#[cfg(test)]
+mod laws;
 #[cfg(test)]
 mod pieces;
-pub mod prehashed;
-pub mod refusals;
+#[cfg(test)]
+mod prehashed;
+#[cfg(test)]
+mod refusals;
 #[cfg(test)]
 mod rows;
 #[cfg(test)]

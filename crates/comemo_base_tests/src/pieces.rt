@@ -1,7 +1,6 @@
 //! Bytes that are hashed in pieces, and numbers that are hashed as their bytes.
 use crate::vectors::text;
-use comemo_base::hash::hash;
-use comemo_base::sip::SipHasher13;
+use comemo_base::{SipHasher13, hash};
 use std::hash::Hasher;
 use std::test::Fail;
 

@@ -2,8 +2,7 @@
 ghost use Rattle.std.specs.Prelude.{◌≡◌, IsTrue};
 ghost use Rattle.std.specs.Fn.{FnOnceReturnsAtMut};
 
-use comemo_base::hash::{Prehashed, hash, hash_any};
-use comemo_base::tags::Tagged;
+use comemo_base::{Prehashed, Tagged, hash, hash_any};
 use std::hash::Hash;
 
 /// Whether two values are equal, and the hash of each. Equal values have one hash, since they feed the same bytes.
@@ -76,7 +75,7 @@ pub fn replace_and_hash<T: Hash + Tagged + Copy + Drop>(
 #[cfg(test)]
 mod tests {
     use super::*;
-    use comemo_base::sip::SipHasher13;
+    use comemo_base::SipHasher13;
     use std::hash::Hasher;
     use std::test::Fail;
 

@@ -2,9 +2,9 @@
 ghost use Rattle.std.specs.Prelude.{◌≡◌, is_err, IfOk, IfErr, IfSome, IfNone, Some, None, true, option_copied};
 ghost use Rattle.std.specs.List.{Any};
 ghost use Rattle.comemo_base.specs.Lookup.{under};
-ghost use Rattle.base_tests.specs.Refusals.{GoesOnAfter, IsAnsweredBy, LacksAnswer};
+ghost use Rattle.comemo_base_tests.specs.Refusals.{GoesOnAfter, IsAnsweredBy, LacksAnswer};
 
-use comemo_base::tree::CallTree;
+use comemo_base::PlainTree;
 use std::alloc::AllocError;
 use std::hash::Hash;
 
@@ -13,7 +13,7 @@ use std::hash::Hash;
 /// A refusal is passed on: the look-up gives an error exactly where its oracle refused a call, so a miss never stands for
 /// a refusal.
 pub fn get_with_one_answer<'a, K: Eq + Hash, C: Eq + Hash, R: Ord + Drop, T>(
-    tree: &'a CallTree<K, C, R, T>,
+    tree: &'a PlainTree<K, C, R, T>,
     key: &K,
     answer: R,
 ) -> (Result<Option<&'a T>, AllocError>, bool)
@@ -49,13 +49,13 @@ pub fn get_with_one_answer<'a, K: Eq + Hash, C: Eq + Hash, R: Ord + Drop, T>(
 #[cfg(test)]
 mod tests {
     use super::*;
-    use comemo_base::sequence::CallSequence;
+    use comemo_base::CallSequence;
     use std::test::Fail;
 
     #[test]
     fn a_refused_call_is_no_miss(rt: HostRuntime) -> Result<(), Fail> {
         let alloc = rt.alloc();
-        let mut tree: CallTree<u128, u8, u128, char> = CallTree::new(alloc);
+        let mut tree: PlainTree<u128, u8, u128, char> = PlainTree::new(alloc);
         let mut long = CallSequence::new(alloc);
         assert!(rt; long.insert(b'a', 1)?);
         assert!(rt; long.insert(b'b', 2)?);

@@ -1,10 +1,9 @@
 //! Worked examples of sequences and trees: calls are bytes, answers numbers.
-use comemo_base::sequence::CallSequence;
-use comemo_base::tree::{CallTree, InsertError};
+use comemo_base::{CallSequence, InsertError, PlainTree};
 use std::alloc::{AllocError, Global};
 use std::test::Fail;
 
-type Tree = CallTree<u128, u8, u128, char>;
+type Tree = PlainTree<u128, u8, u128, char>;
 
 fn sequence_of(alloc: Global, pairs: &[(u8, u128)]) -> Result<CallSequence<u8, u128>, AllocError> {
     let mut sequence = CallSequence::new(alloc);
@@ -55,7 +54,7 @@ fn look_up(
 #[test]
 fn paths_that_part_are_each_found(rt: HostRuntime) -> Result<(), Fail> {
     let alloc = rt.alloc();
-    let mut tree = CallTree::new(alloc);
+    let mut tree = PlainTree::new(alloc);
     let rows = [
         ([(b'a', 10), (b'b', 15)], 'f'),
         ([(b'a', 10), (b'b', 20)], 's'),
@@ -74,7 +73,7 @@ fn paths_that_part_are_each_found(rt: HostRuntime) -> Result<(), Fail> {
 #[test]
 fn a_path_follows_the_stored_ones_and_then_the_sequence(rt: HostRuntime) -> Result<(), Fail> {
     let alloc = rt.alloc();
-    let mut tree = CallTree::new(alloc);
+    let mut tree = PlainTree::new(alloc);
     let first = [(b'a', 10), (b'b', 15)];
     let second = [(b'a', 10), (b'c', 15), (b'b', 20)];
     let third = [(b'a', 15), (b'b', 30), (b'c', 15)];
@@ -97,7 +96,7 @@ fn a_path_follows_the_stored_ones_and_then_the_sequence(rt: HostRuntime) -> Resu
 #[test]
 fn what_is_stored_and_what_lacks_a_call_is_not_stored(rt: HostRuntime) -> Result<(), Fail> {
     let alloc = rt.alloc();
-    let mut tree = CallTree::new(alloc);
+    let mut tree = PlainTree::new(alloc);
     assert_eq!(rt; insert(alloc, &mut tree, &[(b'a', 1)], 'x'), Ok(()));
     let longer = insert(alloc, &mut tree, &[(b'a', 1), (b'b', 2)], 'y');
     assert_eq!(rt; longer, Err(InsertError::AlreadyExists));
@@ -110,7 +109,7 @@ fn what_is_stored_and_what_lacks_a_call_is_not_stored(rt: HostRuntime) -> Result
 #[test]
 fn an_empty_path_is_found_unasked(rt: HostRuntime) -> Result<(), Fail> {
     let alloc = rt.alloc();
-    let mut tree = CallTree::new(alloc);
+    let mut tree = PlainTree::new(alloc);
     assert_eq!(rt; insert(alloc, &mut tree, &[], 'x'), Ok(()));
     let longer = insert(alloc, &mut tree, &[(b'a', 1)], 'y');
     assert_eq!(rt; longer, Err(InsertError::AlreadyExists));
@@ -126,7 +125,7 @@ fn an_empty_path_is_found_unasked(rt: HostRuntime) -> Result<(), Fail> {
 #[test]
 fn calls_are_asked_in_the_order_of_the_tree(rt: HostRuntime) -> Result<(), Fail> {
     let alloc = rt.alloc();
-    let mut tree = CallTree::new(alloc);
+    let mut tree = PlainTree::new(alloc);
     assert_eq!(rt;
         insert(alloc, &mut tree, &[(b'a', 1), (b'b', 2)], 'x'),
         Ok(())

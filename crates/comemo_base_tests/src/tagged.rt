@@ -1,8 +1,6 @@
 //! The hash of a value with the tag of its type, against bytes written by hand: the tag as eight bytes, the least first,
 //! and then the value's own.
-use comemo_base::hash::{Prehashed, hash_any};
-use comemo_base::sip::SipHasher13;
-use comemo_base::tags::Tagged;
+use comemo_base::{Prehashed, SipHasher13, Tagged, hash_any};
 use std::hash::{Hash, Hasher};
 use std::test::Fail;
 

@@ -1,10 +1,9 @@
 //! A tree with texts as keys, calls and answers, each made anew where it is used.
-use comemo_base::sequence::CallSequence;
-use comemo_base::tree::{CallTree, InsertError};
+use comemo_base::{CallSequence, InsertError, PlainTree};
 use std::alloc::{AllocError, Global};
 use std::test::Fail;
 
-type Tree = CallTree<String, String, String, u32>;
+type Tree = PlainTree<String, String, String, u32>;
 
 // The sequence of two calls, a title and an author.
 fn sequence_of(
@@ -67,7 +66,7 @@ fn equal_calls_are_seen_as_one(rt: HostRuntime) -> Result<(), Fail> {
 #[test]
 fn equal_texts_are_found_as_one(rt: HostRuntime) -> Result<(), Fail> {
     let alloc = rt.alloc();
-    let mut tree = CallTree::new(alloc);
+    let mut tree = PlainTree::new(alloc);
     assert_eq!(rt; insert(alloc, &mut tree, "Ada", "Bea", 1), Ok(()));
     assert_eq!(rt; insert(alloc, &mut tree, "Ada", "Cleo", 2), Ok(()));
     let again = insert(alloc, &mut tree, "Ada", "Bea", 3);
@@ -82,7 +81,7 @@ fn equal_texts_are_found_as_one(rt: HostRuntime) -> Result<(), Fail> {
 #[test]
 fn a_path_of_texts_is_found_with_its_answers(rt: HostRuntime) -> Result<(), Fail> {
     let alloc = rt.alloc();
-    let mut tree = CallTree::new(alloc);
+    let mut tree = PlainTree::new(alloc);
     assert_eq!(rt; insert(alloc, &mut tree, "Ada", "Bea", 1), Ok(()));
     let key = text(alloc, "page")?;
     let found = tree.find(

@@ -1,5 +1,5 @@
 //! The numbers of SipHash-1-3 with 128 bits, of 72 texts under two pairs of keys.
-use comemo_base::sip::SipHasher13;
+use comemo_base::SipHasher13;
 use std::alloc::{AllocError, Global};
 use std::hash::Hasher;
 use std::test::Fail;

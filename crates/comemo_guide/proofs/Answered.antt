@@ -2,10 +2,10 @@
 use Rattle.std.proofs.Common.{◌≡◌, ℕ, IsTrue, rules}
 use Rattle.std.specs.Prelude.{String, string_bytes}
 use Rattle.std.specs.Global.{Global}
-use Rattle.guide.specs.Kinds.{text_in, length_in}
-use Rattle.guide.specs.declared.kinds.TextAnswer.{TextAnswer}
-use Rattle.guide.specs.declared.kinds.TextAnswer.TheVariants.{Text, Length}
-use Rattle.guide.specs.contracts.kinds.TextAnswerPartialEq.TheImpl as answer
+use Rattle.comemo_guide.specs.Kinds.{text_in, length_in}
+use Rattle.comemo_guide.specs.declared.kinds.TextAnswer.{TextAnswer}
+use Rattle.comemo_guide.specs.declared.kinds.TextAnswer.TheVariants.{Text, Length}
+use Rattle.comemo_guide.specs.contracts.kinds.TextAnswerPartialEq.TheImpl as answer
 
 pub told_text : (a : TextAnswer) (text : String Global) → IsTrue (answer.ghosts.eq a (Text text)) → string_bytes text ≡ text_in a
 told_text (Text own) text h = search rules

@@ -1,8 +1,8 @@
 -- Which numbers are in a chain, and what it answers.
 use Rattle.std.specs.Prelude.{ℕ, Bool, false, ◌||◌, nat_eq}
-use Rattle.guide.specs.declared.chains.Chain.{Chain, Chain', Held-Chain-outer, None', Some'}
-use Rattle.guide.specs.declared.chains.ChainCall.{ChainCall}
-use Rattle.guide.specs.declared.chains.ChainCall.TheVariants.{Contains}
+use Rattle.comemo_guide.specs.declared.chains.Chain.{Chain, Chain', Held-Chain-outer, None', Some'}
+use Rattle.comemo_guide.specs.declared.chains.ChainCall.{ChainCall}
+use Rattle.comemo_guide.specs.declared.chains.ChainCall.TheVariants.{Contains}
 
 abbrev mutual
   -- the number is this chain's, or in the one before

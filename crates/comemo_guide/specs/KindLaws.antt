@@ -2,13 +2,13 @@
 use Rattle.std.proofs.Common.{IsTrue, rules}
 use Rattle.std.specs.Prelude.{String}
 use Rattle.std.specs.Global.{Global}
-use Rattle.comemo_base.specs.Answers.{Respects}
-use Rattle.guide.specs.Kinds.{text_answer}
-use Rattle.guide.specs.declared.kinds.TextCall.TheVariants.{Itself, LengthPlus}
-use Rattle.guide.specs.declared.kinds.TextAnswer.{TextAnswer}
-use Rattle.guide.specs.contracts.kinds.TextCallPartialEq.TheImpl as call
-use Rattle.guide.specs.contracts.kinds.TextAnswerPartialEq.TheImpl as answer
-use Rattle.guide.specs.contracts.kinds.TextAnswerClone.TheImpl as clone
+use Rattle.comemo.specs.Answers.{Respects}
+use Rattle.comemo_guide.specs.Kinds.{text_answer}
+use Rattle.comemo_guide.specs.declared.kinds.TextCall.TheVariants.{Itself, LengthPlus}
+use Rattle.comemo_guide.specs.declared.kinds.TextAnswer.{TextAnswer}
+use Rattle.comemo_guide.specs.contracts.kinds.TextCallPartialEq.TheImpl as call
+use Rattle.comemo_guide.specs.contracts.kinds.TextAnswerPartialEq.TheImpl as answer
+use Rattle.comemo_guide.specs.contracts.kinds.TextAnswerClone.TheImpl as clone
 
 pub answers_alike : (text : String Global) → Respects call.ghosts.eq answer.ghosts.eq (text_answer text)
 answers_alike text Itself Itself h = search rules

@@ -1,10 +1,10 @@
 -- What a text answers.
 use Rattle.std.specs.Prelude.{ℕ, List, [], String, string_bytes, length, ◌+◌, ◌%◌, ◌^◌}
 use Rattle.std.specs.Global.{Global}
-use Rattle.guide.specs.declared.kinds.TextCall.{TextCall}
-use Rattle.guide.specs.declared.kinds.TextCall.TheVariants.{Itself, LengthPlus}
-use Rattle.guide.specs.declared.kinds.TextAnswer.{TextAnswer}
-use Rattle.guide.specs.declared.kinds.TextAnswer.TheVariants.{Text, Length}
+use Rattle.comemo_guide.specs.declared.kinds.TextCall.{TextCall}
+use Rattle.comemo_guide.specs.declared.kinds.TextCall.TheVariants.{Itself, LengthPlus}
+use Rattle.comemo_guide.specs.declared.kinds.TextAnswer.{TextAnswer}
+use Rattle.comemo_guide.specs.declared.kinds.TextAnswer.TheVariants.{Text, Length}
 
 abbrev pub text_answer : String Global → TextCall → TextAnswer
 text_answer text Itself = Text text

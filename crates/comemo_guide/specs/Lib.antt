@@ -1,4 +1,3 @@
-pub mod Towns
 pub mod Greetings
 pub mod Kinds
 pub mod KindLaws

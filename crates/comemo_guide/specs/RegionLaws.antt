@@ -1,10 +1,10 @@
 -- That equal questions to a region have equal answers.
 use Rattle.std.proofs.Common.{rules}
 use Rattle.std.specs.Prelude.{ℕ, nat_eq}
-use Rattle.comemo_base.specs.Answers.{Respects}
-use Rattle.guide.specs.Towns.{asked}
-use Rattle.guide.specs.Regions.{of_each}
-use Rattle.guide.specs.contracts.region.RegionCallPartialEq.TheImpl as call
+use Rattle.comemo.specs.Answers.{Respects}
+use Rattle.comemo_samples.specs.Towns.{asked}
+use Rattle.comemo_guide.specs.Regions.{of_each}
+use Rattle.comemo_guide.specs.contracts.region.RegionCallPartialEq.TheImpl as call
 
 pub each_alike : (a b c d e f : ℕ) → Respects call.ghosts.eq nat_eq (of_each (asked a b) (asked c d) (asked e f))
 each_alike a b c d e f x y h = search rules

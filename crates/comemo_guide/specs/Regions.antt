@@ -1,8 +1,8 @@
 -- What a region answers.
 use Rattle.std.specs.Prelude.{ℕ}
-use Rattle.guide.specs.declared.town.TownCall.{TownCall}
-use Rattle.guide.specs.declared.region.RegionCall.{RegionCall}
-use Rattle.guide.specs.declared.region.RegionCall.TheVariants.{Coast, River, Hill}
+use Rattle.comemo_samples.specs.declared.town.TownCall.{TownCall}
+use Rattle.comemo_guide.specs.declared.region.RegionCall.{RegionCall}
+use Rattle.comemo_guide.specs.declared.region.RegionCall.TheVariants.{Coast, River, Hill}
 
 -- each town answers what is asked of it
 abbrev pub of_each : (TownCall → ℕ) → (TownCall → ℕ) → (TownCall → ℕ) → RegionCall → ℕ

@@ -2,10 +2,10 @@
 ghost use Rattle.std.specs.Prelude.{◌≡◌, min, nat_lt};
 ghost use Rattle.std.proofs.Common.{rules};
 ghost use Rattle.comemo.specs.Function.{Tells};
-ghost use Rattle.guide.specs.declared.town.TownCall.TheVariants.{People, Degrees};
+ghost use Rattle.comemo_samples.specs.declared.town.TownCall.TheVariants.{People, Degrees};
 
-use crate::town::{Town, TownCall};
 use comemo::{Fault, Function, Recorder, Told};
+use comemo_samples::{Town, TownCall};
 
 /// How many live in a town, and how many degrees it has.
 fn people_and_degrees(town: &mut Recorder<'_, Town>) -> Result<(u64, u64), Fault>
@@ -18,6 +18,8 @@ fn people_and_degrees(town: &mut Recorder<'_, Town>) -> Result<(u64, u64), Fault
 }
 
 /// Whether a town has more than a number of both, people and degrees.
+///
+/// It asks for the people, and then for the degrees, whatever the people are.
 pub struct BothPass;
 
 impl Function for BothPass {

@@ -2,7 +2,7 @@
 ghost use Rattle.std.specs.Prelude.{◌≡◌, ℕ, ◌||◌, false, nat_eq, refl};
 ghost use Rattle.std.proofs.Common.{rules};
 ghost use Rattle.comemo.specs.Meaning.{reading};
-ghost use Rattle.guide.specs.Chains.{has};
+ghost use Rattle.comemo_guide.specs.Chains.{has};
 
 use comemo::{Call, Fault, FunctionOf, Memo, Recorder, Track};
 use std::alloc::AllocError;
@@ -26,7 +26,7 @@ impl Call for ChainCall {
     }
 }
 
-/// A number, with the chain before it where there is one.
+/// A number, with the chain before it where there is one, which it borrows. It takes no memory and refuses nothing.
 #[derive(Drop)]
 pub struct Chain<'a> {
     outer: Option<&'a Chain<'a>>,
@@ -34,14 +34,14 @@ pub struct Chain<'a> {
 }
 
 impl<'a> Chain<'a> {
-    /// A chain of one number.
+    /// A chain of one number. It takes constant time.
     pub fn new(value: u32) -> Self
         ensures { (n : ℕ) → has n result ≡ nat_eq value n }
     {
         Chain { outer: None, value }
     }
 
-    /// A chain with one more number.
+    /// A chain with one more number. The chain before is as it was. It takes constant time.
     pub fn insert(outer: &'a Chain<'a>, value: u32) -> Self
         ensures { (n : ℕ) → has n result ≡ (nat_eq value n || has n outer.now) }
     {
@@ -52,6 +52,8 @@ impl<'a> Chain<'a> {
     }
 
     /// Whether a number is in the chain: here, or in the chain before.
+    ///
+    /// It looks from the last number back until it finds it, and calls itself once for each number that it passes.
     pub fn contains(&self, value: u32) -> bool
         ensures { result ≡ has value self.now }
     {
@@ -70,7 +72,7 @@ impl<'a> Track for Chain<'a> {
 
     type Answer = bool;
 
-    ghost use Rattle.guide.specs.Chains.{chain_answer};
+    ghost use Rattle.comemo_guide.specs.Chains.{chain_answer};
 
     ghost answers = { λ s call. chain_answer s call };
 
@@ -85,7 +87,7 @@ impl<'a> Track for Chain<'a> {
     }
 }
 
-/// Whether a number is in a chain.
+/// Whether a number is in a chain. It asks the chain for that number alone.
 pub struct IsInChain;
 
 impl Memo for IsInChain {
@@ -97,7 +99,7 @@ impl Memo for IsInChain {
 
     type Out = bool;
 
-    ghost use Rattle.guide.specs.declared.chains.ChainCall.TheVariants.{Contains};
+    ghost use Rattle.comemo_guide.specs.declared.chains.ChainCall.TheVariants.{Contains};
 
     ghost def = { reading (λ n m out. out ≡ m (Contains n)) };
 

@@ -5,7 +5,7 @@ ghost use Rattle.std.proofs.Common.{rules};
 use comemo::{Fault, Function, Recorder, Track};
 use std::alloc::{AllocError, Global};
 
-/// What the world is.
+/// What the world is, as a text that each run makes. It asks nothing, and needs an allocator.
 pub struct World;
 
 impl Function for World {
@@ -26,9 +26,10 @@ impl Function for World {
     }
 }
 
-/// A text that is tracked. Its one question is whether it is `hello`.
+/// A text that is tracked. Its one question is whether it is `hello`, which takes no memory and is never refused.
 #[derive(Drop)]
 pub struct Greeting {
+    /// The text.
     pub text: String,
 }
 
@@ -37,7 +38,7 @@ impl Track for Greeting {
 
     type Answer = bool;
 
-    ghost use Rattle.guide.specs.Greetings.{is_hello};
+    ghost use Rattle.comemo_guide.specs.Greetings.{is_hello};
 
     ghost answers = { λ s _. is_hello (string_bytes s.text) };
 
@@ -50,7 +51,7 @@ impl Track for Greeting {
     }
 }
 
-/// Whether a text is `hello`.
+/// Whether a text is `hello`. It asks that one question, and doesn't see the text.
 pub struct SaysHello;
 
 impl Function for SaysHello {

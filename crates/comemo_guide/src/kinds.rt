@@ -1,8 +1,8 @@
 //! A tracked text that answers two kinds of questions, one of which has an argument, and a function of each.
 ghost use Rattle.std.specs.Prelude.{◌≡◌, false, nat_lt, refl, string_bytes};
 ghost use Rattle.std.proofs.Common.{rules};
-ghost use Rattle.guide.specs.Kinds.{text_in, length_in};
-ghost use Rattle.guide.specs.declared.kinds.TextCall.TheVariants.{Itself, LengthPlus};
+ghost use Rattle.comemo_guide.specs.Kinds.{text_in, length_in};
+ghost use Rattle.comemo_guide.specs.declared.kinds.TextCall.TheVariants.{Itself, LengthPlus};
 
 use comemo::{Call, Fault, Function, Recorder, Track};
 use std::alloc::AllocError;
@@ -28,18 +28,19 @@ impl Call for TextCall {
     }
 }
 
-/// What a text answers.
+/// What a text answers: to each kind of question an answer of its own kind.
 #[derive(Clone, Drop, Debug, PartialEq, Eq, PartialOrd, Ord)]
 pub enum TextAnswer {
-    /// Itself.
+    /// The text itself, as `TextCall::Itself` is answered.
     Text(String),
-    /// A length.
+    /// The length in bytes and the number that was added, as `TextCall::LengthPlus` is answered.
     Length(u64),
 }
 
-/// A text.
+/// A text. Asked for itself, it answers a copy, and refuses where there is no memory for that.
 #[derive(Drop)]
 pub struct Text {
+    /// The text.
     pub text: String,
 }
 
@@ -48,8 +49,8 @@ impl Track for Text {
 
     type Answer = TextAnswer;
 
-    ghost use Rattle.guide.specs.Kinds.{text_answer};
-    ghost use Rattle.guide.specs.KindLaws.{answers_alike, answer_clones};
+    ghost use Rattle.comemo_guide.specs.Kinds.{text_answer};
+    ghost use Rattle.comemo_guide.specs.KindLaws.{answers_alike, answer_clones};
 
     ghost answers = { λ s call. text_answer s.text call };
 
@@ -68,7 +69,7 @@ impl Track for Text {
     }
 }
 
-/// A text itself.
+/// A text itself. It asks for the text, so another text is another answer.
 pub struct Selfie;
 
 impl Function for Selfie {
@@ -92,7 +93,7 @@ impl Function for Selfie {
     }
 }
 
-/// Whether a text is long: whether its length and five pass ten.
+/// Whether a text is long: whether its length in bytes and five pass ten. It asks for that sum alone.
 pub struct IsLong;
 
 impl Function for IsLong {

@@ -8,12 +8,12 @@ use comemo::{Call, Fault, Function, Recorder, Track};
 use std::alloc::AllocError;
 use std::marker::PhantomData;
 
-/// What gives bytes for a path.
+/// What gives bytes for a path. Its `gives` says which.
 pub trait Loader: Drop {
     // the bytes for a path
     ghost gives: { Self → List ℕ → Vec ℕ AnyGlobal };
 
-    /// The bytes for a path. An error says that there was no memory for them.
+    /// The bytes for a path. An error says that there was no memory for them. What it costs is up to the loader.
     fn load(&self, path: &str) -> Result<Vec<u8>, AllocError>
         ensures { IfOk result (λ bytes. bytes.items ≡ (gives self.now path.now).items) };
 }
@@ -37,9 +37,10 @@ impl Call for LibraryCall {
     }
 }
 
-/// A library that loads by any loader.
+/// A library that loads by any loader. It refuses where the loader does.
 #[derive(Drop)]
 pub struct Library<L> {
+    /// The loader.
     pub loader: Box<L>,
 }
 
@@ -48,8 +49,8 @@ impl<L: Loader> Track for Library<L> {
 
     type Answer = Vec<u8>;
 
-    ghost use Rattle.guide.specs.Loads.{path_in};
-    ghost use Rattle.guide.specs.LoadLaws.{equal_bytes};
+    ghost use Rattle.comemo_guide.specs.Loads.{path_in};
+    ghost use Rattle.comemo_guide.specs.LoadLaws.{equal_bytes};
 
     ghost answers = { λ s call. L.gives s.loader.value (path_in call) };
 
@@ -64,7 +65,7 @@ impl<L: Loader> Track for Library<L> {
     }
 }
 
-/// The bytes for a path.
+/// The bytes for a path, which is the key. It asks the library for that path alone.
 pub struct Contents<L> {
     loader: PhantomData<L>,
 }
@@ -78,8 +79,8 @@ impl<L: Loader> Function for Contents<L> {
 
     type Needs = ();
 
-    ghost use Rattle.guide.specs.declared.loader.LibraryCall.TheVariants.{Load};
-    ghost use Rattle.guide.specs.LoadLaws.{same_bytes};
+    ghost use Rattle.comemo_guide.specs.declared.loader.LibraryCall.TheVariants.{Load};
+    ghost use Rattle.comemo_guide.specs.LoadLaws.{same_bytes};
 
     ghost means = { λ path m out. out.items ≡ (m (Load path)).items };
 

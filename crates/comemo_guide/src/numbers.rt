@@ -1,4 +1,5 @@
-//! Functions of numbers, which ask nothing: of one, of two, and of one that is equal by its number and hashed as nothing.
+//! Functions of numbers, which ask nothing and whose runs take no memory: of one, of two, and of one that is equal by
+//! its number and hashed as nothing.
 ghost use Rattle.std.specs.Prelude.{◌≡◌, ◌+◌, ◌%◌, ◌^◌, [], refl};
 ghost use Rattle.std.specs.List.{sum, range_with_len};
 ghost use Rattle.std.proofs.Common.{rules};
@@ -27,7 +28,7 @@ impl Function for Identity {
     }
 }
 
-/// The sum of two numbers, which wraps.
+/// The sum of two numbers, which wraps at 32 bits. Its key is the pair.
 pub struct Sum;
 
 impl Function for Sum {
@@ -48,7 +49,7 @@ impl Function for Sum {
     }
 }
 
-/// The sum of the numbers below a number. It takes as many steps.
+/// The sum of the numbers below a number. It takes as many steps and no memory, and refuses nothing.
 pub fn sum_below(n: u32) -> u64
     ensures { result ≡ sum (range_with_len 0 n) }
 {
@@ -59,7 +60,7 @@ pub fn sum_below(n: u32) -> u64
     total
 }
 
-/// The sum of the numbers below a number.
+/// The sum of the numbers below a number: `sum_below`, memoized.
 pub struct SumBelow;
 
 impl Function for SumBelow {
@@ -92,7 +93,7 @@ impl Hash for Flat {
     fn hash<H: Hasher>(&self, _state: &mut H) {}
 }
 
-/// Twice such a number, which wraps.
+/// Twice such a number, which wraps at 32 bits.
 pub struct DoubleFlat;
 
 impl Function for DoubleFlat {

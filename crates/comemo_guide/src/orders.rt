@@ -2,8 +2,8 @@
 ghost use Rattle.std.specs.Prelude.{◌≡◌, ◌||◌, ⊤, nat_lt};
 ghost use Rattle.std.proofs.Common.{rules};
 
-use crate::town::{Town, TownCall};
 use comemo::{Fault, Function, Recorder};
+use comemo_samples::{Town, TownCall};
 
 /// Which question is asked, or asked first.
 #[derive(Clone, Copy, Drop, Debug, PartialEq, Eq)]
@@ -15,6 +15,9 @@ pub enum Turn {
 }
 
 /// What a town answers to one of its questions. Any output is right.
+///
+/// It asks the one that its turn names, which no cache knows of: so a run may lack what a stored one asked, and is not
+/// kept then.
 pub struct Either;
 
 impl Function for Either {
@@ -38,7 +41,9 @@ impl Function for Either {
     }
 }
 
-/// What a town answers to both of its questions.
+/// What a town answers to both of its questions: the people, and then the degrees.
+///
+/// It asks both, first the one that its turn names.
 pub struct Both;
 
 impl Function for Both {
@@ -50,7 +55,7 @@ impl Function for Both {
 
     type Needs = Turn;
 
-    ghost use Rattle.guide.specs.declared.town.TownCall.TheVariants.{People, Degrees};
+    ghost use Rattle.comemo_samples.specs.declared.town.TownCall.TheVariants.{People, Degrees};
 
     ghost means = { λ _ m out. out ≡ (m People, m Degrees) };
 
@@ -84,7 +89,7 @@ impl Function for Exceeds {
 
     type Needs = ();
 
-    ghost use Rattle.guide.specs.declared.town.TownCall.TheVariants.{People, Degrees};
+    ghost use Rattle.comemo_samples.specs.declared.town.TownCall.TheVariants.{People, Degrees};
 
     ghost means = { λ n m out. out ≡ (nat_lt n (m People) || nat_lt n (m Degrees)) };
 

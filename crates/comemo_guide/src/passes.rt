@@ -2,10 +2,12 @@
 ghost use Rattle.std.specs.Prelude.{◌≡◌, max, nat_lt};
 ghost use Rattle.std.proofs.Common.{rules};
 
-use crate::town::{Town, TownCall};
 use comemo::{Fault, Function, Recorder};
+use comemo_samples::{Town, TownCall};
 
 /// Whether what a town has most of, people or degrees, passes a number.
+///
+/// It asks for the people, and then for the degrees, whatever the people are.
 pub struct Passes;
 
 impl Function for Passes {
@@ -17,7 +19,7 @@ impl Function for Passes {
 
     type Needs = ();
 
-    ghost use Rattle.guide.specs.declared.town.TownCall.TheVariants.{People, Degrees};
+    ghost use Rattle.comemo_samples.specs.declared.town.TownCall.TheVariants.{People, Degrees};
 
     ghost means = { λ n m out. out ≡ nat_lt n (max (m People) (m Degrees)) };
 

@@ -3,8 +3,8 @@ ghost use Rattle.std.specs.Prelude.{◌≡◌, false, max, refl};
 ghost use Rattle.std.proofs.Common.{rules};
 ghost use Rattle.comemo.specs.Meaning.{reading};
 
-use crate::town::{Town, TownCall};
 use comemo::{Call, Fault, FunctionOf, Memo, Recorder, Track};
+use comemo_samples::{Town, TownCall};
 use std::alloc::AllocError;
 
 /// What can be asked of a region: what can be asked of each of its towns.
@@ -30,11 +30,14 @@ impl Call for RegionCall {
     }
 }
 
-/// Three towns that live elsewhere.
+/// Three towns that live elsewhere. It answers as they do, without memory, and refuses nothing.
 #[derive(Drop)]
 pub struct Region<'a> {
+    /// The town on the coast.
     pub coast: &'a Town,
+    /// The town by the river.
     pub river: &'a Town,
+    /// The town on the hill.
     pub hill: &'a Town,
 }
 
@@ -43,9 +46,9 @@ impl<'a> Track for Region<'a> {
 
     type Answer = u64;
 
-    ghost use Rattle.guide.specs.Towns.{asked};
-    ghost use Rattle.guide.specs.Regions.{of_each};
-    ghost use Rattle.guide.specs.RegionLaws.{each_alike};
+    ghost use Rattle.comemo_samples.specs.Towns.{asked};
+    ghost use Rattle.comemo_guide.specs.Regions.{of_each};
+    ghost use Rattle.comemo_guide.specs.RegionLaws.{each_alike};
 
     ghost answers = { λ s call. of_each
         (asked s.coast.now.people s.coast.now.degrees)
@@ -68,7 +71,9 @@ impl<'a> Track for Region<'a> {
     }
 }
 
-/// How warm the warmest town of a region is.
+/// How warm the warmest town of a region is, in degrees.
+///
+/// It asks each town for its degrees: that on the coast, that by the river, that on the hill.
 pub struct Warmest;
 
 impl Memo for Warmest {
@@ -80,8 +85,8 @@ impl Memo for Warmest {
 
     type Out = u64;
 
-    ghost use Rattle.guide.specs.declared.town.TownCall.TheVariants.{Degrees};
-    ghost use Rattle.guide.specs.declared.region.RegionCall.TheVariants.{Coast, River, Hill};
+    ghost use Rattle.comemo_samples.specs.declared.town.TownCall.TheVariants.{Degrees};
+    ghost use Rattle.comemo_guide.specs.declared.region.RegionCall.TheVariants.{Coast, River, Hill};
 
     ghost def = { reading (λ _ m out.
         out ≡ max (m (Coast Degrees)) (max (m (River Degrees)) (m (Hill Degrees)))) };

@@ -3,14 +3,17 @@ ghost use Rattle.std.specs.Prelude.{◌≡◌, cond, max, nat_lt};
 ghost use Rattle.std.proofs.Common.{rules};
 
 use crate::passes::Passes;
-use crate::town::Town;
 use crate::warmth::Warmth;
 use comemo::{CacheData, Fault, Function, MemoOf, Recorder};
+use comemo_samples::Town;
 
-/// The caches of the two functions that a report calls.
+/// The caches of the two functions that a report calls: of `Passes`, and of `Warmth`.
 pub type Kept = (CacheData<MemoOf<Passes>>, CacheData<MemoOf<Warmth>>);
 
 /// How warm a town is if it passes the first number, and else the second number.
+///
+/// It calls `Passes`, and `Warmth` where the town passes; what those asked counts as asked by it. A fault of theirs is
+/// its own, and what they kept before stays.
 pub struct Report;
 
 impl Function for Report {
@@ -22,7 +25,7 @@ impl Function for Report {
 
     type Needs = Kept;
 
-    ghost use Rattle.guide.specs.declared.town.TownCall.TheVariants.{People, Degrees};
+    ghost use Rattle.comemo_samples.specs.declared.town.TownCall.TheVariants.{People, Degrees};
 
     ghost means = { λ key m out.
         out ≡ cond (nat_lt key.0 (max (m People) (m Degrees))) (m Degrees) key.1 };

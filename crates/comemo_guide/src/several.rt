@@ -3,11 +3,11 @@ ghost use Rattle.std.specs.Prelude.{◌≡◌, ◌-◌, nat_lt};
 ghost use Rattle.std.proofs.Common.{rules};
 ghost use Rattle.comemo.specs.Meaning.{reading};
 
-use crate::town::{Town, TownCall};
 use crate::warmth::Warmth;
 use comemo::{Both, CacheData, Fault, FunctionOf, Memo, MemoOf, MultiAnswer, MultiCall, Recorder};
+use comemo_samples::{Town, TownCall};
 
-/// Whether the first of two towns is warmer than the second.
+/// Whether the first of two towns is warmer than the second. It asks each for its degrees, the first one first.
 pub struct IsWarmer;
 
 impl Memo for IsWarmer {
@@ -19,8 +19,8 @@ impl Memo for IsWarmer {
 
     type Out = bool;
 
-    ghost use Rattle.tracking.specs.Multi.{OnParts};
-    ghost use Rattle.guide.specs.declared.town.TownCall.TheVariants.{Degrees};
+    ghost use Rattle.comemo.specs.Multi.{OnParts};
+    ghost use Rattle.comemo_samples.specs.declared.town.TownCall.TheVariants.{Degrees};
 
     ghost def = { reading (λ _ m out.
         OnParts m (λ one other. out ≡ nat_lt (other Degrees) (one Degrees))) };
@@ -44,7 +44,10 @@ impl<'a> FunctionOf<Both<'a, Town, Town>> for IsWarmer {
     }
 }
 
-/// How much warmer the first of two towns is than the second; 0 where it isn't.
+/// How many degrees the first of two towns is warmer than the second; 0 where it isn't.
+///
+/// It calls `Warmth` of each, the first one first, with one cache for both. A fault of theirs is its own, and what they
+/// kept before stays.
 pub struct Lead;
 
 impl Memo for Lead {
@@ -56,8 +59,8 @@ impl Memo for Lead {
 
     type Out = u64;
 
-    ghost use Rattle.tracking.specs.Multi.{OnParts};
-    ghost use Rattle.guide.specs.declared.town.TownCall.TheVariants.{Degrees};
+    ghost use Rattle.comemo.specs.Multi.{OnParts};
+    ghost use Rattle.comemo_samples.specs.declared.town.TownCall.TheVariants.{Degrees};
 
     ghost def = { reading (λ _ m out.
         OnParts m (λ one other. out ≡ one Degrees - other Degrees)) };

@@ -2,10 +2,10 @@
 ghost use Rattle.std.specs.Prelude.{◌≡◌};
 ghost use Rattle.std.proofs.Common.{rules};
 
-use crate::town::{Town, TownCall};
 use comemo::{Fault, Function, Recorder};
+use comemo_samples::{Town, TownCall};
 
-/// How warm a town is.
+/// How warm a town is, in degrees. It asks for the degrees alone.
 pub struct Warmth;
 
 impl Function for Warmth {
@@ -17,7 +17,7 @@ impl Function for Warmth {
 
     type Needs = ();
 
-    ghost use Rattle.guide.specs.declared.town.TownCall.TheVariants.{Degrees};
+    ghost use Rattle.comemo_samples.specs.declared.town.TownCall.TheVariants.{Degrees};
 
     ghost means = { λ _ m out. out ≡ m Degrees };
 

@@ -1,22 +1,21 @@
 //! The functions at work: which calls ran, and which were answered from the cache.
 
-use crate::both_pass::BothPass;
-use crate::chains::{Chain, IsInChain};
-use crate::double::Double;
-use crate::greetings::{Greeting, SaysHello, World};
-use crate::kinds::{IsLong, Selfie, Text};
-use crate::loader::{Contents, Library, Loader};
-use crate::numbers::{DoubleFlat, Flat, Identity, Sum, SumBelow};
-use crate::orders::{Both, Either, Exceeds, Turn};
-use crate::passes::Passes;
-use crate::region::{Region, Warmest};
-use crate::report::{Kept, Report};
-use crate::several::{IsWarmer, Lead};
-use crate::texts::Same;
-use crate::town::Town;
-use crate::warmth::Warmth;
-use comemo::function::memoized;
-use comemo::{CacheData, Fault, Function, How, MemoOf, Reply, Top, Track};
+use comemo::{CacheData, Fault, Function, How, MemoOf, Reply, Top, Track, memoized};
+use comemo_guide::both_pass::BothPass;
+use comemo_guide::chains::{Chain, IsInChain};
+use comemo_guide::double::Double;
+use comemo_guide::greetings::{Greeting, SaysHello, World};
+use comemo_guide::kinds::{IsLong, Selfie, Text};
+use comemo_guide::loader::{Contents, Library, Loader};
+use comemo_guide::numbers::{DoubleFlat, Flat, Identity, Sum, SumBelow};
+use comemo_guide::orders::{Both, Either, Exceeds, Turn};
+use comemo_guide::passes::Passes;
+use comemo_guide::region::{Region, Warmest};
+use comemo_guide::report::{Kept, Report};
+use comemo_guide::several::{IsWarmer, Lead};
+use comemo_guide::texts::Same;
+use comemo_guide::warmth::Warmth;
+use comemo_samples::Town;
 use std::alloc::{AllocError, Global};
 use std::fmt::Debug;
 use std::process::Abort;

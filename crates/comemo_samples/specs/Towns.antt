@@ -1,7 +1,7 @@
 -- What a town answers.
 use Rattle.std.specs.Prelude.{ℕ}
-use Rattle.guide.specs.declared.town.TownCall.{TownCall}
-use Rattle.guide.specs.declared.town.TownCall.TheVariants.{People, Degrees}
+use Rattle.comemo_samples.specs.declared.town.TownCall.{TownCall}
+use Rattle.comemo_samples.specs.declared.town.TownCall.TheVariants.{People, Degrees}
 
 abbrev pub asked : ℕ → ℕ → TownCall → ℕ
 asked people degrees People = people

@@ -9,6 +9,7 @@ use std::hash::Hash;
 /// A read of the number at a place.
 #[derive(Clone, Copy, Drop, Debug, PartialEq, Eq, Hash)]
 pub struct Get {
+    /// The place, from 0 on.
     pub place: u32,
 }
 
@@ -25,13 +26,18 @@ impl Call for Get {
 }
 
 /// Numbers: one at each place, and 0 behind the last.
+///
+/// It answers each read in constant time, without memory, and refuses none.
 #[derive(Drop)]
 pub struct Cells {
+    /// The numbers, from place 0 on.
     pub numbers: Vec<u64>,
 }
 
 impl Cells {
     /// So many cells: the one at place i holds 3 i + 1.
+    ///
+    /// It takes eight bytes for each, and as many steps. An error says that there was no memory for them.
     pub fn new(alloc: Global, count: u32) -> Result<Cells, AllocError> {
         let mut numbers = Vec::new(alloc);
         for place in 0..count {
@@ -40,7 +46,8 @@ impl Cells {
         Ok(Cells { numbers })
     }
 
-    /// Puts a number at a place. A place behind the last stays as it is.
+    /// Puts a number at a place. A place behind the last stays as it is. It takes constant time and no memory, and
+    /// refuses nothing.
     pub fn set(&mut self, place: usize, number: u64) {
         if let Some(cell) = self.numbers.get_mut(place) {
             *cell = number;
@@ -53,7 +60,7 @@ impl Track for Cells {
 
     type Answer = u64;
 
-    ghost use Rattle.speed.specs.Sums.{numbers};
+    ghost use Rattle.comemo_samples.specs.Cells.{numbers};
 
     ghost answers = { λ s get. numbers s.numbers.items get };
 

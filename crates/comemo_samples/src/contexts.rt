@@ -1,4 +1,4 @@
-//! Tracked values.
+//! Tracked values: two numbers, a text, and a row of numbers.
 ghost use Rattle.std.specs.Prelude.{false, refl};
 ghost use Rattle.std.proofs.Common.{rules};
 
@@ -28,9 +28,13 @@ impl Call for ContextCall {
 }
 
 /// A context: two numbers, each asked by a call of its own.
+///
+/// It answers each read in constant time, without memory, and refuses none.
 #[derive(Drop)]
 pub struct Context {
+    /// What `ContextCall::Location` is answered.
     pub location: u64,
+    /// What `ContextCall::Styles` is answered.
     pub styles: u64,
 }
 
@@ -39,7 +43,7 @@ impl Track for Context {
 
     type Answer = u64;
 
-    ghost use Rattle.comemo_tests.specs.Cells.{field};
+    ghost use Rattle.comemo_samples.specs.Contexts.{field};
 
     ghost answers = { λ s call. field s.location s.styles call };
 
@@ -56,8 +60,11 @@ impl Track for Context {
 }
 
 /// A page: a text, asked by one call. Its answers need memory, and equal ones need not be identical.
+///
+/// Each answer is a copy of the text, and is refused where there is no memory for it.
 #[derive(Drop)]
 pub struct Page {
+    /// The text.
     pub text: String,
 }
 
@@ -80,6 +87,7 @@ impl Track for Page {
 /// A read of a row: the number at a place.
 #[derive(Clone, Copy, Drop, Debug, PartialEq, Eq, Hash)]
 pub struct Place {
+    /// The place, from 0 on.
     pub at: u64,
 }
 
@@ -96,8 +104,11 @@ impl Call for Place {
 }
 
 /// A row of numbers: one at each place, and 0 behind the last.
+///
+/// It answers each read in constant time, without memory, and refuses none.
 #[derive(Drop)]
 pub struct Row {
+    /// The numbers, from place 0 on.
     pub numbers: Vec<u64>,
 }
 

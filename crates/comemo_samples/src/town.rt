@@ -26,10 +26,14 @@ impl Call for TownCall {
     }
 }
 
-/// A town.
+/// A town, which is asked for its people and its degrees apart.
+///
+/// It answers each read in constant time, without memory, and refuses none.
 #[derive(Drop)]
 pub struct Town {
+    /// How many live there.
     pub people: u64,
+    /// How many degrees it has.
     pub degrees: u64,
 }
 
@@ -38,7 +42,7 @@ impl Track for Town {
 
     type Answer = u64;
 
-    ghost use Rattle.guide.specs.Towns.{asked};
+    ghost use Rattle.comemo_samples.specs.Towns.{asked};
 
     ghost answers = { λ s call. asked s.people s.degrees call };
 

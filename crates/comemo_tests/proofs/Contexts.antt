@@ -1,12 +1,12 @@
 -- The calls of a context are told apart by what they are.
 use Rattle.std.proofs.Common.{◌≡◌, ℕ, nat_eq, true, false, refl}
 use Rattle.std.specs.Cmp.{IsEquivalence}
-use Rattle.comemo_base.specs.Answers.{Respects}
-use Rattle.comemo_tests.specs.Cells.{field}
+use Rattle.comemo.specs.Answers.{Respects}
+use Rattle.comemo_samples.specs.Contexts.{field}
 use Rattle.comemo_tests.proofs.Places.{same_numbers}
-use Rattle.comemo_tests.specs.declared.cells.ContextCall.{ContextCall}
-use Rattle.comemo_tests.specs.declared.cells.ContextCall.TheVariants.{Location, Styles}
-use Rattle.comemo_tests.specs.contracts.cells.ContextCallPartialEq.TheImpl.{ghosts}
+use Rattle.comemo_samples.specs.declared.contexts.ContextCall.{ContextCall}
+use Rattle.comemo_samples.specs.declared.contexts.ContextCall.TheVariants.{Location, Styles}
+use Rattle.comemo_samples.specs.contracts.contexts.ContextCallPartialEq.TheImpl.{ghosts}
 
 same_refl : (x : ContextCall) → ghosts.eq x x ≡ true
 same_refl Location = refl

@@ -1,6 +1,6 @@
 -- How a run of a memoized function ended.
 use Rattle.std.proofs.Common.{List, [], Result, Ok, Err, IfOk, refl}
-use Rattle.tracking.specs.Sending.{BreaksOff}
+use Rattle.comemo.specs.Sending.{BreaksOff}
 use Rattle.comemo_tests.specs.Broken.{IsBroken}
 
 -- the run was given up: its sink took nothing

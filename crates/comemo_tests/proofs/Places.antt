@@ -1,8 +1,8 @@
 -- Places and numbers are told apart by what they are.
 use Rattle.std.proofs.Common.{◌≡◌, ◌≢◌, ℕ, nat_eq, rules, IsTrue, subst}
 use Rattle.std.specs.Cmp.{IsEquivalence}
-use Rattle.comemo_base.specs.Answers.{Respects}
-use Rattle.comemo_tests.specs.declared.cells.Place.{Place}
+use Rattle.comemo.specs.Answers.{Respects}
+use Rattle.comemo_samples.specs.declared.contexts.Place.{Place}
 use Rattle.comemo_tests.specs.Rows.{same_place, IsFirstZero}
 
 pub same_numbers : IsEquivalence nat_eq

@@ -1,4 +1,3 @@
-pub mod Cells
 pub mod Rows
 pub mod Fibonacci
 pub mod Broken

@@ -1,6 +1,6 @@
 -- What is looked for in a row.
 use Rattle.std.specs.Prelude.{◌≡◌, ◌≢◌, ℕ, ◌<◌, ◌≤◌, List, Bool, nat_eq, slice_index}
-use Rattle.comemo_tests.specs.declared.cells.Place.{Place}
+use Rattle.comemo_samples.specs.declared.contexts.Place.{Place}
 
 -- the place is the first below the length that has 0, or else the length
 pub record IsFirstZero (length : ℕ) (row : ℕ → ℕ) (place : ℕ) : Type 0 where

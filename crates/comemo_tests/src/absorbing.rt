@@ -2,8 +2,8 @@
 ghost use Rattle.std.specs.Prelude.{◌≡◌, [], ◌∷◌, true, false, not, IfOk};
 ghost use Rattle.comemo_tests.specs.Rows.{at_place};
 
-use crate::cells::Place;
 use comemo::{Constraint, Sink};
+use comemo_samples::Place;
 use std::alloc::{AllocError, Global};
 
 /// The reads of a row at two places, as a recording.

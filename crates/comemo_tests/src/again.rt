@@ -3,11 +3,11 @@
 ghost use Rattle.std.specs.Prelude.{◌≡◌, IfOk, IsTrue};
 ghost use Rattle.std.proofs.Common.{rules};
 
-use crate::cells::{Context, ContextCall};
-use comemo::function::memoized;
 use comemo::{
     CacheData, Constraint, Fault, Function, FunctionOf, How, Recorder, Reply, Top, Track, Tracked,
+    memoized,
 };
+use comemo_samples::{Context, ContextCall};
 use std::alloc::Global;
 
 /// The location of a context.
@@ -22,7 +22,7 @@ impl Function for Location {
 
     type Needs = ();
 
-    ghost use Rattle.comemo_tests.specs.declared.cells.ContextCall.TheVariants.{Location};
+    ghost use Rattle.comemo_samples.specs.declared.contexts.ContextCall.TheVariants.{Location};
 
     ghost means = { λ _ m output. output ≡ m Location };
 

@@ -1,9 +1,9 @@
 //! Calls that follow one another, with what was asked changed between them and without.
 
 use crate::again::{Around, Location, call_around, call_twice};
-use crate::cells::Context;
 use crate::expected::expect;
 use comemo::{CacheData, Fault, How, MemoOf, Track};
+use comemo_samples::Context;
 use std::alloc::Global;
 use std::test::Fail;
 

@@ -1,11 +1,11 @@
 //! Runs of functions that are closures: the closure is called where no entry agrees, or none is looked for.
 
-use crate::cells::Context;
 use crate::closures::{closed_square, closed_sum};
 use crate::expected::expect;
 use crate::functions::SumMemo;
 use crate::inputs::SquareMemo;
 use comemo::{CacheData, Fault, How, Reply, Top, Track};
+use comemo_samples::Context;
 use std::alloc::Global;
 use std::test::Fail;
 

@@ -3,13 +3,11 @@ ghost use Rattle.std.specs.Prelude.{◌≡◌, IfOk, OnErr, ◌+◌, ◌*◌, �
 ghost use Rattle.std.proofs.Common.{rules};
 ghost use Rattle.comemo_tests.specs.Broken.{IsBroken};
 
-use crate::cells::{Context, ContextCall};
 use crate::functions::{LocationMemo, SumMemo};
 use crate::inputs::SquareMemo;
-use comemo::closure::memoize;
-use comemo::{CacheData, Constraint, Fault, Hashed, Reply, Sink, Tracked};
+use comemo::{Breaking, CacheData, Constraint, Fault, Hashed, Reply, Sink, Tracked, memoize};
+use comemo_samples::{Context, ContextCall};
 use std::alloc::Global;
-use tracking::Breaking;
 
 /// The location of a context, kept.
 pub fn closed_location<S: Sink<Call = ContextCall, Answer = u64>>(

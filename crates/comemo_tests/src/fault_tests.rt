@@ -1,10 +1,9 @@
 //! A fault of a run is the one that its caller is told.
 
-use crate::cells::{Context, ContextCall};
 use crate::faults::{Calling, CallingOfPart, Failing, closed_fault};
 use crate::functions::LocationMemo;
-use comemo::function::memoized;
-use comemo::{Both, CacheData, Constraint, Fault, Function, MemoOf, Top, Track};
+use comemo::{Both, CacheData, Constraint, Fault, Function, MemoOf, Top, Track, memoized};
+use comemo_samples::{Context, ContextCall};
 use std::alloc::Global;
 use std::test::Fail;
 

@@ -4,15 +4,13 @@ ghost use Rattle.std.proofs.Common.{rules};
 ghost use Rattle.comemo_tests.specs.Broken.{IsBroken};
 ghost use Rattle.comemo.specs.Meaning.{reading};
 
-use crate::cells::{Context, ContextCall};
 use crate::functions::LocationMemo;
-use comemo::closure::memoize;
 use comemo::{
-    Both, CacheData, Constraint, Fault, Function, FunctionOf, Memo, MemoOf, MultiAnswer, MultiCall,
-    Recorder, Reply, Sink, Tracked,
+    Both, Breaking, CacheData, Constraint, Fault, Function, FunctionOf, Memo, MemoOf, MultiAnswer,
+    MultiCall, Recorder, Reply, Sink, Tracked, memoize,
 };
+use comemo_samples::{Context, ContextCall};
 use std::alloc::Global;
-use tracking::Breaking;
 
 /// A function whose runs all end for want of memory.
 pub struct Refused;

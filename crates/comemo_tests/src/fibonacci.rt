@@ -3,8 +3,7 @@ ghost use Rattle.std.specs.Prelude.{◌≡◌, ◌≤◌, IfOk, OnErr, ◌%◌, 
 ghost use Rattle.std.proofs.Common.{rules};
 ghost use Rattle.comemo_tests.specs.Fibonacci.{fib};
 
-use comemo::begin::begin;
-use comemo::{Begun, CacheData, Constraint, Fault, Hashed, How, Memo, Reply};
+use comemo::{Begun, CacheData, Constraint, Fault, Hashed, How, Memo, Reply, begin};
 use std::alloc::Global;
 
 /// The number of Fibonacci at a place.

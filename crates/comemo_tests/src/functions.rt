@@ -5,11 +5,11 @@ ghost use Rattle.comemo.specs.Meaning.{invocation};
 ghost use Rattle.comemo.specs.Called.{IsReply};
 ghost use Rattle.comemo_tests.specs.Broken.{IsBroken};
 
-use crate::cells::{Context, ContextCall, Page};
-use comemo::begin::begin;
-use comemo::{Begun, CacheData, Fault, How, Keyed, Meant, Memo, Reply, Sink, Track, Tracked};
+use comemo::{
+    Begun, Breaking, CacheData, Fault, How, Keyed, Meant, Memo, Reply, Sink, Track, Tracked, begin,
+};
+use comemo_samples::{Context, ContextCall, Page};
 use std::alloc::Global;
-use tracking::Breaking;
 
 /// The location of a context.
 pub struct LocationMemo;
@@ -23,7 +23,7 @@ impl Memo for LocationMemo {
 
     type Out = u64;
 
-    ghost use Rattle.comemo_tests.specs.declared.cells.ContextCall.TheVariants.{Location};
+    ghost use Rattle.comemo_samples.specs.declared.contexts.ContextCall.TheVariants.{Location};
 
     ghost def = { λ _ m out _. out ≡ m Location };
 
@@ -77,7 +77,7 @@ impl Memo for SumMemo {
 
     type Out = u64;
 
-    ghost use Rattle.comemo_tests.specs.declared.cells.ContextCall.TheVariants.{Location, Styles};
+    ghost use Rattle.comemo_samples.specs.declared.contexts.ContextCall.TheVariants.{Location, Styles};
 
     ghost def = { λ _ m out _. out ≡ (m Location + m Styles) % 2 ^ 64 };
 

@@ -3,12 +3,12 @@ ghost use Rattle.std.specs.Prelude.{◌≡◌, IfOk, OnErr, IfSome, ◌*◌, ◌
 ghost use Rattle.std.proofs.Common.{rules};
 ghost use Rattle.comemo_tests.specs.Broken.{IsBroken};
 
-use crate::cells::{Context, ContextCall};
 use crate::functions::LocationMemo;
-use comemo::begin::begin;
-use comemo::{Begun, CacheData, Fault, Found, Hashed, How, Memo, Reply, Sink, Tracked};
+use comemo::{
+    Begun, Breaking, CacheData, Fault, Found, Hashed, How, Memo, Reply, Sink, Tracked, begin,
+};
+use comemo_samples::{Context, ContextCall};
 use std::alloc::{AllocError, Global};
-use tracking::Breaking;
 
 /// The location of a context, kept, by a view that the caller lends.
 pub fn lent_location<S: Sink<Call = ContextCall, Answer = u64>>(

@@ -1,18 +1,16 @@
 //! Memoized functions of several arguments, joined into one input.
 ghost use Rattle.std.specs.Prelude.{◌≡◌, [], ◌∷◌, ◌||◌, ◌+◌, ◌%◌, ◌^◌, Bool, false, IfOk, OnOk, OnErr, nat_eq};
 ghost use Rattle.std.proofs.Common.{rules};
-ghost use Rattle.tracking.specs.Multi.{OnParts};
+ghost use Rattle.comemo.specs.Multi.{OnParts};
 ghost use Rattle.comemo_tests.specs.Broken.{IsBroken};
 
-use crate::cells::{Context, ContextCall};
 use crate::sinks::send;
-use comemo::begin::begin;
 use comemo::{
-    Begun, CacheData, CallMap, Fault, First, Hashed, How, MappedSink, Memo, Multi, MultiAnswer,
-    MultiCall, Reply, Second, Sink, Tracked,
+    Begun, Breaking, CacheData, CallMap, Fault, First, Hashed, How, MappedSink, Memo, Multi,
+    MultiAnswer, MultiCall, Reply, Second, Sink, Tracked, begin,
 };
+use comemo_samples::{Context, ContextCall};
 use std::alloc::{AllocError, Global};
-use tracking::Breaking;
 
 /// Sends a read with its answer through a map. What the sink behind it took is known after the mapped sink is gone.
 pub fn send_through<M: CallMap + Drop, S: Sink<Call = M::To, Answer = M::ToAnswer>>(
@@ -41,7 +39,7 @@ impl Memo for ContainsMemo {
 
     type Out = bool;
 
-    ghost use Rattle.comemo_tests.specs.declared.cells.ContextCall.TheVariants.{Location, Styles};
+    ghost use Rattle.comemo_samples.specs.declared.contexts.ContextCall.TheVariants.{Location, Styles};
 
     ghost def = { λ key answers out _. OnParts answers
         (λ _ m. out ≡ (nat_eq (m Location) key.0 || nat_eq (m Styles) key.0)) };
@@ -147,7 +145,7 @@ impl Memo for LocationsMemo {
 
     type Out = u64;
 
-    ghost use Rattle.comemo_tests.specs.declared.cells.ContextCall.TheVariants.{Location};
+    ghost use Rattle.comemo_samples.specs.declared.contexts.ContextCall.TheVariants.{Location};
 
     ghost def = { λ _ answers out _. OnParts answers
         (λ m n. out ≡ (m Location + n Location) % 2 ^ 64) };

@@ -1,12 +1,12 @@
 //! Runs of functions of several arguments.
 
-use crate::cells::Context;
 use crate::expected::expect;
 use crate::joined::{
     ContainsMemo, LocationsMemo, SumOfTwoMemo, ThreeMemo, contains, locations, sum_of_three,
     sum_of_two,
 };
 use comemo::{CacheData, Fault, How, MultiAnswer, MultiCall, Reply, Top, Track};
+use comemo_samples::Context;
 use std::alloc::Global;
 use std::test::Fail;
 

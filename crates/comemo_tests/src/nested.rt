@@ -1,18 +1,18 @@
 //! A memoized function that calls another one, whose reads go to its own recording.
 ghost use Rattle.std.specs.Prelude.{◌≡◌, IfOk, OnErr, ◌+◌, ◌%◌, ◌^◌};
 ghost use Rattle.std.proofs.Common.{rules};
-ghost use Rattle.comemo_tests.specs.Cells.{field};
+ghost use Rattle.comemo_samples.specs.Contexts.{field};
 ghost use Rattle.comemo.specs.Meaning.{invocation};
 ghost use Rattle.comemo.specs.Called.{IsReply};
-ghost use Rattle.comemo_tests.specs.declared.cells.ContextCall.TheVariants.{Location};
+ghost use Rattle.comemo_samples.specs.declared.contexts.ContextCall.TheVariants.{Location};
 ghost use Rattle.comemo_tests.specs.Broken.{IsBroken};
 
-use crate::cells::{Context, ContextCall};
 use crate::functions::{LocationMemo, location};
-use comemo::begin::begin;
-use comemo::{Begun, CacheData, Fault, How, Keyed, Meant, Memo, Reply, Sink, Track, Tracked};
+use comemo::{
+    Begun, Breaking, CacheData, Fault, How, Keyed, Meant, Memo, Reply, Sink, Track, Tracked, begin,
+};
+use comemo_samples::{Context, ContextCall};
 use std::alloc::Global;
-use tracking::Breaking;
 
 /// Twice the location of a context, which wraps.
 pub struct TwiceMemo;

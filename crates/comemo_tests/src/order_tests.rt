@@ -2,9 +2,8 @@
 ghost use Rattle.std.specs.Prelude.{refl};
 ghost use Rattle.std.proofs.Common.{rules};
 
-use crate::cells::{Context, ContextCall};
-use comemo::begin::begin;
-use comemo::{Begun, CacheData, Constraint, Fault, How, Keyed, Memo, Reply, Top, Track};
+use comemo::{Begun, CacheData, Constraint, Fault, How, Keyed, Memo, Reply, Top, Track, begin};
+use comemo_samples::{Context, ContextCall};
 use std::alloc::{AllocError, Global};
 use std::test::Fail;
 

@@ -2,13 +2,12 @@
 ghost use Rattle.std.proofs.Common.{rules};
 
 use crate::absorbing::absorbed_row;
-use crate::cells::{Context, Place, Row};
 use crate::expected::expect;
 use crate::functions::LocationMemo;
 use crate::inputs::{SquareMemo, lent_location, look_location, square};
 use crate::sinks::{lose_by_reference, send_by_reference};
-use comemo::begin::begin;
-use comemo::{Begun, CacheData, Constraint, Fault, How, Memo, Pending, Sink, Top, Track};
+use comemo::{Begun, CacheData, Constraint, Fault, How, Memo, Pending, Sink, Top, Track, begin};
+use comemo_samples::{Context, Place, Row};
 use std::alloc::{AllocError, Global};
 use std::test::Fail;
 

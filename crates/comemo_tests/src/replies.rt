@@ -1,5 +1,4 @@
 //! What becomes of calls, in worked order.
-use crate::cells::{Context, ContextCall, Page, Row};
 use crate::expected::expect;
 use crate::fibonacci::{FibMemo, numbered};
 use crate::functions::{
@@ -8,6 +7,7 @@ use crate::functions::{
 use crate::nested::{TwiceMemo, twice};
 use crate::rows::{FirstZeroMemo, first_zero};
 use comemo::{CacheData, Constraint, How, Sink, Top, Track};
+use comemo_samples::{Context, ContextCall, Page, Row};
 use std::test::Fail;
 
 fn top() -> Top<ContextCall, u64> {

@@ -1,15 +1,15 @@
 //! A memoized function whose calls depend on the answers, asked in a loop.
 ghost use Rattle.std.specs.Prelude.{IfOk, OnErr, ◌≡◌, ℕ, nat_eq, slice_index};
-ghost use Rattle.comemo_base.specs.Answers.{Respects, Agrees};
+ghost use Rattle.comemo.specs.Answers.{Respects, Agrees};
 ghost use Rattle.std.proofs.Common.{rules};
 ghost use Rattle.comemo_tests.specs.Rows.{IsFirstZero, by_call, same_place, numbers};
 ghost use Rattle.comemo_tests.specs.Broken.{IsBroken};
 
-use crate::cells::{Place, Row};
-use comemo::begin::begin;
-use comemo::{Begun, CacheData, Constraint, Fault, How, Keyed, Memo, Reply, Sink, Tracked};
+use comemo::{
+    Begun, Breaking, CacheData, Constraint, Fault, How, Keyed, Memo, Reply, Sink, Tracked, begin,
+};
+use comemo_samples::{Place, Row};
 use std::alloc::{AllocError, Global};
-use tracking::Breaking;
 
 /// The first place below a length at which a row has 0, or else the length.
 pub struct FirstZeroMemo;

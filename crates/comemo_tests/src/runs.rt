@@ -2,11 +2,10 @@
 ghost use Rattle.std.specs.Prelude.{refl};
 ghost use Rattle.std.proofs.Common.{rules};
 
-use crate::cells::{Context, ContextCall};
-use comemo::begin::begin;
 use comemo::{
-    Begun, CacheData, Constraint, Fault, How, Keyed, Memo, Pending, Reply, Sink, Top, Track,
+    Begun, CacheData, Constraint, Fault, How, Keyed, Memo, Pending, Reply, Sink, Top, Track, begin,
 };
+use comemo_samples::{Context, ContextCall};
 use std::alloc::Global;
 use std::test::Fail;
 

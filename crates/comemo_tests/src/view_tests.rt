@@ -2,9 +2,9 @@
 ghost use Rattle.std.specs.Prelude.{false, refl};
 ghost use Rattle.std.proofs.Common.{rules};
 
-use crate::cells::{Context, ContextCall, Place, Row};
 use crate::views::{ask_into, is_valid_for_itself};
 use comemo::{Constraint, Sink, Track};
+use comemo_samples::{Context, ContextCall, Place, Row};
 use std::alloc::{AllocError, Global};
 use std::test::Fail;
 

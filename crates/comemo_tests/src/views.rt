@@ -1,6 +1,6 @@
 //! Views that hold a sink, and recordings asked again.
 ghost use Rattle.std.specs.Prelude.{◌≡◌, [], false, IsTrue, IfOk, OnErr};
-ghost use Rattle.tracking.specs.Sending.{Asks};
+ghost use Rattle.comemo.specs.Sending.{Asks};
 
 use comemo::{Constraint, Sink, Track};
 use std::alloc::{AllocError, Global};

@@ -8,7 +8,7 @@ use Rattle.std.specs.Map.{lookup}
 use Rattle.std.specs.HashMap.Eq.{lookup_congr}
 use Rattle.comemo_base.specs.Sequence.{Sequence, HasDistinctCalls, was_seen, unseen, held, absorbed}
 use Rattle.comemo_base.proofs.Pairs.{held-push}
-use Rattle.tracking.specs.Recording.{IsRecording}
+use Rattle.comemo_track.specs.Recording.{IsRecording}
 
 or_none : (a : Bool) → (a || false) ≡ a
 or_none true = refl

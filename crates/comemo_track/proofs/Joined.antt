@@ -2,11 +2,11 @@
 use Rattle.std.proofs.Common.{◌≡◌, Bool, true, false, sym, ◌∙◌}
 use Rattle.std.specs.Cmp.{IsEquivalence}
 use Rattle.comemo_base.specs.Answers.{Respects}
-use Rattle.tracking.specs.Multi.{part_answers}
-use Rattle.tracking.specs.declared.multi.MultiCall.{MultiCall}
-use Rattle.tracking.specs.declared.multi.MultiCall.TheVariants as call
-use Rattle.tracking.specs.declared.multi.MultiAnswer.{MultiAnswer}
-use Rattle.tracking.specs.declared.multi.MultiAnswer.TheVariants as answer
+use Rattle.comemo_track.specs.Multi.{part_answers}
+use Rattle.comemo_track.specs.declared.multi.MultiCall.{MultiCall}
+use Rattle.comemo_track.specs.declared.multi.MultiCall.TheVariants as call
+use Rattle.comemo_track.specs.declared.multi.MultiAnswer.{MultiAnswer}
+use Rattle.comemo_track.specs.declared.multi.MultiAnswer.TheVariants as answer
 
 -- a test of calls that never takes a call of one part for one of the other
 pub record TellsCalls {X Y : Type 0} (eq : MultiCall X Y → MultiCall X Y → Bool) : Type 0 where

@@ -4,17 +4,17 @@ use Rattle.std.proofs.Common.{◌≡◌, Bool, true, List, IsTrue, refl, subst}
 use Rattle.std.specs.Bool.{⊤}
 use Rattle.std.specs.Cmp.{IsEquivalence}
 use Rattle.comemo_base.specs.Answers.{Respects, Agrees}
-use Rattle.tracking.specs.Mapped.{Through}
-use Rattle.tracking.specs.Multi.{first_call, second_call, first_answer, second_answer, part_answers, OnParts}
-use Rattle.tracking.specs.MultiLaws.{second_respects}
-use Rattle.tracking.specs.Recording.{Recording, Took}
-use Rattle.tracking.specs.Sending.{Asks}
-use Rattle.tracking.specs.declared.multi.MultiCall.{MultiCall}
-use Rattle.tracking.specs.declared.multi.MultiCall.TheVariants as part
-use Rattle.tracking.specs.declared.multi.MultiAnswer.{MultiAnswer}
-use Rattle.tracking.proofs.Joined.{TellsCalls, TellsAnswers, joined_calls, joined_answers, joined_respect}
-use Rattle.tracking.proofs.Through.{asked_through}
-use Rattle.tracking.proofs.Told.{told_answer}
+use Rattle.comemo_track.specs.Mapped.{Through}
+use Rattle.comemo_track.specs.Multi.{first_call, second_call, first_answer, second_answer, part_answers, OnParts}
+use Rattle.comemo_track.specs.MultiLaws.{second_respects}
+use Rattle.comemo_track.specs.Recording.{Recording, Took}
+use Rattle.comemo_track.specs.Sending.{Asks}
+use Rattle.comemo_track.specs.declared.multi.MultiCall.{MultiCall}
+use Rattle.comemo_track.specs.declared.multi.MultiCall.TheVariants as part
+use Rattle.comemo_track.specs.declared.multi.MultiAnswer.{MultiAnswer}
+use Rattle.comemo_track.proofs.Joined.{TellsCalls, TellsAnswers, joined_calls, joined_answers, joined_respect}
+use Rattle.comemo_track.proofs.Through.{asked_through}
+use Rattle.comemo_track.proofs.Telling.{told_answer}
 
 -- the test of the view's calls, of a test of all calls
 abbrev pub view_calls : {C : Type 0} → (MultiCall ⊤ C → MultiCall ⊤ C → Bool) → C → C → Bool

@@ -5,7 +5,7 @@ use Rattle.std.specs.Cmp.{IsEquivalence}
 use Rattle.std.specs.declared.alloc.AllocError.{AllocError}
 use Rattle.comemo_base.specs.Sequence.{Sequence, was_seen, held}
 use Rattle.comemo_base.proofs.Pairs.{or_turned, held-push}
-use Rattle.tracking.specs.Recording.{IsRecording}
+use Rattle.comemo_track.specs.Recording.{IsRecording}
 
 module _ {C R : Type 0} {eq : C → C → Bool} (laws : IsEquivalence eq) (w : C → Bool) (s : Sequence C R) (is : IsRecording eq w s) where
   taken : (t : Sequence C R) (call : C) (answer : R) → w call ≡ false → t.pairs ≡ s.pairs ++ (call, answer) ∷ [] → ((other : C) → was_seen eq t other ≡ (eq call other || was_seen eq s other)) → IsRecording eq w t

@@ -1,7 +1,7 @@
 -- One more pair is sent to a sink.
 use Rattle.std.proofs.Common.{◌≡◌, suc, Bool, false, List, [], ◌∷◌, ◌++◌, Result, Ok, Err, OnErr, refl, sym, ap, subst, ◌∙◌, append_assoc, append-nil, arith}
 use Rattle.std.specs.List.{All}
-use Rattle.tracking.specs.Sending.{BreaksOff}
+use Rattle.comemo_track.specs.Sending.{BreaksOff}
 
 -- a sink went from s to t by a front of all pairs, and these are left
 pub record SentFront {S C R : Type 0} (took : S → S → List (C × R) → List C → Type 0) (s t : S) (all left : List (C × R)) : Type 0 where

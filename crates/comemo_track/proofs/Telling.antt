@@ -5,8 +5,8 @@ use Rattle.std.specs.Cmp.{IsEquivalence}
 use Rattle.comemo_base.specs.Answers.{Respects, Agrees}
 use Rattle.comemo_base.specs.Sequence.{held, absorbed}
 use Rattle.comemo_base.proofs.Paths.{turned, joined}
-use Rattle.tracking.specs.Recording.{Recording, Took}
-use Rattle.tracking.specs.Sending.{Asks}
+use Rattle.comemo_track.specs.Recording.{Recording, Took}
+use Rattle.comemo_track.specs.Sending.{Asks}
 
 module _ {C R : Type 0} (same : R → R → Bool) (m : C → R) where
   agrees_front : (ps qs : List (C × R)) → Agrees same m (ps ++ qs) → Agrees same m ps

@@ -1,7 +1,7 @@
 -- What is asked through a map.
 use Rattle.std.proofs.Common.{◌≡◌, Bool, List, ◌∙◌}
-use Rattle.tracking.specs.Mapped.{Through}
-use Rattle.tracking.specs.Sending.{Asks}
+use Rattle.comemo_track.specs.Mapped.{Through}
+use Rattle.comemo_track.specs.Sending.{Asks}
 
 module _ {C D R Q : Type 0} {sent : List (D × Q) → List D → Type 0} {same : R → R → Bool} (like : Q → Q → Bool) (f : C → D) (g : R → Q) (m : C → R) (n : D → Q) where
   -- what is asked of a value through a map is asked, in the map's images, of one that answers by them

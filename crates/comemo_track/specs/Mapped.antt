@@ -1,6 +1,6 @@
 -- Calls and answers that are sent on through a map.
 use Rattle.std.specs.Prelude.{◌≡◌, List, map}
-use Rattle.tracking.specs.declared.mapped.MappedSink.{MappedSink}
+use Rattle.comemo_track.specs.declared.mapped.MappedSink.{MappedSink}
 
 module _ {C D R Q : Type 0} where
   -- the pairs with their calls sent through f and their answers through g

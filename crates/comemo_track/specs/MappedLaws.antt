@@ -4,8 +4,8 @@ use Rattle.std.proofs.Common.{◌≡◌, Bool, ◌⊎◌, List, [], ◌∷◌, �
 use Rattle.std.proofs.lemmas.List.{map-append}
 use Rattle.std.proofs.lemmas.Bool.{cases_Bool}
 use Rattle.comemo_base.specs.Sequence.{held}
-use Rattle.tracking.specs.Mapped.{mapped_pairs, MapsTook, MapsSpoils}
-use Rattle.tracking.specs.declared.mapped.MappedSink.{MappedSink}
+use Rattle.comemo_track.specs.Mapped.{mapped_pairs, MapsTook, MapsSpoils}
+use Rattle.comemo_track.specs.declared.mapped.MappedSink.{MappedSink}
 
 -- a call is held among pairs exactly where its image is among theirs
 held-mapped : {C D R Q : Type 0} (eq : C → C → Bool) (like : D → D → Bool) (f : C → D) (g : R → Q) → ((x y : C) → like (f x) (f y) ≡ eq x y) → (P : List (C × R)) (call : C) → held like (mapped_pairs f g P) (f call) ≡ held eq P call

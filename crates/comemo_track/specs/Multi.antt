@@ -1,9 +1,9 @@
 -- Calls and answers of two joined inputs.
 use Rattle.std.specs.Prelude.{◌≡◌, List, [], ◌∷◌}
-use Rattle.tracking.specs.declared.multi.MultiCall.{MultiCall}
-use Rattle.tracking.specs.declared.multi.MultiCall.TheVariants as call
-use Rattle.tracking.specs.declared.multi.MultiAnswer.{MultiAnswer}
-use Rattle.tracking.specs.declared.multi.MultiAnswer.TheVariants as answer
+use Rattle.comemo_track.specs.declared.multi.MultiCall.{MultiCall}
+use Rattle.comemo_track.specs.declared.multi.MultiCall.TheVariants as call
+use Rattle.comemo_track.specs.declared.multi.MultiAnswer.{MultiAnswer}
+use Rattle.comemo_track.specs.declared.multi.MultiAnswer.TheVariants as answer
 
 module _ {X Y : Type 0} where
   -- a call of the first part, and one of the second

@@ -1,11 +1,11 @@
 -- The laws of joined inputs, which the traits ask. They say nothing that a reader must believe.
 use Rattle.std.proofs.Common.{◌≡◌, Bool, IsTrue, List, [], ◌∷◌, ◌++◌, refl, sym, ap, subst}
 use Rattle.comemo_base.specs.Answers.{Respects}
-use Rattle.tracking.specs.Multi.{second_call, second_answer, firsts, seconds}
-use Rattle.tracking.specs.declared.multi.MultiCall.{MultiCall}
-use Rattle.tracking.specs.declared.multi.MultiCall.TheVariants as call
-use Rattle.tracking.specs.declared.multi.MultiAnswer.{MultiAnswer}
-use Rattle.tracking.specs.declared.multi.MultiAnswer.TheVariants as answer
+use Rattle.comemo_track.specs.Multi.{second_call, second_answer, firsts, seconds}
+use Rattle.comemo_track.specs.declared.multi.MultiCall.{MultiCall}
+use Rattle.comemo_track.specs.declared.multi.MultiCall.TheVariants as call
+use Rattle.comemo_track.specs.declared.multi.MultiAnswer.{MultiAnswer}
+use Rattle.comemo_track.specs.declared.multi.MultiAnswer.TheVariants as answer
 
 module _ {X Y : Type 0} where
   -- what holds of two calls of either part, and of calls of different parts

@@ -3,7 +3,7 @@ use Rattle.std.proofs.Common.{◌≡◌, Bool, true, false, cond, ◌||◌, ◌�
 use Rattle.std.proofs.lemmas.Bool.{cases_Bool}
 use Rattle.comemo_base.specs.Sequence.{held, absorbed}
 use Rattle.comemo_base.proofs.Pairs.{absorbed-append, held-push}
-use Rattle.tracking.specs.Recording.{Recording, Took, Spoiled}
+use Rattle.comemo_track.specs.Recording.{Recording, Took, Spoiled}
 
 or_cases : (a b : Bool) → (a || b) ≡ true → (a ≡ true) ⊎ (b ≡ true)
 or_cases true b h = inl refl

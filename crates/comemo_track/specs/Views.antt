@@ -1,7 +1,7 @@
 -- What a view with a sink is, and how a view prints.
 use Rattle.std.specs.Prelude.{ℕ, List, codes}
 use Rattle.std.specs.Borrow.{MutBor}
-use Rattle.tracking.specs.declared.track.TrackedWith.{TrackedWith}
+use Rattle.comemo_track.specs.declared.track.TrackedWith.{TrackedWith}
 
 module _ {T S : Type 0} where
   -- the value that a view with a sink reads

@@ -8,13 +8,15 @@ use std::alloc::{AllocError, Global};
 
 /// Views joined: two tracked values as one.
 ///
-/// Each call and its answer are a part's, as those of `Multi` are. What is joined is tracked itself, so that a run can be
-/// handed it by one view. It takes no memory. A part may be two values itself, but the checker does not cover a run of a
-/// function of such parts yet: more than two are a struct of a user's own, with its calls and its `Track`. This project's
-/// own: comemo's functions take their tracked arguments side by side.
+/// Each call and its answer are a part's, as those of `Multi` are. What is joined is tracked itself, so that a run can
+/// be handed it by one view. It takes no memory. A part may be two values itself, but the checker does not cover a run
+/// of a function of such parts yet: more than two are a struct of a user's own, with its calls and its `Track`. This
+/// project's own: comemo's functions take their tracked arguments side by side.
 #[derive(Drop)]
 pub struct Both<'a, A, B> {
+    /// A view of the first value.
     pub first: Tracked<'a, A>,
+    /// A view of the second value.
     pub second: Tracked<'a, B>,
 }
 
@@ -24,8 +26,8 @@ impl<'a, A: Track, B: Track> Track for Both<'a, A, B> {
 
     type Answer = MultiAnswer<A::Answer, B::Answer>;
 
-    ghost use Rattle.tracking.specs.Multi.{part_answers};
-    ghost use Rattle.tracking.specs.MultiLaws.{by_parts, by_answers};
+    ghost use Rattle.comemo_track.specs.Multi.{part_answers};
+    ghost use Rattle.comemo_track.specs.MultiLaws.{by_parts, by_answers};
 
     ghost answers = { λ s. part_answers (A.answers s.first) (B.answers s.second) };
 
@@ -48,14 +50,14 @@ impl<'a, A: Track, B: Track> Track for Both<'a, A, B> {
 
 /// What a view of two values gives: views of the parts, which take no memory today.
 impl<'a, 'b, A: Track, B: Track> Tracked<'a, Both<'b, A, B>> {
-    /// A view of the first value.
+    /// A view of the first value. It takes no memory today. This project's own.
     pub fn first(&self, alloc: Global) -> Tracked<'b, A>
         ensures { result ≡ self.now.first }
     {
         self.value.first.fork(alloc)
     }
 
-    /// A view of the second value.
+    /// A view of the second value. It takes no memory today. This project's own.
     pub fn second(&self, alloc: Global) -> Tracked<'b, B>
         ensures { result ≡ self.now.second }
     {

@@ -3,8 +3,8 @@ ghost use Rattle.std.specs.Prelude.{◌≡◌, ◌↔◌, ◌&&◌, [], ◌∷�
 ghost use Rattle.std.specs.List.{All};
 ghost use Rattle.comemo_base.specs.Sequence.{held, absorbed};
 ghost use Rattle.comemo_base.specs.Answers.{Agrees};
-ghost use Rattle.tracking.specs.Recording.{Took, Spoiled, AgreesBefore};
-ghost use Rattle.tracking.specs.Sending.{sent_pairs, sent_writes};
+ghost use Rattle.comemo_track.specs.Recording.{Took, Spoiled, AgreesBefore};
+ghost use Rattle.comemo_track.specs.Sending.{sent_pairs, sent_writes};
 
 use crate::track::{Call, Sink, Track};
 use comemo_base::CallSequence;
@@ -13,8 +13,9 @@ use std::marker::Model;
 
 /// A recording of one run of a memoized function: its reads with their answers, each read once. Writes are to come.
 ///
-/// It is whole, or spoiled: then something that should have been recorded was not. comemo's `Constraint`, owned and lent
-/// for writing, with answers themselves in the place of their hashes.
+/// It is whole, or spoiled: then something that should have been recorded was not. It keeps its reads as a
+/// `CallSequence`, and takes what that takes. comemo's `Constraint`, owned and lent for writing, with answers
+/// themselves in the place of their hashes.
 #[derive(Drop)]
 pub struct Constraint<C: Call, R> {
     reads: CallSequence<C, R>,
@@ -23,7 +24,7 @@ pub struct Constraint<C: Call, R> {
 
 impl<C: Call, R> Model for Constraint<C, R> {
     ghost use Rattle.std.specs.Prelude.{[]};
-    ghost use Rattle.tracking.specs.Recording.{Recording, recording_code, IsRecording};
+    ghost use Rattle.comemo_track.specs.Recording.{Recording, recording_code, IsRecording};
 
     ghost Value = { Recording C R };
 
@@ -35,7 +36,7 @@ impl<C: Call, R> Model for Constraint<C, R> {
 }
 
 impl<C: Call, R> Constraint<C, R> {
-    /// A recording of nothing, which is whole. It takes no memory.
+    /// A recording of nothing, which is whole. It takes no memory and constant time.
     ///
     /// comemo's `Constraint::new`.
     pub fn new(alloc: Global) -> Self
@@ -70,12 +71,12 @@ impl<C: Call, R> Constraint<C, R> {
 }
 
 impl<C: Call, R: Drop> Constraint<C, R> {
-    /// Adds what another recording holds: its reads whose calls aren't held, in their order, and its writes after the own
-    /// ones. Of a read that is held the own answer stays. Where the other is spoiled this one is spoiled too.
+    /// Adds what another recording holds: its reads whose calls aren't held, in their order, and its writes after the
+    /// own ones. Of a read that is held the own answer stays. Where the other is spoiled this one is spoiled too.
     ///
     /// Where there is no memory it answers `AllocError`: then reads and writes stay as they were and the recording is
-    /// spoiled, since the other is gone. It takes the room for all reads of the other at once, clones nothing, and takes
-    /// constant expected time for each of them. comemo's `Constraint` has nothing like it.
+    /// spoiled, since the other is gone. It takes the room for all reads of the other at once, clones nothing, and
+    /// takes constant expected time for each of them. comemo's `Constraint` has nothing like it.
     pub fn absorb(&mut self, other: Constraint<C, R>) -> Result<(), AllocError>
         ensures pairs { OnOk result (self.new.pairs ≡ absorbed C.eq self.old.pairs other.pairs) }
         ensures writes { OnOk result (self.new.writes ≡ self.old.writes ++ other.writes) }
@@ -94,8 +95,9 @@ impl<C: Call, R: Clone + Ord> Constraint<C, R> {
     /// Whether a value gives each recorded answer again: it is asked the recorded reads in their order, up to the first
     /// whose answer differs. A recording of no reads holds of every value, and writes say nothing.
     ///
-    /// An error comes only where the value refused an answer, and the answers before it agreed. It takes the memory of the
-    /// answers. comemo's `Constraint::validate`, which can't be refused.
+    /// An error comes only where the value refused an answer, and the answers before it agreed. It asks each read once,
+    /// takes the memory of one answer at a time, and changes nothing. comemo's `Constraint::validate`, which can't be
+    /// refused.
     pub fn validate<T: Track<Call = C, Answer = R>>(&self, value: &T) -> Result<bool, AllocError>
         ensures ok { IfOk result
             (λ valid. IsTrue valid ↔ Agrees R.eq (T.answers value.now) self.now.pairs) }
@@ -112,12 +114,14 @@ impl<C: Call, R: Clone + Ord> Constraint<C, R> {
     }
 }
 
+/// It takes note of a read as `CallSequence::insert` does: it clones a call that is new, in constant expected time, and
+/// where there is no memory nothing changes. The first answer to a call stays.
 impl<C: Call, R: Clone + Ord> Sink for Constraint<C, R> {
     type Call = C;
 
     type Answer = R;
 
-    ghost use Rattle.tracking.specs.RecordingLaws.{took_nothing, took_both, took_keeps, took_held, took_holds, spoiled_held};
+    ghost use Rattle.comemo_track.specs.RecordingLaws.{took_nothing, took_both, took_keeps, took_held, took_holds, spoiled_held};
 
     ghost took = { Took C.eq };
 

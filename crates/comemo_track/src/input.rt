@@ -1,8 +1,9 @@
-//! Inputs of memoized functions: a key, by which entries are told apart, and calls, whose answers they are looked up by.
+//! Inputs of memoized functions: a key, by which entries are told apart, and calls, whose answers they are looked up
+//! by.
 ghost use Rattle.std.specs.Prelude.{◌≡◌, [], ◌++◌, List, false, IsTrue, IfOk, refl};
 ghost use Rattle.std.proofs.Common.{◌∙◌, ap};
 ghost use Rattle.comemo_base.specs.Answers.{Respects};
-ghost use Rattle.tracking.specs.InputLaws.{equal_if_one};
+ghost use Rattle.comemo_track.specs.InputLaws.{equal_if_one};
 
 use crate::track::{Call, Track, Tracked};
 use std::alloc::AllocError;
@@ -15,10 +16,13 @@ use std::marker::Model;
 /// `did s t W`: t is s after the writes W, which change the answer of no read, nor the key. comemo's `Input`, with keys
 /// and answers themselves, which can be refused.
 pub trait Input {
+    /// What the input can be asked.
     type Call: Call;
 
+    /// What entries are told apart by, before any call is asked.
     type Key: Clone + Eq + Hash;
 
+    /// What a read is answered by: one type for all calls.
     type Answer: Clone + Ord;
 
     // the key
@@ -31,10 +35,14 @@ pub trait Input {
     ghost did: { Self → Self → List Self.Call → Type 0 };
 
     /// The key, cloned. An error says that there was no memory for it.
+    ///
+    /// comemo's `Input::key`, which feeds a hasher.
     fn key(&self) -> Result<Self::Key, AllocError>
         ensures { IfOk result (λ key. IsTrue (Self.Key.eq (key_of self.now) key)) };
 
-    /// The answer to a read. An error says that there was no memory for it.
+    /// The answer to a read. An error says that there was no memory for it. Either way nothing is written to the input.
+    ///
+    /// comemo's `Input::call`, which gives a hash.
     fn call(&mut self, call: &Self::Call) -> Result<Self::Answer, AllocError>
         requires { Self.Call.is_write call.now ≡ false }
         ensures answer { IfOk result
@@ -64,11 +72,13 @@ pub trait Input {
 /// A key joined with a view: the input of a function of one argument that isn't tracked and one that is. Its calls are
 /// the view's.
 ///
-/// The front door's input. It takes what its parts take. This project's own: with one view no call has to say whose it is,
-/// as a call of `Multi` does.
+/// The front door's input. It takes what its parts take. This project's own: with one view no call has to say whose it
+/// is, as a call of `Multi` does.
 #[derive(Drop)]
 pub struct Keyed<'a, K: Clone + Eq + Hash, T> {
+    /// What isn't tracked.
     pub key: K,
+    /// A view of what is tracked.
     pub view: Tracked<'a, T>,
     // a clone of a key is equal
     pub ghost clones: { (x y : K) → K.is_clone x y → IsTrue (K.eq x y) },
@@ -107,8 +117,8 @@ impl<'a, K: Clone + Eq + Hash, T: Track> Input for Keyed<'a, K, T> {
     }
 }
 
-/// A view: an input with no key, whose calls and answers are the view's. Lent as `&mut`, it is its caller's again after a
-/// look-up. The key takes no memory; an answer is refused where the value refuses it.
+/// A view: an input with no key, whose calls and answers are the view's. Lent as `&mut`, it is its caller's again after
+/// a look-up. The key takes no memory; an answer is refused where the value refuses it.
 ///
 /// comemo's `Input` for `Tracked`.
 impl<'a, T: Track> Input for Tracked<'a, T> {
@@ -146,8 +156,8 @@ impl<'a, T: Track> Input for Tracked<'a, T> {
 
 /// A reference to a view: an input like the view itself, for a place where the view can't be moved to.
 ///
-/// A proof that hands in a reference to such a reference knows nothing of the view behind it afterwards; one that lends the
-/// view itself does. It takes what the view takes. comemo has `Input` for `Tracked` alone, which is `Copy` there.
+/// A proof that hands in a reference to such a reference knows nothing of the view behind it afterwards; one that lends
+/// the view itself does. It takes what the view takes. comemo has `Input` for `Tracked` alone, which is `Copy` there.
 impl<'a, T: Track> Input for &mut Tracked<'a, T> {
     type Call = T::Call;
 
@@ -181,11 +191,12 @@ impl<'a, T: Track> Input for &mut Tracked<'a, T> {
     }
 }
 
-/// A value that isn't tracked: an input that is a key alone, told from others by its `Eq`. Contracts see it as the value.
+/// A value that isn't tracked: an input that is a key alone, told from others by its `Eq`. Contracts see it as the
+/// value.
 ///
 /// Its one call is `()`, whose answer tells nothing. To make one, a clone of the value has to be equal to it. It takes
-/// the memory of that clone, and is refused where the clone is. comemo's `Input` for each type that can be hashed, which
-/// keeps the value's hash where this keeps the value.
+/// the memory of that clone, and is refused where the clone is. comemo's `Input` for each type that can be hashed,
+/// which keeps the value's hash where this keeps the value.
 #[derive(Drop)]
 pub struct Hashed<T: Clone + Eq + Hash>(pub T);
 

@@ -1,8 +1,8 @@
 //! Sinks that send each call on under another name.
 ghost use Rattle.std.specs.Prelude.{◌≡◌, [], List, false, not, is_none, IfOk, OnOk, OnErr, map, refl};
 ghost use Rattle.std.proofs.Common.{◌∙◌};
-ghost use Rattle.tracking.specs.Mapped.{Through};
-ghost use Rattle.tracking.specs.Sending.{Asks, sent_pairs, sent_writes};
+ghost use Rattle.comemo_track.specs.Mapped.{Through};
+ghost use Rattle.comemo_track.specs.Sending.{Asks, sent_pairs, sent_writes};
 
 use crate::track::{Call, Sink, Track, Tracked};
 use std::alloc::AllocError;
@@ -12,12 +12,16 @@ use std::alloc::AllocError;
 /// Different calls go to different calls, reads to reads and writes to writes, and different answers to different
 /// answers. This project's own; comemo takes a closure for it.
 pub trait CallMap {
+    /// The calls that are sent.
     type From: Call;
 
+    /// The calls that they go to.
     type To: Call;
 
+    /// The answers that are sent.
     type FromAnswer: Clone + Ord;
 
+    /// The answers that they go to.
     type ToAnswer: Clone + Ord;
 
     // where a call goes
@@ -26,11 +30,11 @@ pub trait CallMap {
     // where an answer goes
     ghost maps_answer: { Self → Self.FromAnswer → Self.ToAnswer };
 
-    /// Where a call goes.
+    /// Where a call goes. It can't be refused.
     fn map(&self, call: Self::From) -> Self::To
         ensures { result ≡ maps self.now call };
 
-    /// Where an answer goes.
+    /// Where an answer goes. It can't be refused.
     fn map_answer(&self, answer: Self::FromAnswer) -> Self::ToAnswer
         ensures { result ≡ maps_answer self.now answer };
 
@@ -59,7 +63,7 @@ pub struct MappedSink<'a, S, M> {
 }
 
 impl<'a, S, M> MappedSink<'a, S, M> {
-    /// Such a sink before `sink`, by `map`.
+    /// Such a sink before `sink`, by `map`. It takes no memory and constant time.
     ///
     /// comemo's `MappedSink::new`.
     pub fn new(sink: &'a mut S, map: M) -> Self
@@ -85,8 +89,8 @@ impl<'a, S: Sink<Call = M::To, Answer = M::ToAnswer>, M: CallMap> Sink for Mappe
 
     type Answer = M::FromAnswer;
 
-    ghost use Rattle.tracking.specs.Mapped.{MapsTook, MapsSpoils};
-    ghost use Rattle.tracking.specs.MappedLaws.{maps_nothing, maps_both, maps_keeps, maps_held, maps_holds, maps_spoiled};
+    ghost use Rattle.comemo_track.specs.Mapped.{MapsTook, MapsSpoils};
+    ghost use Rattle.comemo_track.specs.MappedLaws.{maps_nothing, maps_both, maps_keeps, maps_held, maps_holds, maps_spoiled};
 
     ghost took = { MapsTook S.took M.maps M.maps_answer };
 
@@ -132,8 +136,9 @@ impl<'a, S: Sink<Call = M::To, Answer = M::ToAnswer>, M: CallMap> Sink for Mappe
 impl<'a, T: Track> Tracked<'a, T> {
     /// Asks the value a read, and sends the call with its answer to a sink through a map.
     ///
-    /// It does what `ask` does with a `MappedSink`. It clones the answer for the sink. An error says that there was no
-    /// memory for the answer, its clone or the sink; then the sink is as it was. This project's own.
+    /// It does what `ask` does with a `MappedSink`. It asks the value once, and clones the answer for the sink. An
+    /// error says that there was no memory for the answer, its clone or the sink; then the sink is as it was. This
+    /// project's own.
     pub fn ask_through<
         M: CallMap<From = T::Call, FromAnswer = T::Answer> + Drop,
         S: Sink<Call = M::To, Answer = M::ToAnswer>,

@@ -20,8 +20,8 @@ pub enum MultiCall<A, B> {
 }
 
 impl<A: Call, B: Call> Call for MultiCall<A, B> {
-    ghost use Rattle.tracking.specs.Multi.{by_part};
-    ghost use Rattle.tracking.specs.MultiLaws.{by_parts};
+    ghost use Rattle.comemo_track.specs.Multi.{by_part};
+    ghost use Rattle.comemo_track.specs.MultiLaws.{by_parts};
 
     ghost is_write = { by_part A.is_write B.is_write };
 
@@ -41,7 +41,7 @@ impl<A: Call, B: Call> Call for MultiCall<A, B> {
 
 /// An answer of one of two joined inputs.
 ///
-/// comemo has none, since it keeps the hashes of answers.
+/// It takes what the part's answer takes. comemo has none, since it keeps the hashes of answers.
 #[derive(Clone, Drop, Debug, PartialEq, Eq, PartialOrd, Ord)]
 pub enum MultiAnswer<A, B> {
     /// An answer of the first part.
@@ -53,7 +53,8 @@ pub enum MultiAnswer<A, B> {
 /// Inputs joined: a pair, whose parts may be pairs themselves, or nothing at all.
 ///
 /// The key of a pair is the pair of its parts' keys, and each call and its answer are a part's. comemo's `Multi`, which
-/// takes up to twelve parts side by side; here three are `Multi((first, Multi((second, third))))`.
+/// takes up to twelve parts side by side; here three are `Multi((first, Multi((second, third))))`. Its field is `()`,
+/// or the pair of the parts.
 #[derive(Drop)]
 pub struct Multi<T>(pub T);
 
@@ -98,8 +99,8 @@ impl<A: Input, B: Input> Input for Multi<(A, B)> {
 
     type Answer = MultiAnswer<A::Answer, B::Answer>;
 
-    ghost use Rattle.tracking.specs.Multi.{part_answers, firsts, seconds};
-    ghost use Rattle.tracking.specs.MultiLaws.{by_each, by_parts, both_did};
+    ghost use Rattle.comemo_track.specs.Multi.{part_answers, firsts, seconds};
+    ghost use Rattle.comemo_track.specs.MultiLaws.{by_each, by_parts, both_did};
 
     ghost key_of = { λ s. (A.key_of s.0.0, B.key_of s.0.1) };
 
@@ -149,7 +150,7 @@ pub struct First<A, B, RA, RB> {
 }
 
 impl<A, B, RA, RB> First<A, B, RA, RB> {
-    /// Such a map.
+    /// Such a map. It takes no memory. This project's own.
     pub fn new() -> Self {
         First {
             calls: PhantomData,
@@ -167,7 +168,7 @@ impl<A: Call, B: Call, RA: Clone + Ord, RB: Clone + Ord> CallMap for First<A, B,
 
     type ToAnswer = MultiAnswer<RA, RB>;
 
-    ghost use Rattle.tracking.specs.Multi.{first_call, first_answer};
+    ghost use Rattle.comemo_track.specs.Multi.{first_call, first_answer};
 
     ghost maps = { λ _. first_call };
 
@@ -198,7 +199,7 @@ pub struct Second<A, B, RA, RB> {
 }
 
 impl<A, B, RA, RB> Second<A, B, RA, RB> {
-    /// Such a map.
+    /// Such a map. It takes no memory. This project's own.
     pub fn new() -> Self {
         Second {
             calls: PhantomData,
@@ -216,7 +217,7 @@ impl<A: Call, B: Call, RA: Clone + Ord, RB: Clone + Ord> CallMap for Second<A, B
 
     type ToAnswer = MultiAnswer<RA, RB>;
 
-    ghost use Rattle.tracking.specs.Multi.{second_call, second_answer};
+    ghost use Rattle.comemo_track.specs.Multi.{second_call, second_answer};
 
     ghost maps = { λ _. second_call };
 

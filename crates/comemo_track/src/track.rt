@@ -3,8 +3,8 @@ ghost use Rattle.std.specs.Prelude.{◌≡◌, ◌⊎◌, [], ◌∷◌, ◌++�
 ghost use Rattle.std.proofs.Common.{◌∙◌, inl};
 ghost use Rattle.comemo_base.specs.Answers.{Respects};
 ghost use Rattle.comemo_base.specs.Sequence.{held};
-ghost use Rattle.tracking.specs.Sending.{sent_pairs, sent_writes, Asks, BreaksOff};
-ghost use Rattle.tracking.specs.Views.{value_of, sink_of};
+ghost use Rattle.comemo_track.specs.Sending.{sent_pairs, sent_writes, Asks, BreaksOff};
+ghost use Rattle.comemo_track.specs.Views.{value_of, sink_of};
 
 use std::alloc::{AllocError, Global};
 use std::fmt;
@@ -19,7 +19,7 @@ pub trait Call: Clone + Eq + Hash {
     // whether the call is a write
     ghost is_write: { Self → Bool };
 
-    /// Whether the call is a write.
+    /// Whether the call is a write. comemo's `Call::is_mutable`.
     fn is_mutable(&self) -> bool
         ensures { result ≡ is_write self.now };
 
@@ -50,8 +50,10 @@ impl Call for () {
 /// A contract knows a sink by what it took: `took s t P W` says that t is s after it took the pairs P, each a read with
 /// its answer, and the writes W. comemo's `Sink`, by `&mut self`, and it can be refused memory.
 pub trait Sink {
+    /// What it takes note of.
     type Call: Call;
 
+    /// The answer that comes with a read: one type for all calls.
     type Answer: Clone + Ord;
 
     // t is s after it took these pairs and these writes
@@ -65,8 +67,9 @@ pub trait Sink {
 
     /// Takes note of a call: a read with its answer, or a write with `None`.
     ///
-    /// It answers false for a read that is held already, which changes nothing, and else true. A refusal changes nothing.
-    /// For now a call has to be a read.
+    /// It answers false for a read that is held already, which changes nothing, and else true. An error says that there
+    /// was no memory, and changes nothing; the call and its answer are gone then. For now a call has to be a read.
+    /// comemo's `Sink::emit`.
     fn emit(&mut self, call: Self::Call, answer: Option<Self::Answer>) -> Result<bool, AllocError>
         requires answered { is_none answer ≡ Self.Call.is_write call }
         requires reads { Self.Call.is_write call ≡ false }
@@ -75,8 +78,8 @@ pub trait Sink {
         ensures new { IfOk result (λ new. new ≡ not (holds self.old call)) }
         ensures err { OnErr result (took self.old self.new [] []) };
 
-    /// Marks what the sink holds as incomplete, and changes nothing else: a recording that is spoiled is never stored. It
-    /// takes no memory.
+    /// Marks what the sink holds as incomplete, and changes nothing else: a recording that is spoiled is never stored.
+    /// It takes no memory. This project's own.
     fn spoil(&mut self)
         ensures { spoils self.old self.new };
 
@@ -164,7 +167,8 @@ impl<S: Sink> Sink for &mut S {
     }
 }
 
-/// A sink that keeps nothing, for calls that no memoized function stands around. It takes no memory and refuses nothing.
+/// A sink that keeps nothing, for calls that no memoized function stands around. It takes no memory and refuses
+/// nothing.
 ///
 /// comemo takes `()` there.
 #[derive(Drop)]
@@ -174,7 +178,7 @@ pub struct Top<C, R> {
 }
 
 impl<C, R> Top<C, R> {
-    /// Such a sink.
+    /// Such a sink. It takes no memory. This project's own.
     pub fn new() -> Self {
         Top {
             calls: PhantomData,
@@ -221,22 +225,27 @@ impl<C: Call, R: Clone + Ord> Sink for Top<C, R> {
 /// A value whose calls are tracked.
 ///
 /// An implementation says by `answers` what the value answers to each read; what that map gives for a write is never
-/// read. comemo's `Track`, with one answer type for all calls, and `ask` in the place of the methods that a macro makes.
+/// read. comemo's `Track`, with one answer type for all calls, and `ask` in the place of the methods that a macro
+/// makes.
 pub trait Track {
+    /// What can be asked of the value.
     type Call: Call;
 
+    /// What a read is answered by: one type for all calls.
     type Answer: Clone + Ord;
 
     // what the value answers
     ghost answers: { Self → Self.Call → Self.Answer };
 
-    /// The answer to a read. An error says that there was no memory for it.
+    /// The answer to a read. An error says that there was no memory for it. The value stays as it is.
+    ///
+    /// It stands in the place of comemo's `Track::call`, which gives the hash of an answer.
     fn ask(&self, call: &Self::Call) -> Result<Self::Answer, AllocError>
         requires { Self.Call.is_write call.now ≡ false }
         ensures { IfOk result
             (λ answer. IsTrue (Self.Answer.eq (answers self.now call.now) answer)) };
 
-    /// A view of the value, through which its reads are recorded. It takes no memory today.
+    /// A view of the value, through which its reads are recorded. It takes no memory today, and constant time.
     ///
     /// comemo's `track`.
     final fn track(&self, alloc: Global) -> Tracked<'_, Self>
@@ -248,7 +257,8 @@ pub trait Track {
         Tracked { value: self }
     }
 
-    /// A view of the value that sends its reads to a sink, which it holds as long as it lives. It takes no memory today.
+    /// A view of the value that sends its reads to a sink, which it holds as long as it lives. It takes no memory
+    /// today, and constant time.
     ///
     /// comemo's `track_with`, whose result is a `Tracked` too.
     final fn track_with<'a, S: Sink<Call = Self::Call, Answer = Self::Answer>>(
@@ -313,8 +323,9 @@ impl<'a, T> Model for Tracked<'a, T> {
 impl<'a, T: Track> Tracked<'a, T> {
     /// Asks the value a read, and sends the call with its answer to a sink.
     ///
-    /// It clones the answer for the sink. An error says that there was no memory for the answer, its clone or the sink;
-    /// then the sink is as it was.
+    /// It asks the value once, also where the sink holds the read, and clones the answer for the sink. An error says
+    /// that there was no memory for the answer, its clone or the sink; then the sink is as it was. It stands in the
+    /// place of the methods that comemo's macro `track` writes.
     pub fn ask<S: Sink<Call = T::Call, Answer = T::Answer>>(
         &mut self,
         call: T::Call,
@@ -341,7 +352,7 @@ impl<'a, T: Track> Tracked<'a, T> {
         self.value.ask(call)
     }
 
-    /// Another view of the same value. It takes no memory today.
+    /// Another view of the same value. It takes no memory today, and constant time.
     ///
     /// comemo's `Tracked` is `Copy`; a branch takes a view of its own.
     pub fn fork(&self, alloc: Global) -> Tracked<'a, T>
@@ -354,7 +365,7 @@ impl<'a, T: Track> Tracked<'a, T> {
 
 /// It prints as `Tracked(..)`, whatever its value is.
 impl<'a, T> Debug for Tracked<'a, T> {
-    ghost use Rattle.tracking.specs.Views.{tracked_text};
+    ghost use Rattle.comemo_track.specs.Views.{tracked_text};
 
     ghost debug_output = { λ _. Some tracked_text };
 
@@ -365,8 +376,8 @@ impl<'a, T> Debug for Tracked<'a, T> {
 
 /// A view of a tracked value with the sink that its reads are sent to. Contracts see it as `value_of` and `sink_of`.
 ///
-/// It does not lend its value, nor its sink, which is its caller's again when the view is gone. It stands in the place of
-/// what comemo's `track_with` gives.
+/// It does not lend its value, nor its sink, which is its caller's again when the view is gone. It stands in the place
+/// of what comemo's `track_with` gives.
 #[derive(Drop)]
 pub struct TrackedWith<'a, T, S> {
     value: &'a T,
@@ -376,8 +387,8 @@ pub struct TrackedWith<'a, T, S> {
 impl<'a, T: Track, S: Sink<Call = T::Call, Answer = T::Answer>> TrackedWith<'a, T, S> {
     /// Asks the value a read, and sends the call with its answer to the view's sink.
     ///
-    /// It clones the answer for the sink. An error says that there was no memory for the answer, its clone or the sink;
-    /// then the sink is as it was.
+    /// It costs what `ask` of `Tracked` costs. An error says that there was no memory for the answer, its clone or the
+    /// sink; then the sink is as it was. It stands in the place of the methods that comemo's macro `track` writes.
     pub fn ask(&mut self, call: T::Call) -> Result<T::Answer, AllocError>
         requires { T.Call.is_write call ≡ false }
         ensures ok { IfOk result (λ answer.
@@ -394,7 +405,7 @@ impl<'a, T: Track, S: Sink<Call = T::Call, Answer = T::Answer>> TrackedWith<'a, 
 
 /// It prints as the view without the sink does.
 impl<'a, T, S> Debug for TrackedWith<'a, T, S> {
-    ghost use Rattle.tracking.specs.Views.{tracked_text};
+    ghost use Rattle.comemo_track.specs.Views.{tracked_text};
 
     ghost debug_output = { λ _. Some tracked_text };
 

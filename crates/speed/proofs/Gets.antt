@@ -1,9 +1,10 @@
 -- Calls and numbers are told apart by what they are, and a sum grows by a number at a time.
 use Rattle.std.proofs.Common.{◌≡◌, ◌+◌, ◌%◌, ◌^◌, ℕ, suc, nat_eq, rules, arith, ap, IsTrue}
 use Rattle.std.specs.Cmp.{IsEquivalence}
-use Rattle.comemo_base.specs.Answers.{Respects}
-use Rattle.speed.specs.declared.cells.Get.{Get}
-use Rattle.speed.specs.Sums.{total, sum_of, same_get}
+use Rattle.comemo.specs.Answers.{Respects}
+use Rattle.comemo_samples.specs.declared.cells.Get.{Get}
+use Rattle.speed.specs.Sums.{total, sum_of}
+use Rattle.comemo_samples.specs.Cells.{same_get}
 
 pub same_numbers : IsEquivalence nat_eq
 same_numbers = search rules

@@ -1,7 +1,7 @@
 -- What the memoized lengths of texts give where their key is a number.
 use Rattle.std.specs.Prelude.{◌≡◌, ℕ, List, length}
 use Rattle.std.specs.Hash.{str, u128}
-use Rattle.comemo_base.specs.Hash.{hash_of, tagged_hash_of}
+use Rattle.comemo.specs.Hash.{hash_of, tagged_hash_of}
 
 -- the number of a text: the hash of what it feeds
 abbrev pub text_number : List ℕ → ℕ

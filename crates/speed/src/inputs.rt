@@ -1,11 +1,12 @@
-//! Large inputs of the program `calc`: each writes files, then changes one at a time and asks for a value again.
+//! Large inputs of the program `calc`: each writes files, and then asks for a value in each round. All but `Many`
+//! change a file before that.
 ghost use Rattle.std.specs.Prelude.{◌<◌};
 
 use crate::player::Player;
 use crate::scatter::Scatter;
 use std::alloc::{AllocError, Global};
 
-/// A large input.
+/// A large input of `calc`: files that are written, and then rounds, each of which asks for a value.
 #[derive(Clone, Copy, Drop, Debug, PartialEq, Eq)]
 pub enum Input {
     /// Levels of files, each of which evaluates the level below twice. A round rewrites the lowest and evaluates the
@@ -78,8 +79,8 @@ impl Input {
         }
     }
 
-    /// How many rounds a timed repetition has. For now a cache is a plain list, so that a round takes time for all that is
-    /// kept, and all rounds together in proportion to the square.
+    /// How many rounds a timed repetition has. They were chosen when a cache was a plain list, so that a repetition
+    /// took about a second or less.
     pub fn moderate(self) -> u64 {
         match self {
             Input::Diamond => 200,
@@ -99,7 +100,11 @@ impl Input {
         }
     }
 
-    /// Carries out so many rounds in a session of its own, and gives the fold of what the session prints.
+    /// Carries out so many rounds in a session of its own, and gives the fold of what the session prints, as
+    /// `Player::fold` says.
+    ///
+    /// An error says that there was no memory for a command, or for its answer. All that a session keeps is let go at
+    /// its end.
     pub fn play(self, alloc: Global, rounds: u64) -> Result<u64, AllocError> {
         let mut player = Player::new(alloc);
         match self {

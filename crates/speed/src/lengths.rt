@@ -4,13 +4,10 @@ ghost use Rattle.std.proofs.Common.{rules};
 ghost use Rattle.comemo.specs.Meaning.{reading};
 ghost use Rattle.speed.specs.Lengths.{IsLengthOf, text_number, kept_number};
 
-use comemo::begin::begin;
-use comemo::{Begun, CacheData, Fault, Hashed, How, Memo, Reply, Top};
-use comemo_base::Prehashed;
-use comemo_base::hash::hash;
+use comemo::{Begun, CacheData, Fault, Hashed, How, Memo, Prehashed, Reply, Top, begin, hash};
 use std::alloc::Global;
 
-/// The length of a text in bytes, under the text.
+/// The length of a text in bytes, under the text: what the cache of `length_of` is the cache of.
 pub struct LengthMemo;
 
 impl Memo for LengthMemo {
@@ -27,7 +24,10 @@ impl Memo for LengthMemo {
     ghost laws = { Prim.search rules };
 }
 
-/// The length of a text in bytes, kept under the text.
+/// The length of a text in bytes, kept under the text, which is lent.
+///
+/// An error says that there was no memory; then the cache is as it was. Each call, a hit too, copies the text for the
+/// look-up, which is one hash look-up. It asks nothing.
 pub fn length_of(
     alloc: Global,
     cache: &mut CacheData<LengthMemo>,
@@ -49,8 +49,8 @@ pub fn length_of(
 
 /// The length of a text in bytes, under the text's number.
 ///
-/// The number is all that a key knows of its text, and other texts may have it too. So an output is right where it is the
-/// length of some text with that number.
+/// The number is all that a key knows of its text, and other texts may have it too. So an output is right where it is
+/// the length of some text with that number.
 pub struct NumberedMemo;
 
 impl Memo for NumberedMemo {
@@ -67,7 +67,11 @@ impl Memo for NumberedMemo {
     ghost laws = { Prim.search rules };
 }
 
-/// The length of a text in bytes, kept under the number that is computed of the text: that of some text with this number.
+/// The length of a text in bytes, kept under the number that is computed of the text: that of some text with this
+/// number.
+///
+/// An error says that there was no memory; then the cache is as it was. Each call, a hit too, hashes the whole text,
+/// and copies none of it.
 pub fn length_by_number(
     alloc: Global,
     cache: &mut CacheData<NumberedMemo>,
@@ -105,6 +109,9 @@ impl Memo for KeptNumberMemo {
 }
 
 /// The length of a text in bytes, kept under the number that the text keeps: that of some text with this number.
+///
+/// An error says that there was no memory; then the cache is as it was. It neither hashes the text nor copies it: it
+/// hashes the 16 bytes of the number that is kept.
 pub fn length_by_kept_number(
     alloc: Global,
     cache: &mut CacheData<KeptNumberMemo>,

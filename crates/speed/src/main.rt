@@ -1,7 +1,10 @@
 //! The program `speed`: how long the library's operations take.
+//!
+//! With no word after its name it times all workloads; with `sums` it prints what they compute, without times; with
+//! `large` it does the large inputs of `calc` in full. It ends with status 0, with 1 where there was no memory or its
+//! output could not be written, and with 2 where it knows no such word.
 #![tactic(auto)]
 
-mod cells;
 mod hashing;
 mod inputs;
 mod lengths;

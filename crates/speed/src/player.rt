@@ -1,7 +1,7 @@
 //! A session of the program `calc` whose answers become one number.
 
-use commands::{Answer, Command};
-use interpreter::State;
+use calc_commands::{Answer, Command};
+use calc_sessions::State;
 use std::alloc::{AllocError, Global};
 
 /// A session, and the fold of all that its answers printed so far.
@@ -13,7 +13,7 @@ pub struct Player {
 }
 
 impl Player {
-    /// No files, nothing kept, and nothing printed.
+    /// No files, nothing kept, and nothing printed: the fold is 0. It takes no memory.
     pub fn new(alloc: Global) -> Player {
         Player {
             alloc,
@@ -22,12 +22,16 @@ impl Player {
         }
     }
 
-    /// Writes a text to the file at a path.
+    /// Writes a text to the file at a path, which prints nothing.
+    ///
+    /// An error says that there was no memory; then the files and the fold are as they were.
     pub fn write(&mut self, path: String, text: String) -> Result<(), AllocError> {
         self.carry_out(Command::Write(path, text))
     }
 
-    /// Asks for the value of a script.
+    /// Asks for the value of a script, and folds the line that the answer prints.
+    ///
+    /// An error says that there was no memory for the command or for that line; then the fold is as it was.
     pub fn eval(&mut self, script: String) -> Result<(), AllocError> {
         self.carry_out(Command::Eval(script))
     }

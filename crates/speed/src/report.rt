@@ -58,6 +58,8 @@ impl fmt::Display for Each {
 }
 
 /// Writes the name and the sum of each workload, after a few operations.
+///
+/// A failure ends it; then the lines of the workloads before are written.
 pub fn write_sums<R: Clock, W: Write>(
     rt: &R,
     alloc: Global,
@@ -72,8 +74,9 @@ pub fn write_sums<R: Clock, W: Write>(
 
 /// Writes the name, the times and the sum of each workload.
 ///
-/// The times are the median, the least and the greatest of some repetitions, after one that isn't counted. Where a clock
-/// could not be read there are none.
+/// The times are those of one operation, in nanoseconds: the median, the least and the greatest of some repetitions,
+/// after one that isn't counted. Where a clock could not be read there are none. A failure ends it; then the lines of
+/// the workloads before are written.
 pub fn write_times<R: Clock, W: Write>(
     rt: &R,
     alloc: Global,
@@ -100,7 +103,8 @@ pub fn write_times<R: Clock, W: Write>(
 
 /// Writes the name, the time and the sum of each large input of `calc`: all its rounds, once, without repetition.
 ///
-/// Each line is written as soon as its input was carried out, since some take minutes.
+/// Each line is written as soon as its input was carried out, since some take minutes. The time is that of one round,
+/// in nanoseconds. A failure ends it; then the lines of the inputs before are written.
 pub fn write_large<R: Clock, W: Write>(
     rt: &R,
     alloc: Global,

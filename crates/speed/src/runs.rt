@@ -1,15 +1,14 @@
-//! How the workloads are done. Each makes what it works on, then reads the clock, does its operations, and reads it again.
-//! Of a large input of `calc` all is timed: there the commands are made as they are carried out.
+//! How the workloads are done. Each makes what it works on, then reads the clock, does its operations, and reads it
+//! again. Of a large input of `calc` all is timed: there the commands are made as they are carried out.
 
-use crate::cells::Cells;
 use crate::hashing::{bytes, fold_numbers, text};
 use crate::inputs::Input;
 use crate::lengths::{length_by_kept_number, length_by_number, length_of};
 use crate::stopwatch::Stopwatch;
 use crate::sums::{SumKey, SumMemo, sum};
 use crate::workload::Workload;
-use comemo::{CacheData, Fault, Hashed, Track};
-use comemo_base::Prehashed;
+use comemo::{CacheData, Fault, Hashed, Prehashed, Track};
+use comemo_samples::Cells;
 use std::alloc::{AllocError, Global};
 use std::rt::Clock;
 
@@ -28,7 +27,10 @@ const TEXT_BYTES: usize = 1_048_576;
 /// How many cells there are.
 const CELLS: u32 = 128;
 
-/// Does so many operations of a workload.
+/// Does so many operations of a workload, with a cache and values of its own, which are let go at its end.
+///
+/// A fault says that there was no memory for one of them, or for what they work on. The time is that of all operations
+/// together; the sum depends on the workload and their number alone.
 pub fn run<R: Clock>(
     rt: &R,
     alloc: Global,
@@ -234,9 +236,9 @@ fn text_by_kept_number<R: Clock>(rt: &R, alloc: Global, operations: u64) -> Resu
 
 /// Carries out so many rounds of a large input in a session that begins with nothing.
 ///
-/// What is timed is the whole session: that each command is made, carried out and answered, that the answer's line is made
-/// and folded, and that the session is let go. The writes before the first round, and the first round, which finds nothing
-/// kept, are part of it.
+/// What is timed is the whole session: that each command is made, carried out and answered, that the answer's line is
+/// made and folded, and that the session is let go. The writes before the first round, and the first round, which finds
+/// nothing kept, are part of it.
 fn calc<R: Clock>(rt: &R, alloc: Global, input: Input, rounds: u64) -> Result<Seen, Fault> {
     let watch = Stopwatch::start(rt);
     let sum = made(input.play(alloc, rounds))?;

@@ -12,7 +12,8 @@ impl Scatter {
         Scatter { state: start }
     }
 
-    /// The next number, below a count. It is made of the upper 31 bits, since the lower ones soon repeat.
+    /// The next number, below a count; 0 where the count is 0. It is made of the upper 31 bits, since the lower ones
+    /// soon repeat: so it is below 2^31 too.
     pub fn below(&mut self, count: u64) -> u64 {
         self.state = self
             .state

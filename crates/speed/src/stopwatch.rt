@@ -10,14 +10,14 @@ pub struct Stopwatch {
 }
 
 impl Stopwatch {
-    /// Reads the clock.
+    /// Reads the clock. Where it can't be read the stopwatch has no time.
     pub fn start<R: Clock>(rt: &R) -> Stopwatch {
         Stopwatch {
             start: Instant::now(rt).ok(),
         }
     }
 
-    /// The nanoseconds since then, or `None` where the clock could not be read.
+    /// The nanoseconds since then, or `None` where the clock could not be read, then or now, or they pass 64 bits.
     pub fn nanoseconds<R: Clock>(self, rt: &R) -> Option<u64> {
         let end = Instant::now(rt).ok()?;
         let elapsed = end.duration_since(self.start?);

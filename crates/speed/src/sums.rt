@@ -2,23 +2,25 @@
 ghost use Rattle.std.specs.Prelude.{IfOk, OnErr, ◌≡◌, ℕ, nat_eq, slice_index};
 ghost use Rattle.std.proofs.Common.{rules};
 ghost use Rattle.comemo.specs.Meaning.{reading};
-ghost use Rattle.comemo_base.specs.Answers.{Respects, Agrees};
-ghost use Rattle.speed.specs.Sums.{sum_of, by_call, same_get, numbers};
+ghost use Rattle.comemo.specs.Answers.{Respects, Agrees};
+ghost use Rattle.speed.specs.Sums.{sum_of};
+ghost use Rattle.comemo_samples.specs.Cells.{by_call, same_get, numbers};
 
-use crate::cells::{Cells, Get};
-use comemo::begin::begin;
-use comemo::{Begun, CacheData, Constraint, Fault, How, Keyed, Memo, Reply, Top, Tracked};
+use comemo::{Begun, CacheData, Constraint, Fault, How, Keyed, Memo, Reply, Top, Tracked, begin};
+use comemo_samples::{Cells, Get};
 use std::alloc::{AllocError, Global};
 use std::hash::Hash;
 
 /// What a sum begins with, and how many cells it adds.
 #[derive(Clone, Copy, Drop, Debug, PartialEq, Eq, Hash)]
 pub struct SumKey {
+    /// What the sum begins with.
     pub start: u64,
+    /// How many cells it adds, from place 0 on.
     pub count: u32,
 }
 
-/// The sum of a number and the first cells, which wraps.
+/// The sum of a number and the first cells, which wraps at 64 bits: what the cache of `sum` is the cache of.
 pub struct SumMemo;
 
 impl Memo for SumMemo {
@@ -60,7 +62,10 @@ fn add_cells(
     Ok(sum)
 }
 
-/// The sum of a number and the first cells, which wraps, kept under the number and the count.
+/// The sum of a number and the first cells, which wraps at 64 bits, kept under the number and the count.
+///
+/// An error says that there was no memory; then the cache is as it was. A run asks so many cells, each by one call; a
+/// hit asks them too, along one stored path.
 pub fn sum(
     alloc: Global,
     cache: &mut CacheData<SumMemo>,

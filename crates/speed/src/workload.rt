@@ -63,15 +63,15 @@ pub const WORKLOADS: [Workload; 27] = [
     Workload::Calc { input: Input::Many },
 ];
 
-// How many misses are timed. For now a cache is a plain list, so a miss takes time in proportion to what is kept, and all
-// misses together in proportion to the square.
+// How many misses are timed. The number was chosen when a cache was a plain list, and a miss took time in proportion to
+// what was kept.
 const MISSES: u64 = 1_000;
 
-// How many hits among many entries are timed; each goes over the list, as a miss does.
+// How many hits among many entries are timed. The number was chosen when each of them went over a plain list.
 const HITS_AMONG_MANY: u64 = 20_000;
 
 impl Workload {
-    /// What it is called.
+    /// What it is called, as its line says. An error says that there was no memory for the text.
     pub fn name(self, alloc: Global) -> Result<String, AllocError> {
         match self {
             Workload::Sip { bytes } => sip_name(alloc, bytes),

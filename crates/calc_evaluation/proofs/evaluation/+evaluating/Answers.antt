@@ -1,15 +1,16 @@
 use Rattle.std.proofs.Common.{arith, ap, Err, refl, ◌∙◌}
 use Rattle.comemo.proofs.Calls.{reply_by_run}
-use Rattle.scripts.specs.Meaning.{is_bad}
-use Rattle.scripts.specs.Calls.{no_call, one_call, is_refused, is_broken, has_no_end, not_read, failed_call}
-use Rattle.scripts.proofs.Calls.{led_rest, leads_at_end, leads_at_fault, fails_at_part}
-use Rattle.scripts.proofs.Totals.{number_means, leaves_rest, means_at_end, means_at_fault, deep_at_part}
-use Rattle.interpreter.specs.Files.{answers_of}
-use Rattle.interpreter.specs.Evaluations.{At}
-use Rattle.interpreter.specs.Calls.{moves}
-use Rattle.interpreter.proofs.Evaluations.{learns_on, learns_nothing, fits_read, learns_read, writes_read, text_read, fits_call, learns_call, writes_call, script_given, part_called, run_stands, of_files, learns_more, handed_on, on_err}
-use Rattle.interpreter.proofs.Calls.{missed_by_run, led_by_reply}
-use Rattle.interpreter.proofs.evaluation.+evaluating.Goals as goal
+use Rattle.calc_scripts.specs.Meaning.{is_bad}
+use Rattle.calc_scripts.specs.Calls.{no_call, one_call, is_refused, is_broken, has_no_end, not_read, failed_call}
+use Rattle.calc_scripts.proofs.Calls.{led_rest, leads_at_end, leads_at_fault, fails_at_part}
+use Rattle.calc_scripts.proofs.Totals.{number_means, leaves_rest, means_at_end, means_at_fault, deep_at_part}
+use Rattle.calc_files.specs.Files.{answers_of}
+use Rattle.calc_evaluation.specs.Evaluations.{At}
+use Rattle.calc_evaluation.specs.Calls.{moves}
+use Rattle.calc_evaluation.proofs.Evaluations.{learns_on, learns_nothing, fits_call, learns_call, writes_call, script_given, part_called, run_stands, of_files, learns_more, handed_on}
+use Rattle.calc_files.proofs.WhatReadsTell.{fits_read, learns_read, writes_read, text_read, on_err}
+use Rattle.calc_evaluation.proofs.Calls.{missed_by_run, led_by_reply}
+use Rattle.calc_evaluation.proofs.evaluation.+evaluating.Goals as goal
 
 pub evaluate_part-returns-in-Number-clause-learns : goal.evaluate_part-returns-in-Number-clause-learns
 evaluate_part-returns-in-Number-clause-learns t c = λ bytes is.

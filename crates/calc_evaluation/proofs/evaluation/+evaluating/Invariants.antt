@@ -1,12 +1,13 @@
 use Rattle.std.proofs.Common.{◌≡◌, ◌<◌, ◌+◌, ◌-◌, ◌*◌, length}
 use Rattle.comemo.specs.Function.{Learns}
-use Rattle.scripts.proofs.Calls.{Led}
-use Rattle.scripts.proofs.Totals.{Leaves}
-use Rattle.interpreter.specs.Files.{OnFiles, answers_of}
-use Rattle.interpreter.specs.Joined.{same_call, same_answer}
-use Rattle.interpreter.specs.Evaluations.{At, FilesFit}
-use Rattle.interpreter.specs.Calls.{moves}
-use Rattle.interpreter.proofs.evaluation.+evaluating.Given as goal
+use Rattle.calc_scripts.proofs.Calls.{Led}
+use Rattle.calc_scripts.proofs.Totals.{Leaves}
+use Rattle.calc_files.specs.Files.{OnFiles, answers_of}
+use Rattle.calc_files.specs.Joined.{same_call, same_answer}
+use Rattle.calc_evaluation.specs.Evaluations.{At}
+use Rattle.calc_files.specs.Joined.{FilesFit}
+use Rattle.calc_evaluation.specs.Calls.{moves}
+use Rattle.calc_evaluation.proofs.evaluation.+evaluating.Given as goal
 
 abbrev pub decreases-evaluate_part : goal.decreases-evaluate_part
 decreases-evaluate_part l = 3 * l.limit + 1

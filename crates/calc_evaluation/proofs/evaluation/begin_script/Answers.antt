@@ -1,14 +1,14 @@
 use Rattle.std.proofs.Common.{rules, arith, refl, sym, subst, ◌<◌}
 use Rattle.comemo.proofs.Calls.{reply_by_hit, broke_at_begin}
-use Rattle.tracking.proofs.KeyedViews.{keyed_calls, keyed_answers}
-use Rattle.scripts.specs.Meaning.{Means, Deep, no_room}
-use Rattle.scripts.proofs.Meanings.{deep_of_height}
-use Rattle.interpreter.specs.Files.{answers_of, with_key}
-use Rattle.interpreter.specs.Joined.{same_answer}
-use Rattle.interpreter.specs.Evaluations.{At}
-use Rattle.interpreter.proofs.Evaluations.{broke_after, broke_at_once}
-use Rattle.interpreter.proofs.JoinedCalls.{tests}
-use Rattle.interpreter.proofs.evaluation.begin_script.Goals as goal
+use Rattle.comemo.proofs.KeyedViews.{keyed_calls, keyed_answers}
+use Rattle.calc_scripts.specs.Meaning.{Means, Deep, no_room}
+use Rattle.calc_scripts.proofs.Meanings.{deep_of_height}
+use Rattle.calc_files.specs.Files.{answers_of, with_key}
+use Rattle.calc_files.specs.Joined.{same_answer}
+use Rattle.calc_evaluation.specs.Evaluations.{At}
+use Rattle.calc_files.proofs.WhatReadsTell.{broke_after, broke_at_once}
+use Rattle.calc_files.proofs.JoinedCalls.{tests}
+use Rattle.calc_evaluation.proofs.evaluation.begin_script.Goals as goal
 
 pub returns-then-limit-eq0-clause-deep : goal.returns-then-limit-eq0-clause-deep
 returns-then-limit-eq0-clause-deep g c = λ _. subst (λ n. Deep (At (answers_of c.args.files.now)) c.args.script.now n) (sym c.if-limit-eq0.true) no_room

@@ -1,14 +1,15 @@
 use Rattle.std.proofs.Common.{refl, ap, Err}
 use Rattle.comemo.proofs.Calls.{reply_by_run, broke_at_end}
-use Rattle.tracking.proofs.KeyedViews.{keyed_calls, keyed_answers}
-use Rattle.scripts.specs.Calls.{is_refused, is_broken, has_no_end}
-use Rattle.interpreter.specs.Files.{answers_of, with_key}
-use Rattle.interpreter.specs.Joined.{same_answer}
-use Rattle.interpreter.specs.Evaluations.{evaluating}
-use Rattle.interpreter.proofs.Evaluations.{script_given, run_stands, of_files, on_err, exact_at_ok, exact_at_fault, broke_at_once}
-use Rattle.interpreter.proofs.Calls.{missed_by_run, led_by_reply}
-use Rattle.interpreter.proofs.JoinedCalls.{tests}
-use Rattle.interpreter.proofs.evaluation.evaluate.Goals as goal
+use Rattle.comemo.proofs.KeyedViews.{keyed_calls, keyed_answers}
+use Rattle.calc_scripts.specs.Calls.{is_refused, is_broken, has_no_end}
+use Rattle.calc_files.specs.Files.{answers_of, with_key}
+use Rattle.calc_files.specs.Joined.{same_answer}
+use Rattle.calc_evaluation.specs.Evaluations.{evaluating}
+use Rattle.calc_evaluation.proofs.Evaluations.{script_given, run_stands, of_files, exact_at_ok, exact_at_fault}
+use Rattle.calc_files.proofs.WhatReadsTell.{on_err, broke_at_once}
+use Rattle.calc_evaluation.proofs.Calls.{missed_by_run, led_by_reply}
+use Rattle.calc_files.proofs.JoinedCalls.{tests}
+use Rattle.calc_evaluation.proofs.evaluation.evaluate.Goals as goal
 
 pub returns-in-Hit-clause-outcome : goal.returns-in-Hit-clause-outcome
 returns-in-Hit-clause-outcome g c =

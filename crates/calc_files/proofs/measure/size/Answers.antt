@@ -1,14 +1,14 @@
 use Rattle.std.proofs.Common.{rules, refl, ◌≡◌, ◌∙◌, sym, subst, length, string_bytes}
 use Rattle.comemo.proofs.Calls.{broke_at_begin, broke_at_end}
-use Rattle.tracking.proofs.KeyedViews.{keyed_calls, keyed_answers}
-use Rattle.interpreter.specs.Files.{text_at, answers_of, with_key}
-use Rattle.interpreter.specs.Joined.{same_answer}
-use Rattle.interpreter.specs.Size.{sizing}
-use Rattle.interpreter.proofs.Evaluations.{broke_at_once, on_err}
-use Rattle.interpreter.proofs.FileCalls.{key_bytes}
-use Rattle.interpreter.proofs.JoinedCalls.{tests}
-use Rattle.interpreter.proofs.Sizes.{mapped, mapped_err, size_fits, size_stands, size_read, size_by_hit, size_by_run}
-use Rattle.interpreter.proofs.measure.size.Goals as goal
+use Rattle.comemo.proofs.KeyedViews.{keyed_calls, keyed_answers}
+use Rattle.calc_files.specs.Files.{text_at, answers_of, with_key}
+use Rattle.calc_files.specs.Joined.{same_answer}
+use Rattle.calc_files.specs.Size.{sizing}
+use Rattle.calc_files.proofs.WhatReadsTell.{broke_at_once, on_err}
+use Rattle.calc_files.proofs.FileCalls.{key_bytes}
+use Rattle.calc_files.proofs.JoinedCalls.{tests}
+use Rattle.calc_files.proofs.Sizes.{mapped, mapped_err, size_fits, size_stands, size_read, size_by_hit, size_by_run}
+use Rattle.calc_files.proofs.measure.size.Goals as goal
 
 pub returns-in_default-clause-err : goal.returns-in_default-clause-err
 returns-in_default-clause-err g c = (refl, broke_at_once g.met.S.Sink.starts same_answer (with_key (answers_of c.args.files.now)) _ _ c.spoil.ensures)

@@ -2,9 +2,9 @@ use Rattle.std.proofs.Common.{rules, IfSome, ◌++◌, ◌≡◌, ◌<◌, lengt
 use Rattle.std.specs.Io.{StopsAt}
 use Rattle.std.specs.Io.KnownBytes.{Consumes}
 use Rattle.std.specs.Io.BufRead.{ends_with_byte, take_through}
-use Rattle.lines.proofs.Cut.{clear_of, line_taken, whole_line_taken}
-use Rattle.lines.proofs.input.next_line.Goals as goal
-use Rattle.lines.proofs.input.next_line.Goals.{in_default-via-in-Ok+in_default, in_default-via-in-Err+else-not-is_ended}
+use Rattle.calc_lines.proofs.Cut.{clear_of, line_taken, whole_line_taken}
+use Rattle.calc_lines.proofs.input.next_line.Goals as goal
+use Rattle.calc_lines.proofs.input.next_line.Goals.{in_default-via-in-Ok+in_default, in_default-via-in-Err+else-not-is_ended}
 
 pub returns-in-Err-clause-begun : goal.returns-in-Err-clause-begun
 returns-in-Err-clause-begun g c =

@@ -3,9 +3,9 @@ use Rattle.std.proofs.lemmas.List.{take_rest}
 use Rattle.std.proofs.Math.Seq.{take-append_seam}
 use Rattle.std.specs.Io.KnownBytes.{Appends}
 use Rattle.std.proofs.KnownBytes.{Appends-trans, Appends-kept}
-use Rattle.lines.specs.Written.{WritesBeginning}
-use Rattle.lines.proofs.Steps.{failed_as}
-use Rattle.lines.proofs.output.put.Goals as goal
+use Rattle.calc_lines.specs.Written.{WritesBeginning}
+use Rattle.calc_lines.proofs.Steps.{failed_as}
+use Rattle.calc_lines.proofs.output.put.Goals as goal
 
 -- what was written goes on by the first n of the rest
 moves_front : (all done rest : List ℕ) (n : ℕ) → all ≡ done ++ rest → all ≡ (done ++ take n rest) ++ take (length rest - n) (drop n rest)

@@ -3,10 +3,10 @@ use Rattle.std.proofs.lemmas.List.{take-append-le}
 use Rattle.std.proofs.Math.Seq.{take-append-add}
 use Rattle.std.specs.Io.KnownBytes.{Appends}
 use Rattle.std.proofs.KnownBytes.{Appends-trans}
-use Rattle.lines.specs.declared.fault.RunFault.{RunFault}
-use Rattle.lines.specs.Started.{WritesFront}
-use Rattle.lines.specs.Written.{WritesBeginning}
-use Rattle.lines.proofs.program.put_message.Goals as goal
+use Rattle.calc_lines.specs.declared.fault.RunFault.{RunFault}
+use Rattle.calc_lines.specs.Started.{WritesFront}
+use Rattle.calc_lines.specs.Written.{WritesBeginning}
+use Rattle.calc_lines.proofs.program.put_message.Goals as goal
 
 -- two texts, one after the other
 both : (a b c : Option (List ℕ)) (xs ys first second : List ℕ) → first ≡ xs → second ≡ ys → Appends a b first → Appends b c second → Appends a c (xs ++ ys)

@@ -1,7 +1,7 @@
 use Rattle.std.proofs.Common.{rules, ◌≡◌, ◌<◌, length}
 use Rattle.std.proofs.lemmas.List.{nil_from_length}
-use Rattle.lines.proofs.Steps.{line_empty, line_answered, line_refused}
-use Rattle.lines.proofs.rounds.answer_line.Goals as goal
+use Rattle.calc_lines.proofs.Steps.{line_empty, line_answered, line_refused}
+use Rattle.calc_lines.proofs.rounds.answer_line.Goals as goal
 
 pub returns-then-is_empty-clause-answered : goal.returns-then-is_empty-clause-answered
 returns-then-is_empty-clause-answered g c =

@@ -1,6 +1,6 @@
 use Rattle.std.proofs.Common.{◌∙◌}
-use Rattle.lines.proofs.Steps.{at_some, front_none, front_more}
-use Rattle.lines.proofs.rounds.run.Goals as goal
+use Rattle.calc_lines.proofs.Steps.{at_some, front_none, front_more}
+use Rattle.calc_lines.proofs.rounds.run.Goals as goal
 
 pub loop-init : goal.loop-init
 loop-init g c = front_none g.S.Session.answers g.S.Session.refuses _ _ _

@@ -1,5 +1,5 @@
-use Rattle.lines.specs.Runs.{AnswersFront}
-use Rattle.lines.proofs.rounds.run.Given as goal
+use Rattle.calc_lines.specs.Runs.{AnswersFront}
+use Rattle.calc_lines.proofs.rounds.run.Given as goal
 
 abbrev pub invariant-loop : goal.invariant-loop
 invariant-loop g l =

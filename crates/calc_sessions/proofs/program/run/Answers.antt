@@ -1,6 +1,6 @@
-use Rattle.lines.proofs.Seen.{Ran_seen}
-use Rattle.interpreter.specs.Sessions.{texts_in, Prints, Refuses}
-use Rattle.interpreter.proofs.program.run.Goals as goal
+use Rattle.calc_lines.proofs.Seen.{Ran_seen}
+use Rattle.calc_sessions.specs.Sessions.{texts_in, Prints, Refuses}
+use Rattle.calc_sessions.proofs.program.run.Goals as goal
 
 pub returns : goal.returns
 returns g c =

@@ -1,7 +1,7 @@
 use Rattle.std.proofs.Common.{codes}
-use Rattle.lines.proofs.Seen.{RanAs_seen}
-use Rattle.interpreter.specs.Sessions.{texts_in, Prints, Refuses}
-use Rattle.interpreter.proofs.program.start.Goals as goal
+use Rattle.calc_lines.proofs.Seen.{RanAs_seen}
+use Rattle.calc_sessions.specs.Sessions.{texts_in, Prints, Refuses}
+use Rattle.calc_sessions.proofs.program.start.Goals as goal
 
 pub returns-clause-ran : goal.returns-clause-ran
 returns-clause-ran g c = λ no_words.

@@ -1,7 +1,7 @@
 use Rattle.std.proofs.Common.{arith, rules}
-use Rattle.interpreter.specs.Sessions.{none_asked}
-use Rattle.interpreter.proofs.EachAnswer.{next_command}
-use Rattle.interpreter.proofs.sessions.session.Goals as goal
+use Rattle.calc_sessions.specs.Sessions.{none_asked}
+use Rattle.calc_sessions.proofs.EachAnswer.{next_command}
+use Rattle.calc_sessions.proofs.sessions.session.Goals as goal
 
 pub loop-command-init : goal.loop-command-init
 loop-command-init c = record { long = search rules; room = search rules; each = rw c.in_ok-answers.ensures.items none_asked }

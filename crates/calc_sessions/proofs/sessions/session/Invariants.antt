@@ -1,7 +1,7 @@
 use Rattle.std.proofs.Common.{◌≡◌, ◌≤◌, map, take, length, vec_len, vec_capacity}
-use Rattle.commands.specs.Requests.{request_of}
-use Rattle.interpreter.specs.Sessions.{texts_in, AnswersEach}
-use Rattle.interpreter.proofs.sessions.session.Given as goal
+use Rattle.calc_commands.specs.Requests.{request_of}
+use Rattle.calc_sessions.specs.Sessions.{texts_in, AnswersEach}
+use Rattle.calc_sessions.proofs.sessions.session.Given as goal
 
 -- the commands so far have these answers, and there is room for the others
 abbrev pub invariant-loop-command : goal.invariant-loop-command

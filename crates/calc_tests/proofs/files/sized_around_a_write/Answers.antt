@@ -1,6 +1,6 @@
 use Rattle.std.proofs.Common.{sym, ap, ◌∙◌, length, string_bytes}
-use Rattle.interpreter.proofs.AskedAgain.{stored_is_found, text_stays}
-use Rattle.interpreter.proofs.tests.sized_around_a_write.Goals as goal
+use Rattle.calc_tests.proofs.AskedAgain.{stored_is_found, text_stays}
+use Rattle.calc_tests.proofs.files.sized_around_a_write.Goals as goal
 
 pub returns : goal.returns
 returns c = λ was.

@@ -1,6 +1,6 @@
 use Rattle.std.proofs.Common.{arith, ap}
-use Rattle.scripts.proofs.Totals.{leaves_all, leaves_rest, means_at_end, means_at_fault}
-use Rattle.scripts.proofs.tests.script_alone.Goals as goal
+use Rattle.calc_scripts.proofs.Totals.{leaves_all, leaves_rest, means_at_end, means_at_fault}
+use Rattle.calc_tests.proofs.scripts.script_alone.Goals as goal
 
 pub loop-part-init : goal.loop-part-init
 loop-part-init c = (leaves_all (λ _ _. ⊥) c.new-parts.ensures c.new-total.ensures, ap (λ t. t.height) c.new-total.ensures)

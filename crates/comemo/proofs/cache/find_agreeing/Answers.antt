@@ -5,7 +5,7 @@ use Rattle.comemo_base.proofs.Keeps.{find_keeps}
 use Rattle.comemo_base.proofs.Paths.{joined}
 use Rattle.comemo_base.proofs.Under.{All-under}
 use Rattle.comemo.proofs.Looking.{finds, asks, refuses}
-use Rattle.comemo.proofs.memoize.find_agreeing.Goals as goal
+use Rattle.comemo.proofs.cache.find_agreeing.Goals as goal
 
 pub find-requires-clause-callable : goal.find-requires-clause-callable
 find-requires-clause-callable g c =

@@ -3,8 +3,8 @@ use Rattle.comemo_base.proofs.Paths.{turned}
 use Rattle.comemo.specs.Meaning.{Meaning, run}
 use Rattle.comemo.proofs.Sendings.{on_err, breaks_at_once}
 use Rattle.comemo.proofs.Entries.{Has-alike, HasNone-alike, Agrees-found}
-use Rattle.comemo.proofs.begin.begin.Goals as goal
-use Rattle.comemo.proofs.begin.begin.Goals.{then-enabled+in-Ok-look+in_default-looked, else-enabled}
+use Rattle.comemo.proofs.pending.begin.Goals as goal
+use Rattle.comemo.proofs.pending.begin.Goals.{then-enabled+in-Ok-look+in_default-looked, else-enabled}
 
 pub returns-in-Some-clause-hit : goal.returns-in-Some-clause-hit
 returns-in-Some-clause-hit g c =

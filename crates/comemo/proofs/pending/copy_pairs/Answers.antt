@@ -3,9 +3,9 @@ use Rattle.std.proofs.lemmas.List.{take_all}
 use Rattle.comemo_base.specs.Sequence.{remaining}
 use Rattle.comemo_base.specs.Tree.{IsSamePath}
 use Rattle.comemo_base.proofs.Paths.{turned}
-use Rattle.tracking.proofs.Copies.{copied, skipped}
-use Rattle.comemo.proofs.finish.copy_pairs.Goals as goal
-use Rattle.comemo.proofs.finish.copy_pairs.Goals.{in-Some+in_ok-call+in_ok-answer+in_ok-push, in_default}
+use Rattle.comemo_track.proofs.Copies.{copied, skipped}
+use Rattle.comemo.proofs.pending.copy_pairs.Goals as goal
+use Rattle.comemo.proofs.pending.copy_pairs.Goals.{in-Some+in_ok-call+in_ok-answer+in_ok-push, in_default}
 
 pub loop-slot-preserved : goal.loop-slot-preserved
 loop-slot-preserved g c =

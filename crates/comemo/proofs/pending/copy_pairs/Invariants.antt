@@ -1,7 +1,7 @@
 use Rattle.std.proofs.Common.{take}
 use Rattle.comemo_base.specs.Sequence.{remaining}
 use Rattle.comemo_base.specs.Tree.{IsSamePath}
-use Rattle.comemo.proofs.finish.copy_pairs.Given as goal
+use Rattle.comemo.proofs.pending.copy_pairs.Given as goal
 
 -- the pairs so far are those of the slots so far
 abbrev pub invariant-loop-slot : goal.invariant-loop-slot

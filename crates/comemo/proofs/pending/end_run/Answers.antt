@@ -2,7 +2,7 @@ use Rattle.std.proofs.Common.{[], refl}
 use Rattle.comemo.proofs.Sendings.{on_err}
 use Rattle.comemo.proofs.Entries.{reads_same}
 use Rattle.comemo.proofs.Endings.{Ends-cloned, given, gives_itself, broken_itself}
-use Rattle.comemo.proofs.finish.end_run.Goals as goal
+use Rattle.comemo.proofs.pending.end_run.Goals as goal
 
 pub returns-in_err-give_reads-clause-err : goal.returns-in_err-give_reads-clause-err
 returns-in_err-give_reads-clause-err g c = on_err c.from_residual.result (refl, broken_itself g.met.M.Call.Eq.laws g.met.M.Answer.Eq.laws c.args.reads.pairs c.in_err-give_reads.ensures.err)

@@ -1,5 +1,5 @@
 use Rattle.comemo.proofs.Sendings.{reads_left, takes_more, rest_of, breaks}
-use Rattle.comemo.proofs.begin.give_pairs.Goals as goal
+use Rattle.comemo.proofs.pending.give_pairs.Goals as goal
 
 pub loop-call-preserved : goal.loop-call-preserved
 loop-call-preserved g c =

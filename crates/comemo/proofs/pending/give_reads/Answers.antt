@@ -1,19 +1,19 @@
 use Rattle.std.proofs.Common.{sym}
 use Rattle.comemo.proofs.Sendings.{reads_left, head_read, takes_more, took_all, breaks}
-use Rattle.comemo.proofs.finish.give_reads.Goals as goal
+use Rattle.comemo.proofs.pending.give_reads.Goals as goal
 
 pub emit-requires-clause-answered : goal.emit-requires-clause-answered
 emit-requires-clause-answered g c =
-    sym (head_read g.S.Call.Call.is_write _ _ (c.in-Some.call, c.in-Some.answer) c.in-Some.ensures.pairs c.loop-call.invariant.reads)
+    sym (head_read g.S.Call.Call.is_write _ _ c.in-Some.read c.in-Some.ensures.pairs c.loop-read.invariant.reads)
 
 pub emit-requires-clause-reads : goal.emit-requires-clause-reads
 emit-requires-clause-reads g c =
-    head_read g.S.Call.Call.is_write _ _ (c.in-Some.call, c.in-Some.answer) c.in-Some.ensures.pairs c.loop-call.invariant.reads
+    head_read g.S.Call.Call.is_write _ _ c.in-Some.read c.in-Some.ensures.pairs c.loop-read.invariant.reads
 
-pub loop-call-preserved : goal.loop-call-preserved
-loop-call-preserved g c =
-    let i = c.loop-call.invariant in
-    let p : g.row.S-Call.Denot × g.row.S-Answer.Denot = (c.in-Some.call, c.in-Some.answer) in
+pub loop-read-preserved : goal.loop-read-preserved
+loop-read-preserved g c =
+    let i = c.loop-read.invariant in
+    let p : g.row.S-Call.Denot × g.row.S-Answer.Denot = c.in-Some.read in
     let step = c.in-Some.ensures.pairs in
     record {
       reads = reads_left g.S.Call.Call.is_write _ _ p step i.reads;
@@ -21,7 +21,7 @@ loop-call-preserved g c =
     }
 
 pub returns-clause-ok : goal.returns-clause-ok
-returns-clause-ok g c = took_all _ _ _ _ c.in_default.ensures.pairs.0 c.loop-call.invariant.so_far
+returns-clause-ok g c = took_all _ _ _ _ c.in_default.ensures.pairs.0 c.loop-read.invariant.so_far
 
 pub returns-in_default-emit-clause-err : goal.returns-in_default-emit-clause-err
-returns-in_default-emit-clause-err g c = breaks g.met.S.Sink.joins _ _ _ _ _ _ c.loop-call.invariant.so_far c.in_default-emit.ensures.err c.spoil.ensures
+returns-in_default-emit-clause-err g c = breaks g.met.S.Sink.joins _ _ _ _ _ _ c.loop-read.invariant.so_far c.in_default-emit.ensures.err c.spoil.ensures

@@ -1,7 +1,7 @@
 use Rattle.std.proofs.Common.{rules, refl, sym, subst, IfOk, IsTrue, ◌∙◌, ◌≡◌}
 use Rattle.std.proofs.lemmas.Fn.{answers_by}
 use Rattle.comemo_base.proofs.Keeps.{find_keeps}
-use Rattle.base_tests.proofs.callers.find_by_input.Goals as goal
+use Rattle.comemo_base_tests.proofs.callers.find_by_input.Goals as goal
 
 pub returns-clause-found : goal.returns-clause-found
 returns-clause-found g c =

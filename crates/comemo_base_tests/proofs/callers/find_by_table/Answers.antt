@@ -2,8 +2,8 @@ use Rattle.std.proofs.Common.{rules, ℕ, slice_index}
 use Rattle.std.proofs.lemmas.Fn.{always_returns_same}
 use Rattle.std.proofs.lemmas.Map.Views.{exact_unsigned_eq}
 use Rattle.std.specs.Cmp.{nat_eq_equiv}
-use Rattle.base_tests.proofs.Agreeing.{Agrees-from_find_err}
-use Rattle.base_tests.proofs.callers.find_by_table.Goals as goal
+use Rattle.comemo_base_tests.proofs.Agreeing.{Agrees-from_find_err}
+use Rattle.comemo_base_tests.proofs.callers.find_by_table.Goals as goal
 
 pub returns-clause-found : goal.returns-clause-found
 returns-clause-found g c =

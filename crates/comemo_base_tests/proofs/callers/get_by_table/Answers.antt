@@ -2,7 +2,7 @@ use Rattle.std.proofs.Common.{rules, ℕ, slice_index}
 use Rattle.std.proofs.lemmas.Fn.{always_returns_same}
 use Rattle.std.proofs.lemmas.Map.Views.{exact_unsigned_eq}
 use Rattle.std.specs.Cmp.{nat_eq_equiv}
-use Rattle.base_tests.proofs.callers.get_by_table.Goals as goal
+use Rattle.comemo_base_tests.proofs.callers.get_by_table.Goals as goal
 
 pub returns : goal.returns
 returns g c =

@@ -3,7 +3,7 @@ use Rattle.std.proofs.lemmas.Fn.{always_returns_same}
 use Rattle.std.proofs.lemmas.Map.Views.{exact_unsigned_eq}
 use Rattle.std.specs.Cmp.{nat_eq_equiv}
 use Rattle.comemo_base.proofs.Asked.{CanBeAsked-by, holds-stored}
-use Rattle.base_tests.proofs.callers.get_by_whole_table.Goals as goal
+use Rattle.comemo_base_tests.proofs.callers.get_by_whole_table.Goals as goal
 
 pub get-requires : goal.get-requires
 get-requires g c =

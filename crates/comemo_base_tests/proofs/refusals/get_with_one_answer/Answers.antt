@@ -1,7 +1,7 @@
 use Rattle.std.proofs.Common.{◌≡◌, ◌∙◌, refl, sym, rules}
 use Rattle.comemo_base.proofs.Keeps.{get_keeps}
-use Rattle.base_tests.proofs.Once.{told}
-use Rattle.base_tests.proofs.refusals.get_with_one_answer.Goals as goal
+use Rattle.comemo_base_tests.proofs.Once.{told}
+use Rattle.comemo_base_tests.proofs.refusals.get_with_one_answer.Goals as goal
 
 pub returns : goal.returns
 returns g c =

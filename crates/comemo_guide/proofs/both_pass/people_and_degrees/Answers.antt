@@ -1,5 +1,5 @@
 use Rattle.std.proofs.Common.{◌∙◌, rules}
-use Rattle.guide.proofs.both_pass.people_and_degrees.Goals as goal
+use Rattle.comemo_guide.proofs.both_pass.people_and_degrees.Goals as goal
 
 pub returns : goal.returns
 returns c =

@@ -1,5 +1,5 @@
 use Rattle.std.proofs.Common.{rules}
-use Rattle.tracking.proofs.Told.{told_answer}
+use Rattle.comemo.proofs.Telling.{told_answer}
 use Rattle.comemo.proofs.Calls.{reply_by_hit, reply_by_run}
 use Rattle.comemo_tests.proofs.Contexts.{same_calls}
 use Rattle.comemo_tests.proofs.Failing.{given_up, on_reply}

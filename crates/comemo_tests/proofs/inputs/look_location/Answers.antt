@@ -1,5 +1,5 @@
 use Rattle.std.proofs.Common.{rules}
-use Rattle.comemo_base.proofs.Paths.{Agrees-same, IsSamePath-turned}
+use Rattle.comemo.proofs.Paths.{Agrees-same, IsSamePath-turned}
 use Rattle.comemo_tests.proofs.Contexts.{same_calls}
 use Rattle.comemo_tests.proofs.Places.{same_numbers}
 use Rattle.comemo_tests.proofs.inputs.look_location.Goals as goal

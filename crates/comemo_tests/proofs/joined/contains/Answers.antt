@@ -1,6 +1,6 @@
 use Rattle.std.proofs.Common.{rules, refl}
 use Rattle.comemo.proofs.JoinedHits.{joined_hit}
-use Rattle.comemo_tests.specs.declared.cells.ContextCall.TheVariants.{Location, Styles}
+use Rattle.comemo_samples.specs.declared.contexts.ContextCall.TheVariants.{Location, Styles}
 use Rattle.comemo_tests.proofs.Contains.{is_first, is_second}
 use Rattle.comemo_tests.proofs.Failing.{given_up}
 use Rattle.comemo_tests.proofs.joined.contains.Goals as goal

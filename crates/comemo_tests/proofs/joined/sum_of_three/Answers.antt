@@ -1,5 +1,5 @@
 use Rattle.std.proofs.Common.{rules, refl}
-use Rattle.tracking.specs.MultiLaws.{by_parts}
+use Rattle.comemo.specs.MultiLaws.{by_parts}
 use Rattle.comemo.proofs.JoinedHits.{joined_hit}
 use Rattle.comemo_tests.proofs.joined.sum_of_three.Goals as goal
 

@@ -1,7 +1,7 @@
 use Rattle.std.proofs.Common.{rules, ◌+◌, ◌%◌, ◌^◌, ap}
-use Rattle.tracking.proofs.Told.{told_pairs}
+use Rattle.comemo.proofs.Telling.{told_pairs}
 use Rattle.comemo.proofs.Calls.{reply_by_hit, reply_by_run}
-use Rattle.comemo_tests.specs.Cells.{field}
+use Rattle.comemo_samples.specs.Contexts.{field}
 use Rattle.comemo_tests.proofs.Contexts.{same_calls, respects_field}
 use Rattle.comemo_tests.proofs.Failing.{given_up, on_reply}
 use Rattle.comemo_tests.proofs.Places.{same_numbers}

@@ -1,7 +1,7 @@
 use Rattle.std.proofs.Common.{rules, arith}
 use borrow.Author.Count.{below_more}
 use Rattle.comemo_tests.specs.Rows.{numbers}
-use Rattle.tracking.proofs.Told.{told_answer}
+use Rattle.comemo.proofs.Telling.{told_answer}
 use Rattle.comemo_tests.proofs.Places.{same_places, same_numbers, respects_places, is_zero, not_zero}
 use Rattle.comemo_tests.proofs.rows.find_zero.Goals as goal
 

@@ -1,6 +1,6 @@
 use Rattle.std.proofs.Common.{◌≡◌, ◌≢◌, ◌-◌, ◌<◌, ◌≤◌, ℕ, nat_eq}
-use Rattle.comemo_base.specs.Answers.{Respects, Agrees}
-use Rattle.comemo_tests.specs.declared.cells.Place.{Place}
+use Rattle.comemo.specs.Answers.{Respects, Agrees}
+use Rattle.comemo_samples.specs.declared.contexts.Place.{Place}
 use Rattle.comemo_tests.specs.Rows.{by_call, same_place, numbers}
 use Rattle.comemo_tests.proofs.rows.find_zero.Given as goal
 

@@ -1,7 +1,7 @@
 use Rattle.std.proofs.Common.{◌∙◌, rules, arith}
 use Rattle.std.proofs.lemmas.List.{append-nil}
-use Rattle.tracking.proofs.Told.{told_answer}
-use Rattle.speed.specs.Sums.{numbers, by_call}
+use Rattle.comemo.proofs.Telling.{told_answer}
+use Rattle.comemo_samples.specs.Cells.{numbers, by_call}
 use Rattle.speed.proofs.Gets.{same_gets, same_numbers, respects_gets, same_number, sum_more}
 use Rattle.speed.proofs.sums.add_cells.Goals as goal
 

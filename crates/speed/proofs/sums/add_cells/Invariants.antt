@@ -1,7 +1,8 @@
 use Rattle.std.proofs.Common.{◌≡◌, ◌-◌, ◌≤◌, ℕ, nat_eq}
-use Rattle.comemo_base.specs.Answers.{Respects, Agrees}
-use Rattle.speed.specs.declared.cells.Get.{Get}
-use Rattle.speed.specs.Sums.{sum_of, by_call, same_get, numbers}
+use Rattle.comemo.specs.Answers.{Respects, Agrees}
+use Rattle.comemo_samples.specs.declared.cells.Get.{Get}
+use Rattle.speed.specs.Sums.{sum_of}
+use Rattle.comemo_samples.specs.Cells.{by_call, same_get, numbers}
 use Rattle.speed.proofs.sums.add_cells.Given as goal
 
 -- the recording has the cells' numbers, and whichever answers agree with it have the sum so far

@@ -1,6 +1,6 @@
 use Rattle.comemo.proofs.Closures.{mapped}
 use Rattle.std.proofs.Common.{◌∙◌}
-use Rattle.speed.specs.Sums.{numbers}
+use Rattle.comemo_samples.specs.Cells.{numbers}
 use Rattle.speed.proofs.Gets.{respects_gets}
 use Rattle.speed.proofs.sums.sum.Goals as goal
 

@@ -1,5 +1,5 @@
-use Rattle.interpreter.proofs.Sizes.{mapped}
-use Rattle.interpreter.proofs.files.Files.read.Goals as goal
+use Rattle.calc_files.proofs.Sizes.{mapped}
+use Rattle.calc_files.proofs.files.Files.read.Goals as goal
 
 pub returns : goal.returns
 returns g c =

@@ -1,8 +1,8 @@
 use Rattle.std.proofs.Common.{sym, ap, ◌∙◌}
 use Rattle.std.specs.Str.{trim}
-use Rattle.scripts.specs.Parts.{left}
-use Rattle.scripts.proofs.Cuts.{parts_first, parts_last}
-use Rattle.scripts.proofs.part.Parts.next.Goals as goal
+use Rattle.calc_scripts.specs.Parts.{left}
+use Rattle.calc_scripts.proofs.Cuts.{parts_first, parts_last}
+use Rattle.calc_scripts.proofs.part.Parts.next.Goals as goal
 
 pub returns-in-Some : goal.returns-in-Some
 returns-in-Some c = (

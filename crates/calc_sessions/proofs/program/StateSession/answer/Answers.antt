@@ -1,7 +1,7 @@
 use Rattle.std.proofs.Common.{refl}
-use Rattle.interpreter.proofs.Lines.{prints_answer, prints_bad}
-use Rattle.interpreter.proofs.Refusals.{kept_on_err}
-use Rattle.interpreter.proofs.program.StateSession.answer.Goals as goal
+use Rattle.calc_sessions.proofs.Lines.{prints_answer, prints_bad}
+use Rattle.calc_sessions.proofs.Refusals.{kept_on_err}
+use Rattle.calc_sessions.proofs.program.StateSession.answer.Goals as goal
 
 pub returns-in-Some-clause-ok : goal.returns-in-Some-clause-ok
 returns-in-Some-clause-ok c = prints_answer c.args.line.now c.text.result (rw c.in-Some.is at c.in_ok-command.ensures) c.carry_out.ensures c.text.ensures.ok

@@ -1,6 +1,6 @@
 use Rattle.std.proofs.Common.{refl}
-use Rattle.interpreter.specs.Sessions.{bytes_at, no_memory}
-use Rattle.interpreter.proofs.state.State.size_at.Goals as goal
+use Rattle.calc_sessions.specs.Sessions.{bytes_at, no_memory}
+use Rattle.calc_sessions.proofs.state.State.size_at.Goals as goal
 
 pub returns-in-Ok : goal.returns-in-Ok
 returns-in-Ok c = bytes_at (rw c.track-view.ensures at c.in-Ok.ensures.output) (λ path. refl)

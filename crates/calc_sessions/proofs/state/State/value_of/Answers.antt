@@ -1,10 +1,10 @@
 use Rattle.std.proofs.Common.{refl}
-use Rattle.scripts.proofs.Meanings.{means_map}
-use Rattle.interpreter.specs.Files.{Reads, texts_of, answers_of}
-use Rattle.interpreter.specs.Evaluations.{At}
-use Rattle.interpreter.specs.Sessions.{value, too_deep, no_memory}
-use Rattle.interpreter.proofs.Evaluations.{reads}
-use Rattle.interpreter.proofs.state.State.value_of.Goals as goal
+use Rattle.calc_scripts.proofs.Meanings.{means_map}
+use Rattle.calc_files.specs.Files.{Reads, texts_of, answers_of}
+use Rattle.calc_evaluation.specs.Evaluations.{At}
+use Rattle.calc_sessions.specs.Sessions.{value, too_deep, no_memory}
+use Rattle.calc_evaluation.proofs.Evaluations.{reads}
+use Rattle.calc_sessions.proofs.state.State.value_of.Goals as goal
 
 pub returns-in-Ok : goal.returns-in-Ok
 returns-in-Ok c =

@@ -4,7 +4,7 @@ use Rattle.comemo.specs.Meaning.{Meaning}
 use Rattle.comemo.specs.Cache.{Kept, IsLegal}
 use Rattle.comemo.proofs.Sendings.{on_err}
 use Rattle.comemo.proofs.Entries.{reads_same, Stands-found}
-use Rattle.comemo.proofs.memoize.CacheData.look.Goals as goal
+use Rattle.comemo.proofs.cache.CacheData.look.Goals as goal
 
 pub find_agreeing-requires-clause-reads : goal.find_agreeing-requires-clause-reads
 find_agreeing-requires-clause-reads g c = λ k d l. (c.self.invariant k d l).reads

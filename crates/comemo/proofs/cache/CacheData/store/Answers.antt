@@ -1,10 +1,12 @@
+use Rattle.std.proofs.Common.{[]}
 use Rattle.std.proofs.lemmas.List.Sorted.{All-permutation}
 use Rattle.comemo_base.specs.Lookup.{under}
+use Rattle.comemo_base.proofs.Paths.{turned}
 use Rattle.comemo.specs.Meaning.{Meaning}
 use Rattle.comemo.specs.Cache.{IsLegal}
 use Rattle.comemo.proofs.Entries.{All-cons}
 use Rattle.comemo.proofs.NewPath.{IsLegal-stored, by_result, stores}
-use Rattle.comemo.proofs.memoize.CacheData.store.Goals as goal
+use Rattle.comemo.proofs.cache.CacheData.store.Goals as goal
 
 pub invariant_of-self : goal.invariant_of-self
 invariant_of-self g c =
@@ -12,7 +14,9 @@ invariant_of-self g c =
     let P = IsLegal M in
     let old = c.self.inside.tree in
     by_result c.insert.result c.insert.ensures.stored c.insert.ensures.err
-    (λ h. All-permutation P _ c.insert.new.self h.2 (All-cons P _ old (IsLegal-stored M g.met.M.Call.Eq.laws g.met.M.Answer.Eq.laws (under g.M.Key.PartialEq.eq old c.args.key) c.args.key c.args.sequence.pairs h.0 c.args.output g.met.M.Call.Call.same_kind c.has_distinct_calls.ensures.distinct c.requires.reads c.requires.stands h.1) c.self.invariant))
+    (λ h.
+    let legal = IsLegal-stored M g.met.M.Call.Eq.laws g.met.M.Answer.Eq.laws (under g.M.Key.PartialEq.eq old c.args.key) c.args.key h.own c.args.sequence.pairs h.path c.args.output g.met.M.Call.Call.same_kind (λ m r d. g.met.M.Memo.laws.keys c.args.key h.own m c.args.output [] r (turned g.met.M.Key.Eq.laws h.own c.args.key h.is_key) d) c.has_distinct_calls.ensures.distinct c.requires.reads c.requires.stands h.is_new in
+    All-permutation P _ c.insert.new.self h.entries (All-cons P _ old legal c.self.invariant))
     (λ e. rw e c.self.invariant)
 
 pub returns-clause-stored : goal.returns-clause-stored

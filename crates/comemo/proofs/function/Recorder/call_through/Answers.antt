@@ -1,5 +1,5 @@
 use Rattle.std.proofs.Common.{refl}
-use Rattle.tracking.specs.Recording.{Took, Spoiled}
+use Rattle.comemo_track.specs.Recording.{Took, Spoiled}
 use Rattle.comemo.proofs.Calls.{resent}
 use Rattle.comemo.proofs.Sendings.{on_err}
 use Rattle.comemo.proofs.ThroughMaps.{keeps_through, tells_through, broke_through}

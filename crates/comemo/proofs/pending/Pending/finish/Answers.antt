@@ -2,8 +2,8 @@ use Rattle.std.proofs.Common.{◌≡◌, ◌∙◌, [], true, false, refl, sym, 
 use Rattle.comemo.specs.Begin.{PendingRun}
 use Rattle.comemo.proofs.Sendings.{on_err, breaks_at_once}
 use Rattle.comemo.proofs.Endings.{gives_itself, broken_itself}
-use Rattle.comemo.proofs.begin.Pending.finish.Goals as goal
-use Rattle.comemo.proofs.begin.Pending.finish.Goals.{then-enabled+in_ok-how, else-enabled+in_ok-give_reads}
+use Rattle.comemo.proofs.pending.Pending.finish.Goals as goal
+use Rattle.comemo.proofs.pending.Pending.finish.Goals.{then-enabled+in_ok-how, else-enabled+in_ok-give_reads}
 
 pub returns-then-not-is_whole-clause-err : goal.returns-then-not-is_whole-clause-err
 returns-then-not-is_whole-clause-err g c = (refl, broken_itself g.met.M.Call.Eq.laws g.met.M.Answer.Eq.laws c.args.self.recording.pairs (breaks_at_once g.met.S.Sink.starts _ _ _ c.spoil.ensures))

@@ -2,7 +2,7 @@ use Rattle.std.proofs.Common.{◌≡◌, ◌∙◌, ◌∷◌, []}
 use Rattle.std.proofs.lemmas.List.Sorted.{IsPermutation-append_comm}
 use Rattle.comemo_base.specs.Tree.{stored}
 use Rattle.comemo_base.proofs.Steps.{IsTree-push}
-use Rattle.comemo_base.proofs.tree.CallTree.insert.Goals as goal
+use Rattle.comemo_base.proofs.plain.PlainTree.insert.Goals as goal
 
 pub invariant_of-self-2 : goal.invariant_of-self-2
 invariant_of-self-2 g c =
@@ -17,4 +17,10 @@ returns-clause-ok g c =
 pub returns-clause-stored : goal.returns-clause-stored
 returns-clause-stored g c =
     let own : c.as_slice.result.now ≡ c.args.self.now = c.as_slice.ensures.value ∙ c.self.view_is in
-    (c.in_ok-path.path.items, rw own at c.in_ok-path.ensures.path, rw (c.in_ok-push.ensures.items, ← c.self.view_is) (IsPermutation-append_comm (stored c.args.key c.in_ok-path.path.items c.args.value ∷ []) c.self.inside.entries.items))
+    record {
+      own = c.args.key;
+      is_key = g.met.K.Eq.laws.refl c.args.key;
+      path = c.in_ok-path.path.items;
+      is_new = rw own at c.in_ok-path.ensures.path;
+      entries = rw (c.in_ok-push.ensures.items, ← c.self.view_is) (IsPermutation-append_comm (stored c.args.key c.in_ok-path.path.items c.args.value ∷ []) c.self.inside.entries.items);
+    }

@@ -1,8 +1,8 @@
 use Rattle.std.proofs.Common.{◌≡◌, ◌∙◌, ◌<◌, ◌++◌, ◌∷◌, [], ap, arith, true, not, nat_eq, ℕ}
 use Rattle.std.proofs.lemmas.List.Elements.{All-cons}
 use Rattle.std.specs.List.{All, list_any}
-use Rattle.base_tests.proofs.First.{first_calls}
-use Rattle.base_tests.proofs.callers.tests.a_whole_table_is_read_at_stored_calls.Goals as goal
+use Rattle.comemo_base_tests.proofs.First.{first_calls}
+use Rattle.comemo_base_tests.proofs.callers.tests.a_whole_table_is_read_at_stored_calls.Goals as goal
 
 pub get_by_whole_table-found-requires : goal.get_by_whole_table-found-requires
 get_by_whole_table-found-requires g c =
@@ -11,4 +11,4 @@ get_by_whole_table-found-requires g c =
     let stored = c.in_ok-insert-2.ensures.stored in
     let P : ℕ × ℕ → Type 0 = λ p. p.0 < 2 in
     let one : All P ((1, 15) ∷ []) = All-cons P (1, 15) [] (omega arith) (λ i d l. absurd (omega arith)) in
-    first_calls nat_eq nat_eq nat_eq c.new-tree.result c.new-tree.ensures 0 c.insert.new.self.pairs stored.0 _ (λ call. call < 2) c.insert-2.new.self 0 stored.1 stored.2 (rw pairs one)
+    first_calls nat_eq nat_eq nat_eq c.new-tree.result c.new-tree.ensures 0 c.insert.new.self.pairs _ (λ call. call < 2) c.insert-2.new.self 0 stored (rw pairs one)

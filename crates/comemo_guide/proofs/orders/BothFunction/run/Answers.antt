@@ -1,5 +1,5 @@
 use Rattle.std.proofs.Common.{rules}
-use Rattle.guide.proofs.orders.BothFunction.run.Goals as goal
+use Rattle.comemo_guide.proofs.orders.BothFunction.run.Goals as goal
 
 pub returns-in_ok-degrees-in-People-clause-right : goal.returns-in_ok-degrees-in-People-clause-right
 returns-in_ok-degrees-in-People-clause-right c = λ m f. search (rules, c.in_ok-degrees-in-People.ensures.tells.told m f, c.in_ok-people-in-People.ensures.tells.told m (c.in_ok-degrees-in-People.ensures.tells.before m f))

@@ -1,5 +1,5 @@
 use Rattle.std.proofs.Common.{rules}
-use Rattle.guide.proofs.orders.ExceedsFunction.run.Goals as goal
+use Rattle.comemo_guide.proofs.orders.ExceedsFunction.run.Goals as goal
 
 pub returns-then-people-n-clause-right : goal.returns-then-people-n-clause-right
 returns-then-people-n-clause-right c = λ m f. search (rules, c.in_ok-people.ensures.tells.told m f)

@@ -1,6 +1,6 @@
 use Rattle.std.proofs.lemmas.Result.{on_ok_weaker}
-use Rattle.tracking.proofs.Absorbing.{pairs-absorbed, IsRecording-absorbed}
-use Rattle.tracking.proofs.constraint.Constraint.absorb.Goals as goal
+use Rattle.comemo_track.proofs.Absorbing.{pairs-absorbed, IsRecording-absorbed}
+use Rattle.comemo_track.proofs.constraint.Constraint.absorb.Goals as goal
 
 pub invariant_of-self : goal.invariant_of-self
 invariant_of-self g c =

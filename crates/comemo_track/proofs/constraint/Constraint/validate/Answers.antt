@@ -3,11 +3,11 @@ use Rattle.std.proofs.lemmas.List.{take_all}
 use Rattle.comemo_base.specs.Answers.{Agrees}
 use Rattle.comemo_base.specs.Sequence.{remaining}
 use Rattle.comemo_base.proofs.Paths.{turned, joined}
-use Rattle.tracking.specs.Recording.{Recording}
-use Rattle.tracking.proofs.Copies.{slot_more, slot_less}
-use Rattle.tracking.proofs.Validating.{on_err, remaining_at, All-at, Agrees-at, Agrees-push}
-use Rattle.tracking.proofs.constraint.Constraint.validate.Goals as goal
-use Rattle.tracking.proofs.constraint.Constraint.validate.Goals.{in-Some+in_ok-ask+else-ne, in_default}
+use Rattle.comemo_track.specs.Recording.{Recording}
+use Rattle.comemo_track.proofs.Copies.{slot_more, slot_less}
+use Rattle.comemo_track.proofs.Validating.{on_err, remaining_at, All-at, Agrees-at, Agrees-push}
+use Rattle.comemo_track.proofs.constraint.Constraint.validate.Goals as goal
+use Rattle.comemo_track.proofs.constraint.Constraint.validate.Goals.{in-Some+in_ok-ask+else-ne, in_default}
 
 pub loop-slot-init : goal.loop-slot-init
 loop-slot-init g c = tt

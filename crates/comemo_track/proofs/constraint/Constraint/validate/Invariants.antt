@@ -1,7 +1,7 @@
 use Rattle.std.proofs.Common.{take}
 use Rattle.comemo_base.specs.Answers.{Agrees}
 use Rattle.comemo_base.specs.Sequence.{remaining}
-use Rattle.tracking.proofs.constraint.Constraint.validate.Given as goal
+use Rattle.comemo_track.proofs.constraint.Constraint.validate.Given as goal
 
 -- the pairs of the slots so far agree
 abbrev pub invariant-loop-slot : goal.invariant-loop-slot

@@ -1,5 +1,5 @@
-use Rattle.tracking.proofs.Recordings.{IsRecording-read}
-use Rattle.tracking.proofs.constraint.ConstraintSink.emit.Goals as goal
+use Rattle.comemo_track.proofs.Recordings.{IsRecording-read}
+use Rattle.comemo_track.proofs.constraint.ConstraintSink.emit.Goals as goal
 
 pub invariant_of-self : goal.invariant_of-self
 invariant_of-self g c =

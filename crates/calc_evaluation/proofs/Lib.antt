@@ -1,0 +1,3 @@
+pub mod Evaluations
+pub mod Calls
+pub mod TooDeep

@@ -1,0 +1,4 @@
+pub mod FileCalls
+pub mod JoinedCalls
+pub mod WhatReadsTell
+pub mod Sizes

@@ -1,0 +1,25 @@
+//! Scripts of the program `calc`: their parts, and what they mean.
+//!
+//! A script is numbers and calls `eval PATH` of scripts in files, with `+` between them. What it comes to is known only
+//! with the files, so this crate has what needs none: the cutting, and the sum of what the parts come to.
+//!
+//! ```rust
+//! use calc_scripts::{CalcFault, Outcome, Part, Parts, Total};
+//!
+//! let mut parts = Parts::new("-7 + eval a");
+//! assert_eq!(rt; parts.next(), Some(Part::Number(-7)));
+//! assert_eq!(rt; parts.next(), Some(Part::Eval("a")));
+//! assert_eq!(rt; parts.next(), None);
+//!
+//! let mut total = Total::new();
+//! let most = Outcome { value: Ok(i32::MAX), height: 1 };
+//! assert_eq!(rt; total.add(most), Ok(()));
+//! assert_eq!(rt; total.add(most), Err(CalcFault::Overflow));
+//! ```
+#![tactic(auto)]
+
+pub mod outcome;
+pub mod part;
+
+pub use outcome::{CalcFault, Outcome, Total};
+pub use part::{Part, Parts};

@@ -1,0 +1,39 @@
+//! Memoized functions as a user of the library writes them: five, from the simplest to one that calls others, and those
+//! of other kinds of arguments and answers.
+//!
+//! How warm a town is, asked before the town has grown and after it:
+//!
+//! ```rust
+//! use comemo::{CacheData, How, MemoOf, Top, Track, memoized};
+//! use comemo_guide::warmth::Warmth;
+//! use comemo_samples::Town;
+//!
+//! let mut cache: CacheData<MemoOf<Warmth>> = CacheData::new(alloc);
+//! let mut town = Town { people: 900, degrees: 21 };
+//! let first = memoized(alloc, &mut cache, &mut (), (), &town.track(alloc), &mut Top::new(), true)?;
+//! assert_eq!(rt; (first.output, first.how), (21, How::Stored));
+//!
+//! town.people = 7000;
+//! let grown = memoized(alloc, &mut cache, &mut (), (), &town.track(alloc), &mut Top::new(), true)?;
+//! assert_eq!(rt; (grown.output, grown.how), (21, How::Hit));
+//! ```
+//!
+//! Each function says which questions a run asks, since that is what its output is kept under. A run is refused, with
+//! `Fault::Memory`, where there is no memory for an answer, for the recording or for its output; one that calls others
+//! hands on their faults too.
+#![tactic(auto)]
+
+pub mod both_pass;
+pub mod chains;
+pub mod double;
+pub mod greetings;
+pub mod kinds;
+pub mod loader;
+pub mod numbers;
+pub mod orders;
+pub mod passes;
+pub mod region;
+pub mod report;
+pub mod several;
+pub mod texts;
+pub mod warmth;

@@ -1,0 +1,7 @@
+//! The functions of the guide at work.
+#![tactic(auto)]
+
+#[cfg(test)]
+mod examples;
+#[cfg(test)]
+mod guide;

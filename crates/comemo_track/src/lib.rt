@@ -1,0 +1,46 @@
+//! Tracked values, the views through which they are read, what takes note of the calls, and what is made of both as an
+//! input of a memoized function.
+//!
+//! A view sends what it is asked to a recording. The recording holds of each value that gives the same answers, so of a
+//! value that was changed where nobody asked:
+//!
+//! ```rust
+//! use comemo_samples::{Town, TownCall};
+//! use comemo_track::{Constraint, Track};
+//! use std::test::Fail;
+//!
+//! fn a_recording_holds_until_an_answer_changes(rt: HostRuntime) -> Result<(), Fail> {
+//!     let mut town = Town {
+//!         people: 900,
+//!         degrees: 21,
+//!     };
+//!     let mut recording = Constraint::new(rt.alloc());
+//!     let degrees = town
+//!         .track(rt.alloc())
+//!         .ask(TownCall::Degrees, &mut recording)?;
+//!     assert_eq!(rt; degrees, 21);
+//!     town.people = 1000;
+//!     assert!(rt; recording.validate(&town)?);
+//!     town.degrees = 4;
+//!     assert!(rt; !recording.validate(&town)?);
+//!     Ok(())
+//! }
+//! ```
+//!
+//! `Town` is of the crate `comemo_samples`. These lines run as a test in the crate `comemo_tests`, in
+//! `src/examples.rt`, through the crate `comemo`, which has all that this one has.
+#![tactic(auto)]
+
+pub mod both;
+pub mod constraint;
+pub mod input;
+pub mod mapped;
+pub mod multi;
+pub mod track;
+
+pub use both::Both;
+pub use constraint::Constraint;
+pub use input::{Hashed, Input, Keyed};
+pub use mapped::{CallMap, MappedSink};
+pub use multi::{First, Multi, MultiAnswer, MultiCall, Second};
+pub use track::{Breaking, Call, Sink, Top, Track, Tracked, TrackedWith};

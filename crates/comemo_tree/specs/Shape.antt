@@ -1,0 +1,41 @@
+-- How many fronts the paths of a tree have.
+use Rattle.std.specs.Prelude.{◌≡◌, ◌≢◌, ◌<◌, ◌-◌, ◌^◌, ℕ, min, Bool, List, [], length, IsTrue}
+use Rattle.std.specs.List.{All, AllPairs, Any}
+use Rattle.comemo_base.specs.Tree.{Stored, IsFront, IsSamePath}
+
+-- so many things have the property, where those that are the same count once: some list of that length has only such
+-- things, no two of them the same, and of each such thing one that is the same
+pub record Counts {X : Type 0} (P : X → Type 0) (same_as : X → X → Type 0) (n : ℕ) : Type 0 where
+  pub things : List X
+  pub apart : AllPairs (λ x y. ¬ same_as x y) things
+  pub only : All P things
+  pub each : (x : X) → P x → Any (λ y. same_as x y) things
+  pub many : length things ≡ n
+
+module _ {K C R : Type 0} (eq : C → C → Bool) (same : R → R → Bool) (eqk : K → K → Bool) where
+  -- fronts are counted for each key: the keys are equal, and so are the pairs
+  abbrev pub IsSameUnder : K × List (C × R) → K × List (C × R) → Type 0
+  IsSameUnder f g = IsTrue (eqk f.0 g.0) × IsSamePath eq same f.1 g.1
+
+  module _ {T : Type 0} (es : List (Stored K C R T)) where
+    -- the key is that of an entry
+    abbrev pub IsStoredKey : K → Type 0
+    IsStoredKey key = Any (λ e. IsTrue (eqk e.key key)) es
+
+    -- the pairs are a front of a path under the key
+    abbrev pub IsFrontUnder : K × List (C × R) → Type 0
+    IsFrontUnder f = Any (λ e. IsTrue (eqk e.key f.0) × IsFront eq same f.1 e.path) es
+
+    -- they are a proper one: the path has more pairs
+    abbrev pub IsProperFrontUnder : K × List (C × R) → Type 0
+    IsProperFrontUnder f = Any (λ e. IsTrue (eqk e.key f.0) × IsFront eq same f.1 e.path × (length f.1 < length e.path)) es
+
+    -- the numbers of proper fronts, of paths, of fronts that have a pair and of keys; the third is the greatest `usize`
+    -- where there are more of them
+    pub record IsShape (shape : ℕ × ℕ × ℕ × ℕ) : Type 0 where
+      pub inner : Counts IsProperFrontUnder IsSameUnder shape.0
+      pub leaves : length es ≡ shape.1
+      pub edge_count : ℕ
+      pub edges : Counts (λ f. IsFrontUnder f × (f.1 ≢ [])) IsSameUnder edge_count
+      pub edges_fit : shape.2 ≡ min edge_count (2 ^ 64 - 1)
+      pub starts : Counts IsStoredKey (λ k l. IsTrue (eqk k l)) shape.3

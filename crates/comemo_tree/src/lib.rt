@@ -1,0 +1,38 @@
+//! The call tree on slabs: the map from keys and paths of calls to values that memoized outputs are found in, under the
+//! contracts of the plain tree of `comemo_base`. A look-up follows one path, however many entries there are.
+//!
+//! A value is stored under a key and the calls that a run asked. It is found again by their answers, until a test drops
+//! it:
+//!
+//! ```rust
+//! use comemo_base::CallSequence;
+//! use comemo_tree::CallTree;
+//! use std::test::Fail;
+//!
+//! fn what_is_stored_is_found_until_it_is_dropped(rt: HostRuntime) -> Result<(), Fail> {
+//!     let mut tree: CallTree<u32, u8, u64, u64> = CallTree::new(rt.alloc());
+//!     for (answer, value) in [(1, 10), (2, 20)] {
+//!         let mut run = CallSequence::new(rt.alloc());
+//!         let _ = run.insert(b'a', answer)?;
+//!         tree.insert(7, run, value)?;
+//!     }
+//!     let found = tree.get(&7, &mut |_: &u8| Ok(2))?;
+//!     assert_eq!(rt; found.copied(), Some(20));
+//!     tree.retain(|value: &mut u64| *value < 20);
+//!     let gone = tree.get(&7, &mut |_: &u8| Ok(2))?;
+//!     assert_eq!(rt; gone.copied(), None);
+//!     Ok(())
+//! }
+//! ```
+//!
+//! These lines run as a test in the crate `comemo_tree_tests`, in `src/examples.rt`.
+#![tactic(auto)]
+
+mod change;
+pub mod children;
+mod insertion;
+mod retention;
+mod shape;
+pub mod tree;
+
+pub use tree::CallTree;
