@@ -54,6 +54,14 @@ linked_first inner leaves (Some p) ps = elim (cases_Bool (has_node inner leaves 
   | inr e ↦ rw e refl
 ]
 
+-- a first pair that goes
+pub linked_others : {K C R T : Type 0} (inner : slab.Slab (InnerNode C R)) (leaves : slab.Slab (LeafNode K T)) (first : Option (R × Node)) (ps : List (R × Node)) → is_some (linked_option inner leaves first) ≡ false → linked inner leaves ps ≡ linked inner leaves (option_to_list first ++ ps)
+linked_others inner leaves None ps gone = refl
+linked_others inner leaves (Some p) ps gone = elim (cases_Bool (has_node inner leaves p.1)) [
+  | inl e ↦ (let k : true ≡ false = sym (ap (λ b. is_some (cond b (Some p) None)) e) ∙ gone in cc)
+  | inr e ↦ rw e refl
+]
+
 -- a node that was read and not changed
 set_own : {X : Type 0} (xs : List (Option X)) (at : ℕ) (x : X) → get_or xs at None ≡ Some x → set xs at (Some x) ≡ xs
 set_own [] at x e = let two : None ≡ Some x = e in cc

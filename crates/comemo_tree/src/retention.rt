@@ -2,7 +2,7 @@
 //!
 //! The leaves go first. Then each inner node above a leaf that stays is marked, up from the leaf to the first that is
 //! marked already; those that are not marked go, and the links to what went. So it takes no memory, and time linear in
-//! the nodes that there is room for.
+//! the nodes that there is room for, but that to take a child from among many may cost the logarithm of their number.
 ghost use Rattle.std.specs.Prelude.{◌≡◌, filter, option_map};
 ghost use Rattle.std.specs.HashMap as map;
 ghost use Rattle.slab.specs.Slab.{get};

@@ -134,8 +134,8 @@ impl<K: Eq + Hash, C: Eq + Hash, R: Ord, T> CallTree<K, C, R, T> {
     /// with the answer that was given; with no path under the key, or an empty one, it asks nothing. So the oracle needs to
     /// answer stored calls alone. It is lent, so its state afterwards is known. An oracle that refuses an answer ends the
     /// look-up with its error; nothing else does, and the tree takes no memory of its own. Beside the oracle's work it
-    /// takes constant expected time for the key, and for each call that is asked a binary search among the answers that
-    /// are stored to it there, however many entries the tree has. comemo's `CallTree::get`.
+    /// takes constant expected time for the key, and for each call that is asked a search in an ordered map, of the answers
+    /// that are stored to it there, however many entries the tree has. comemo's `CallTree::get`.
     pub fn get<O: FnMut(&C) -> Result<R, AllocError>>(
         &self,
         key: &K,
@@ -253,9 +253,8 @@ impl<K: Eq + Hash, C: Eq + Hash, R: Ord, T> CallTree<K, C, R, T> {
     /// where the path would be longer than a `usize` can say. The key, the sequence and the value are dropped then.
     ///
     /// A key that has no path yet is cloned; all paths under a key share one copy of it. It takes a step of a look-up for
-    /// each pair of the path that is stored already, constant time for each pair that is left, and one pass over the
-    /// sequence's slots. Where the new path leaves the stored ones at a node, the greater answers there are moved by one
-    /// place. comemo's `CallTree::insert`.
+    /// each pair of the path that is stored already, one step more where the new path leaves the stored ones, constant time
+    /// for each pair that is left, and one pass over the sequence's slots. comemo's `CallTree::insert`.
     pub fn insert(
         &mut self,
         key: K,
@@ -315,7 +314,8 @@ impl<K: Eq + Hash, C: Eq + Hash, R: Ord, T> CallTree<K, C, R, T> {
 impl<K: Eq + Hash + Drop, C: Eq + Hash + Drop, R: Ord + Drop, T: Drop> CallTree<K, C, R, T> {
     /// Shows each value to a test, which may change it, and drops the entries that it answers false of.
     ///
-    /// It takes no memory, and time linear in the nodes that the tree has room for. comemo's `CallTree::retain`.
+    /// It takes no memory, and time linear in the nodes that the tree has room for; a child that goes from among many costs
+    /// the logarithm of their number at most. comemo's `CallTree::retain`.
     pub fn retain<F: Fn(&mut T) -> bool>(&mut self, f: F)
         requires { F.IsAlwaysCallable f }
         ensures { Retains (ReturnsAtMut F.Fn f) self.old self.new }
@@ -331,7 +331,7 @@ impl<K: Eq + Hash, C: Eq + Hash, R: Ord, T> CallTree<K, C, R, T> {
     ///
     /// The function is called once, on that value, or not at all. Nothing else changes. It asks nothing, refuses nothing
     /// and takes no memory. Beside the function's work it takes constant expected time for the key, and for each answer
-    /// a binary search among those that are stored at its place. This project's own.
+    /// a search in the ordered map of those that are stored at its place. This project's own.
     pub fn change<F: Fn(&mut T)>(&mut self, key: &K, answers: &[R], f: F) -> bool
         requires { F.IsAlwaysCallable f }
         ensures changed { IsTrue result → Changes R.eq K.eq (LeavesAt F.Fn f)
