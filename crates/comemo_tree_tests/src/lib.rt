@@ -1,4 +1,5 @@
-//! Tests of `comemo_tree` from outside: worked examples with their shapes, and random steps beside a plain list.
+//! Tests of `comemo_tree` from outside: worked examples with their shapes, wide nodes and long chains, and random steps
+//! beside a plain list.
 #![tactic(auto)]
 
 #[cfg(test)]
@@ -11,3 +12,5 @@ mod rows;
 mod steps;
 #[cfg(test)]
 mod texts;
+#[cfg(test)]
+mod wide;
