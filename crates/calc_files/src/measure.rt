@@ -1,5 +1,5 @@
 //! The memoized size of a file.
-ghost use Rattle.std.specs.Prelude.{◌≡◌, string_bytes, length, IfOk, IfErr, OnErr};
+ghost use Rattle.std.specs.Prelude.{◌≡◌, length, IfOk, IfErr, OnErr};
 ghost use Rattle.std.proofs.Common.{rules};
 ghost use Rattle.comemo.specs.Finish.{BrokeOff};
 ghost use Rattle.calc_files.specs.Size.{IsSizeOf, SizeReply};
@@ -7,6 +7,7 @@ ghost use Rattle.calc_files.specs.Joined.{same_answer};
 ghost use Rattle.calc_files.specs.Files.{text_at, answers_of, with_key};
 
 use crate::files::{FileCall, Files, JoinedAnswer, JoinedCall};
+use crate::text::Text;
 use comemo::{
     Begun, Breaking, CacheData, Fault, Hashed, How, Memo, Multi, MultiAnswer, MultiCall, Pending,
     Reply, Sink, Tracked, begin,
@@ -23,7 +24,7 @@ impl Memo for FileSize {
 
     type Key = (String, ());
 
-    type Answer = MultiAnswer<(), String>;
+    type Answer = MultiAnswer<(), Text>;
 
     type Out = u64;
 
@@ -43,8 +44,8 @@ impl Memo for FileSize {
 ///
 /// The size is that of the present text, on a hit as on a miss. `Memory` says that there was no memory for the answer:
 /// then the cache is as it was, and the sink is spoiled. A call, a hit too, finds the path by one hash look-up, and the
-/// text by binary search among those kept under the path; it takes memory for some copies of the path and the text. A
-/// run that is stored keeps the text, and the path where none was kept under it.
+/// text by binary search among those kept under the path; it takes memory for some copies of the path. A run that is
+/// stored keeps the text, which it shares, and the path where none was kept under it.
 pub fn size<S: Sink<Call = JoinedCall, Answer = JoinedAnswer>>(
     alloc: Global,
     cache: &mut CacheData<FileSize>,
@@ -53,7 +54,7 @@ pub fn size<S: Sink<Call = JoinedCall, Answer = JoinedAnswer>>(
     sink: &mut S,
 ) -> Result<Reply<u64>, Fault>
     ensures output { IfOk result (λ reply.
-        reply.output ≡ length (string_bytes (text_at files.now path.now))) }
+        reply.output ≡ length (text_at files.now path.now)) }
     ensures reply { IfOk result (λ reply. SizeReply files.now path.now cache.old
         (S.took sink.old sink.new) reply cache.new) }
     ensures fault { IfErr result (λ fault. fault ≡ Fault.Memory) }
