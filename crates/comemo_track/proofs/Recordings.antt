@@ -1,5 +1,5 @@
 -- How a recording takes one more call.
-use Rattle.std.proofs.Common.{◌≡◌, Bool, true, false, not, ◌||◌, List, [], ◌∷◌, ◌++◌, IsTrue, Result, Ok, Err, IfOk, OnErr, is_ok, refl, sym, ap, ◌∙◌, append-nil}
+use Rattle.std.proofs.Common.{◌≡◌, Bool, true, false, not, ◌||◌, List, [], ◌∷◌, ◌++◌, IsTrue, Result, Ok, Err, IfOk, OnErr, refl, sym, ap, ◌∙◌, append-nil}
 use Rattle.std.proofs.lemmas.List.Elements.{All-push}
 use Rattle.std.specs.Cmp.{IsEquivalence}
 use Rattle.std.specs.declared.alloc.AllocError.{AllocError}
@@ -42,8 +42,3 @@ took_none eq s t pairs writes whole = record { pairs = pairs; writes = writes �
 pub spoiled_at : {T E C R : Type 0} (eq : C → C → Bool) (r : Result T E) (s m t : Recording C R) → OnErr r (Took eq s m [] []) → t.pairs ≡ m.pairs → t.writes ≡ m.writes → OnErr r (t.whole ≡ false) → OnErr r (Spoiled s t)
 spoiled_at eq (Ok x) s m t taken pairs writes whole = tt
 spoiled_at eq (Err e) s m t taken pairs writes whole = record { pairs = pairs ∙ taken.pairs; writes = writes ∙ taken.writes ∙ append-nil s.writes; whole = whole }
-
--- what is false where something was refused
-pub false_at : {T E : Type 0} (r : Result T E) (b : Bool) → b ≡ is_ok r → OnErr r (b ≡ false)
-false_at (Ok x) b e = tt
-false_at (Err x) b e = e

@@ -103,8 +103,12 @@ impl<C: Call, R: Drop> Constraint<C, R> {
             whole,
         } = other;
         let absorbed = self.absorb_parts(reads, writes);
-        self.whole = self.whole && whole && absorbed.is_ok();
-        absorbed
+        if absorbed.is_err() {
+            self.whole = false;
+            return absorbed;
+        }
+        self.whole = self.whole && whole;
+        Ok(())
     }
 
     /// Adds reads and writes. An error says that there was no memory for them, and then nothing was added.
