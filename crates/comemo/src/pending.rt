@@ -263,7 +263,8 @@ fn copy_writes<C: Call>(writes: &Vec<C>) -> Result<Vec<C>, AllocError>
     ensures written { All (λ c. C.is_write c ≡ true) writes.now.items
         → IfOk result (λ copies. All (λ c. C.is_write c ≡ true) copies.items) }
 {
-    writes.clone()
+    let copies = writes.clone()?;
+    Ok(copies)
 }
 
 /// Clones of the pairs, the output and the writes of a run, so that the sink and the store, the caller and the store

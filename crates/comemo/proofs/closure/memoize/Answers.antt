@@ -1,5 +1,5 @@
-use Rattle.std.proofs.Common.{Ok, [], refl}
-use Rattle.comemo.proofs.Calls.{run_seen}
+use Rattle.std.proofs.Common.{Ok, [], refl, inl, inr}
+use Rattle.comemo.proofs.Calls.{run_seen, on_fault}
 use Rattle.comemo.proofs.Closures.{mapped, ran_from, ended, failed, left_broken}
 use Rattle.comemo.proofs.Sendings.{breaks_at_once}
 use Rattle.comemo.proofs.closure.memoize.Goals as goal
@@ -27,4 +27,4 @@ returns-clause-fault g c =
 pub returns-clause-err : goal.returns-clause-err
 returns-clause-err g c =
     let run = rw c.in-Run.is at c.in_ok-output.ensures.run in
-    left_broken run.0 g.In.Input.did g.P.Record.recorded _ c.args.input c.into_constraint.result _ (breaks_at_once g.met.S.Sink.starts c.args.sink.now _ []) _ c.func-ran.result (ran_from run.0 g.In.Input.did g.P.Record.recorded _ c.args.input c.into_constraint.result c.func-ran.result run.1 c.empty-recording.ensures.pairs c.empty-recording.ensures.writes c.empty-recording.ensures.whole c.func-ran.ensures c.into_constraint.ensures) c.into_constraint.result.whole refl c.end.result (rw run.2 at c.end.ensures.fault) (rw run.2 at c.end.ensures.spoils) (rw run.3 at (rw run.2 at c.end.ensures.err))
+    left_broken run.0 g.In.Input.did g.P.Record.recorded _ c.args.input c.into_constraint.result _ _ (breaks_at_once g.met.S.Sink.starts c.args.sink.now _ []) _ c.func-ran.result (ran_from run.0 g.In.Input.did g.P.Record.recorded _ c.args.input c.into_constraint.result c.func-ran.result run.1 c.empty-recording.ensures.pairs c.empty-recording.ensures.writes c.empty-recording.ensures.whole c.func-ran.ensures c.into_constraint.ensures) c.into_constraint.result.whole refl c.end.result (rw run.2 at c.end.ensures.fault) (rw run.2 at c.end.ensures.spoils) (rw run.3 at (rw run.2 at c.end.ensures.err))
