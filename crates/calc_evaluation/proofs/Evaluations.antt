@@ -1,5 +1,5 @@
 -- What a part of a script comes to where it calls another one, and what a run of a script learnt.
-use Rattle.std.proofs.Common.{◌≡◌, ◌≤◌, Bool, true, IsTrue, ℕ, List, [], ◌++◌, Result, Ok, Err, IsErrAnd, OnErr, ◌∙◌, ◌↔◌, ◌≢◌, String, string_bytes, string_eq, refl, sym, ap, subst, append-nil}
+use Rattle.std.proofs.Common.{◌≡◌, ◌≤◌, Bool, true, IsTrue, ℕ, List, [], ◌++◌, Result, Ok, Err, IsErrAnd, OnErr, ◌∙◌, ◌↔◌, ◌≢◌, String, string_bytes, refl, sym, ap, subst, append-nil}
 use Rattle.std.specs.Bool.{⊤}
 use Rattle.std.specs.Global.{Global}
 use Rattle.comemo.specs.Answers.{Respects, Agrees}
@@ -19,7 +19,7 @@ use Rattle.calc_scripts.specs.Parts.{IsEval}
 use Rattle.calc_scripts.proofs.Meanings.{means_map, deep_map, deep_is_too_deep}
 use Rattle.calc_scripts.specs.declared.outcome.Outcome.{Outcome}
 use Rattle.calc_files.specs.declared.files.Files.{Files}
-use Rattle.calc_files.specs.Files.{JoinedCall, JoinedAnswer, OnFiles, Reads, texts_of, with_key, text_at, answers_of}
+use Rattle.calc_files.specs.Files.{JoinedCall, JoinedAnswer, OnFiles, Reads, with_key, text_at, answers_of}
 use Rattle.calc_evaluation.specs.declared.evaluation.EvalFault.{EvalFault}
 use Rattle.calc_evaluation.specs.declared.evaluation.EvalFault.TheVariants.{TooDeep, Memory}
 use Rattle.calc_evaluation.specs.Evaluations.{At, ComesTo, PartComesTo, IsOutcome, Outcomes, evaluating}
@@ -43,7 +43,7 @@ pub learns_more : {s t : Recording JoinedCall JoinedAnswer} {P Q : (JoinedCall �
 learns_more learns more = record { before = learns.before; told = λ m f. more m (learns.told m f) }
 
 -- what was learnt holds of the files that fit
-pub of_files : (files : Files) {s t : Recording JoinedCall JoinedAnswer} {P : (FileCall → String Global) → Type 0} → Learns same_call same_answer s t (OnFiles P) → FilesFit files t → P (answers_of files)
+pub of_files : (files : Files) {s t : Recording JoinedCall JoinedAnswer} {P : (FileCall → List ℕ) → Type 0} → Learns same_call same_answer s t (OnFiles P) → FilesFit files t → P (answers_of files)
 of_files files learns fits = learns.told (with_key (answers_of files)) fits (answers_of files) (λ c. refl)
 
 -- nothing was recorded, and P holds whatever is answered
@@ -78,7 +78,7 @@ script_given files {reply = reply} same replied =
     subst (λ script. ComesTo (answers_of files) script reply.output) same ((replied.stands (with_key (answers_of files)) (files_respect files) replied.agrees).1 (answers_of files) (λ c. refl))
 
 -- a part that calls a script comes to what that script comes to
-pub part_called : (key text : String Global) {part path : List ℕ} {own : String Global} {outcome : Outcome} → IsEval part path → string_bytes own ≡ path → string_bytes key ≡ string_bytes text → (m : JoinedCall → JoinedAnswer) → OnFiles (λ n. string_bytes (n (Read own)) ≡ string_bytes text) m → OnFiles (λ n. ComesTo n (string_bytes key) outcome) m → OnFiles (λ n. PartComesTo n part outcome) m
+pub part_called : (key : String Global) (text : List ℕ) {part path : List ℕ} {own : String Global} {outcome : Outcome} → IsEval part path → string_bytes own ≡ path → string_bytes key ≡ text → (m : JoinedCall → JoinedAnswer) → OnFiles (λ n. n (Read own) ≡ text) m → OnFiles (λ n. ComesTo n (string_bytes key) outcome) m → OnFiles (λ n. PartComesTo n part outcome) m
 part_called key text {own = own} {outcome = outcome} is named same m told comes n second =
     is_eval is (own, named, told n second) (subst (λ script. ComesTo n script outcome) same (comes n second))
 
@@ -99,19 +99,19 @@ handed_on (Ok x) f g h e = absurd h
 handed_on (Err x) f g h e = sym h ∙ ap (fault_or f) e
 
 -- what is answered when a path is read is the text there
-pub reads : (files : Files) (path text : List ℕ) → At (answers_of files) path text → Reads (texts_of files) path text
-reads files path text (own, named, gives) = subst (λ p. string_bytes (text_at files p) ≡ text) named gives
+pub reads : (files : Files) (path text : List ℕ) → At (answers_of files) path text → Reads (text_at files) path text
+reads files path text (own, named, gives) = subst (λ p. text_at files p ≡ text) named gives
 
 -- what goes deeper than the limit is too deep for it
-pub too_deep : (files : Files) {script : List ℕ} {limit : ℕ} → Deep (At (answers_of files)) script limit → IsTooDeep (Reads (texts_of files)) script limit
-too_deep files deep = deep_is_too_deep (Reads (texts_of files)) (λ path text other is other_is. sym is ∙ other_is) (deep_map (At (answers_of files)) (Reads (texts_of files)) (reads files) deep)
+pub too_deep : (files : Files) {script : List ℕ} {limit : ℕ} → Deep (At (answers_of files)) script limit → IsTooDeep (Reads (text_at files)) script limit
+too_deep files deep = deep_is_too_deep (Reads (text_at files)) (λ path text other is other_is. sym is ∙ other_is) (deep_map (At (answers_of files)) (Reads (text_at files)) (reads files) deep)
 
 -- what has an outcome within the limit is not, so it is answered exactly where it is so
-pub exact_at_ok : {A : Type 0} (files : Files) {script : List ℕ} {limit : ℕ} {outcome : Outcome} {x : A} → ComesTo (answers_of files) script outcome → outcome.height ≤ limit → (let r : Result A EvalFault = Ok x in r) ≢ Err Memory → ((let r : Result A EvalFault = Ok x in r) ≡ Err TooDeep) ↔ IsTooDeep (Reads (texts_of files)) script limit
+pub exact_at_ok : {A : Type 0} (files : Files) {script : List ℕ} {limit : ℕ} {outcome : Outcome} {x : A} → ComesTo (answers_of files) script outcome → outcome.height ≤ limit → (let r : Result A EvalFault = Ok x in r) ≢ Err Memory → ((let r : Result A EvalFault = Ok x in r) ≡ Err TooDeep) ↔ IsTooDeep (Reads (text_at files)) script limit
 exact_at_ok files {outcome = outcome} comes_to low no_memory =
-    (λ e. absurd (let never : ⊥ = cc in never), λ deep. absurd (deep outcome.value outcome.height (means_map (At (answers_of files)) (Reads (texts_of files)) (reads files) comes_to) low))
+    (λ e. absurd (let never : ⊥ = cc in never), λ deep. absurd (deep outcome.value outcome.height (means_map (At (answers_of files)) (Reads (text_at files)) (reads files) comes_to) low))
 
-pub exact_at_fault : {A : Type 0} (files : Files) {script : List ℕ} {limit : ℕ} (r : Result A EvalFault) (f : EvalFault) → IsErrAnd r (λ e. e ≡ f) → (f ≡ TooDeep → Deep (At (answers_of files)) script limit) → r ≢ Err Memory → (r ≡ Err TooDeep) ↔ IsTooDeep (Reads (texts_of files)) script limit
+pub exact_at_fault : {A : Type 0} (files : Files) {script : List ℕ} {limit : ℕ} (r : Result A EvalFault) (f : EvalFault) → IsErrAnd r (λ e. e ≡ f) → (f ≡ TooDeep → Deep (At (answers_of files)) script limit) → r ≢ Err Memory → (r ≡ Err TooDeep) ↔ IsTooDeep (Reads (text_at files)) script limit
 exact_at_fault files (Ok x) f is deep no_memory = absurd is
 exact_at_fault files (Err TooDeep) f is deep no_memory = (λ _. too_deep files (deep (sym is)), λ _. refl)
 exact_at_fault files (Err Memory) f is deep no_memory = absurd (no_memory refl)

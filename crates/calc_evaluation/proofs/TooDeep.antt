@@ -3,9 +3,9 @@ use Rattle.std.proofs.Common.{ℕ, List}
 use Rattle.calc_scripts.specs.Meaning.{IsTooDeep}
 use Rattle.calc_scripts.proofs.Meanings.{means_map}
 use Rattle.calc_files.specs.declared.files.Files.{Files}
-use Rattle.calc_files.specs.Files.{Reads, texts_of, answers_of}
+use Rattle.calc_files.specs.Files.{Reads, text_at, answers_of}
 use Rattle.calc_evaluation.specs.Evaluations.{At}
 use Rattle.calc_evaluation.proofs.Evaluations.{reads}
 
-pub too_deep_by_answers : (files : Files) {script : List ℕ} {limit : ℕ} → IsTooDeep (Reads (texts_of files)) script limit → IsTooDeep (At (answers_of files)) script limit
-too_deep_by_answers files deep v h is low = deep v h (means_map (At (answers_of files)) (Reads (texts_of files)) (reads files) is) low
+pub too_deep_by_answers : (files : Files) {script : List ℕ} {limit : ℕ} → IsTooDeep (Reads (text_at files)) script limit → IsTooDeep (At (answers_of files)) script limit
+too_deep_by_answers files deep v h is low = deep v h (means_map (At (answers_of files)) (Reads (text_at files)) (reads files) is) low

@@ -13,19 +13,19 @@ use Rattle.calc_files.specs.declared.files.FileCall.{FileCall}
 use Rattle.calc_files.specs.declared.files.FileCall.TheVariants.{Read}
 
 -- the text at a path is what is answered when that path is read
-abbrev pub At : (FileCall → String Global) → List ℕ → List ℕ → Type 0
-At m path text = (own : String Global) × (string_bytes own ≡ path) × (string_bytes (m (Read own)) ≡ text)
+abbrev pub At : (FileCall → List ℕ) → List ℕ → List ℕ → Type 0
+At m path text = (own : String Global) × (string_bytes own ≡ path) × (m (Read own) ≡ text)
 
 -- the script comes to this
-abbrev pub ComesTo : (FileCall → String Global) → List ℕ → Outcome → Type 0
+abbrev pub ComesTo : (FileCall → List ℕ) → List ℕ → Outcome → Type 0
 ComesTo m script outcome = Means (At m) script outcome.value outcome.height
 
 -- a part of a script comes to this
-abbrev pub PartComesTo : (FileCall → String Global) → List ℕ → Outcome → Type 0
+abbrev pub PartComesTo : (FileCall → List ℕ) → List ℕ → Outcome → Type 0
 PartComesTo m part outcome = PartMeans (At m) part outcome.value outcome.height
 
 -- the part calls a script that goes deeper than the limit
-abbrev pub CallsDeep : (FileCall → String Global) → List ℕ → ℕ → Type 0
+abbrev pub CallsDeep : (FileCall → List ℕ) → List ℕ → ℕ → Type 0
 CallsDeep m part limit = (path text : List ℕ) × IsEval part path × At m path text × Deep (At m) text limit
 
 -- what the memoized function means: there are no writes, and the script comes to the outcome, at the files' answers alone

@@ -14,12 +14,12 @@ ghost use Rattle.calc_scripts.specs.Kinds.{IsPart};
 ghost use Rattle.calc_scripts.specs.Meaning.{Deep, IsTooDeep};
 ghost use Rattle.calc_scripts.specs.Calls.{CallLeads, CallFails, PartLeads, PartFails, RunLeads, RunFails};
 ghost use Rattle.calc_files.specs.Joined.{same_call, same_answer, with_files};
-ghost use Rattle.calc_files.specs.Files.{OnFiles, Reads, texts_of, answers_of, with_key};
+ghost use Rattle.calc_files.specs.Files.{OnFiles, Reads, text_at, answers_of, with_key};
 ghost use Rattle.calc_evaluation.specs.Evaluations.{At, ComesTo, PartComesTo, CallsDeep, IsOutcome, evaluating};
 ghost use Rattle.calc_files.specs.Joined.{FilesFit};
 ghost use Rattle.calc_evaluation.specs.Calls.{moves, EvalReply};
 
-use calc_files::{FileCall, Files, JoinedAnswer, JoinedCall};
+use calc_files::{FileCall, Files, JoinedAnswer, JoinedCall, Text};
 use calc_scripts::{CalcFault, Outcome, Part, Parts, Total};
 use comemo::{
     Begun, Breaking, CacheData, Constraint, Hashed, How, Memo, Multi, MultiAnswer, MultiCall,
@@ -37,7 +37,7 @@ impl Memo for Eval {
 
     type Key = (String, ());
 
-    type Answer = MultiAnswer<(), String>;
+    type Answer = MultiAnswer<(), Text>;
 
     type Out = Outcome;
 
@@ -244,7 +244,7 @@ fn evaluate_within(
 ///
 /// Each call, a nested one and a hit too, finds the script by one hash look-up, and follows one stored path: it finds
 /// the text of each file on it by binary search among the texts that are kept at its place. It copies the script, and
-/// the text of each such file. Runs nest on the stack, at most `limit` of them. comemo's example `calc` has `evaluate`
+/// the path of each such file; their texts are shared. Runs nest on the stack, at most `limit` of them. comemo's example `calc` has `evaluate`
 /// with neither a limit nor faults.
 pub fn evaluate<S: Sink<Call = JoinedCall, Answer = JoinedAnswer>>(
     alloc: Global,
@@ -263,7 +263,7 @@ pub fn evaluate<S: Sink<Call = JoinedCall, Answer = JoinedAnswer>>(
     ensures failed { OnErr result (CallFails (At (answers_of files.now)) (moves files.now)
         script.now cache.old cache.new) }
     ensures too_deep { result ≢ Err EvalFault.Memory → (result ≡ Err EvalFault.TooDeep)
-        ↔ IsTooDeep (Reads (texts_of files.now)) script.now limit }
+        ↔ IsTooDeep (Reads (text_at files.now)) script.now limit }
     ensures err { OnErr result (BrokeOff same_answer (with_key (answers_of files.now))
         (⟦<S as Breaking>⟧.breaks_off sink.old sink.new)) }
 {

@@ -1,5 +1,6 @@
 -- The calls of files are told apart by their paths, and texts by their bytes.
-use Rattle.std.proofs.Common.{◌≡◌, ◌&&◌, true, IsTrue, String, string_bytes, string_eq, rules}
+use Rattle.std.proofs.Common.{◌≡◌, ◌&&◌, true, ℕ, List, IsTrue, String, string_bytes, string_eq, rules}
+use Rattle.std.specs.Prelude.{bytes_eq}
 use Rattle.std.specs.Cmp.{IsEquivalence}
 use Rattle.std.specs.Global.{Global}
 use Rattle.comemo.specs.Answers.{Respects}
@@ -18,13 +19,16 @@ same_text a b h = search rules
 pub key_bytes : (a b : String Global) → IsTrue (string_eq a b && true) → string_bytes a ≡ string_bytes b
 key_bytes a b h = search rules
 
-pub same_texts : IsEquivalence (string_eq {Z = Global})
+pub same_shared : (a b : List ℕ) → IsTrue (bytes_eq a b) → a ≡ b
+same_shared a b h = search rules
+
+pub same_texts : IsEquivalence bytes_eq
 same_texts = search rules
 
 pub same_calls : IsEquivalence ghosts.eq
 same_calls = search rules
 
-pub answers_alike : (files : Files) → Respects ghosts.eq string_eq (answers_of files)
+pub answers_alike : (files : Files) → Respects ghosts.eq bytes_eq (answers_of files)
 answers_alike files (Read p) (Read q) h = search rules
 
 pub key_alike : (a b : String Global) → string_bytes a ≡ string_bytes b → IsTrue (string_eq a b && true)

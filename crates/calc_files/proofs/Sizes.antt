@@ -1,5 +1,6 @@
 -- The size that a run finds stands for all answers that agree with its recording.
-use Rattle.std.proofs.Common.{◌≡◌, ◌∙◌, ℕ, true, List, [], ◌∷◌, Result, Ok, Err, IfOk, OnErr, refl, subst, inr, String, string_bytes, string_eq, length, sym, ap}
+use Rattle.std.proofs.Common.{◌≡◌, ◌∙◌, ℕ, true, List, [], ◌∷◌, Result, Ok, Err, IfOk, OnErr, refl, subst, inr, String, string_bytes, length, sym, ap}
+use Rattle.std.specs.Prelude.{bytes_eq}
 use Rattle.std.specs.Bool.{⊤}
 use Rattle.std.specs.Global.{Global}
 use Rattle.comemo.specs.Answers.{Respects, Agrees}
@@ -24,22 +25,22 @@ use Rattle.calc_files.specs.Joined.{same_call, same_answer, with_files}
 use Rattle.calc_files.specs.Joined.{FilesFit}
 use Rattle.calc_files.specs.Size.{IsSizeOf, ReadsAlone, SizeReply, Sizes, sizing}
 use Rattle.calc_files.proofs.WhatReadsTell.{files_fit_none, fits_read, learns_read, writes_read, text_read}
-use Rattle.calc_files.proofs.FileCalls.{same_bytes, same_text, key_bytes}
+use Rattle.calc_files.proofs.FileCalls.{same_shared, same_text, key_bytes}
 use Rattle.calc_files.proofs.JoinedCalls.{tests}
 
-module _ (files : Files) {own text : String Global} {s t : Recording JoinedCall JoinedAnswer} (asks : Asks string_eq (answers_of files) (Read own) text (Through second_call second_answer (Took same_call s t))) (whole : s.whole ≡ true) (none : s.pairs ≡ []) where
+module _ (files : Files) {own : String Global} {text : List ℕ} {s t : Recording JoinedCall JoinedAnswer} (asks : Asks bytes_eq (answers_of files) (Read own) text (Through second_call second_answer (Took same_call s t))) (whole : s.whole ≡ true) (none : s.pairs ≡ []) where
   -- the files fit what a run has recorded that read one text
   pub size_fits : FilesFit files t
   size_fits = fits_read files asks (files_fit_none files s whole none)
 
   -- the length of that text is the size wherever the recording agrees
-  pub size_stands : s.writes ≡ [] → (key : String Global × ⊤) → string_bytes own ≡ string_bytes key.0 → {output : ℕ} → output ≡ length (string_bytes text) → t.whole ≡ true → (m : JoinedCall → JoinedAnswer) → Respects same_call same_answer m → Agrees same_answer m t.pairs → IsSizeOf key m output t.writes
+  pub size_stands : s.writes ≡ [] → (key : String Global × ⊤) → string_bytes own ≡ string_bytes key.0 → {output : ℕ} → output ≡ length text → t.whole ≡ true → (m : JoinedCall → JoinedAnswer) → Respects same_call same_answer m → Agrees same_answer m t.pairs → IsSizeOf key m output t.writes
   size_stands unwritten key named long ended m respects agrees = (
     writes_read files asks ∙ unwritten,
     λ n second.
         let told = (learns_read files asks (files_fit_none files s whole none)).told m (record { whole = ended; respects = respects; agrees = agrees }) n second in
         let alike = second_respects same_call same_answer m n respects second (Read own) (Read key.0) (same_text own key.0 named) in
-        long ∙ ap length (sym told ∙ same_bytes (n (Read own)) (n (Read key.0)) alike),
+        long ∙ ap length (sym told ∙ same_shared (n (Read own)) (n (Read key.0)) alike),
   )
 
   -- the recording is that read
@@ -47,8 +48,8 @@ module _ (files : Files) {own text : String Global} {s t : Recording JoinedCall 
   read_alone named = (own, asks.noted, named, asks.sent.pairs ∙ ap (λ ps. absorbed same_call ps ((second_call (Read own), second_answer asks.noted) ∷ [])) none)
 
   -- its text is the one at the path
-  pub size_read : {path : List ℕ} → string_bytes own ≡ path → length (string_bytes text) ≡ length (string_bytes (text_at files path))
-  size_read named = ap length (sym (text_read files asks) ∙ ap (λ p. string_bytes (text_at files p)) named)
+  pub size_read : {path : List ℕ} → string_bytes own ≡ path → length text ≡ length (text_at files path)
+  size_read named = ap length (sym (text_read files asks) ∙ ap (text_at files) named)
 
 -- a hit is replied so
 pub size_by_hit : (files : Files) {path : List ℕ} {es es' : Sizes} {key : String Global} {done : List JoinedCall → Type 0} {sent : List (JoinedCall × JoinedAnswer) → List JoinedCall → Type 0} {output : ℕ} → string_bytes key ≡ path → IsHit sizing es (with_files key files) done sent output → Touches es es' → SizeReply files path es sent (record { output = output; how = how.Hit }) es'
@@ -60,8 +61,8 @@ size_by_hit files {es = es} {es' = es'} {key = key} names hit touched = record {
 }
 
 -- a run that read one text and was finished with its length is replied so
-pub size_by_run : (files : Files) {path : List ℕ} {es es' : Sizes} {key own text : String Global} {begun : PendingRun (String Global × ⊤) JoinedCall JoinedAnswer} {s t : Recording JoinedCall JoinedAnswer} {sent : List (JoinedCall × JoinedAnswer) → List JoinedCall → Type 0} {output : ℕ} {reply : Reply ℕ}
-    → string_bytes key ≡ path → IsRun sizing es (with_files key files) begun → s ≡ begun.recording → string_bytes own ≡ path → Asks string_eq (answers_of files) (Read own) text (Through second_call second_answer (Took same_call s t)) → output ≡ length (string_bytes text)
+pub size_by_run : (files : Files) {path : List ℕ} {es es' : Sizes} {key own : String Global} {text : List ℕ} {begun : PendingRun (String Global × ⊤) JoinedCall JoinedAnswer} {s t : Recording JoinedCall JoinedAnswer} {sent : List (JoinedCall × JoinedAnswer) → List JoinedCall → Type 0} {output : ℕ} {reply : Reply ℕ}
+    → string_bytes key ≡ path → IsRun sizing es (with_files key files) begun → s ≡ begun.recording → string_bytes own ≡ path → Asks bytes_eq (answers_of files) (Read own) text (Through second_call second_answer (Took same_call s t)) → output ≡ length text
     → Finished sizing es (recorded begun t) sent output reply es' → SizeReply files path es sent reply es'
 size_by_run files {es = es} {es' = es'} {key = key} {begun = begun} {t = t} {output = output} {reply = reply} names run is named asks long finished =
     let whole = subst (λ r. r.whole ≡ true) (sym is) run.whole in

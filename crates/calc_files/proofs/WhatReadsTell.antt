@@ -1,5 +1,6 @@
 -- What a read of the files tells a recording, and what a sink was told that was broken off.
-use Rattle.std.proofs.Common.{◌≡◌, Bool, true, IsTrue, List, [], Result, Ok, Err, OnErr, ◌∙◌, String, string_bytes, string_eq, refl, sym, subst, append-nil}
+use Rattle.std.proofs.Common.{◌≡◌, Bool, true, IsTrue, List, [], Result, Ok, Err, OnErr, ◌∙◌, ℕ, String, refl, sym, subst, append-nil}
+use Rattle.std.specs.Prelude.{bytes_eq}
 use Rattle.std.specs.Global.{Global}
 use Rattle.comemo.specs.Answers.{Respects, Agrees}
 use Rattle.comemo.specs.Function.{Learns}
@@ -15,7 +16,7 @@ use Rattle.calc_files.specs.declared.files.Files.{Files}
 use Rattle.calc_files.specs.declared.files.FileCall.TheVariants.{Read}
 use Rattle.calc_files.specs.Files.{JoinedCall, JoinedAnswer, OnFiles, with_key, answers_of}
 use Rattle.calc_files.specs.Joined.{FilesFit, same_call, same_answer}
-use Rattle.calc_files.proofs.FileCalls.{same_bytes, answers_alike}
+use Rattle.calc_files.proofs.FileCalls.{same_shared, answers_alike}
 use Rattle.calc_files.proofs.JoinedCalls.{tests}
 
 -- what a key joined with files answers tells no equal calls apart
@@ -31,7 +32,7 @@ files_fit_none files s whole none = record {
 }
 
 -- what a read of the files gave a recording
-module _ (files : Files) {s t : Recording JoinedCall JoinedAnswer} {own text : String Global} (asks : Asks string_eq (answers_of files) (Read own) text (Through second_call second_answer (Took same_call s t))) where
+module _ (files : Files) {s t : Recording JoinedCall JoinedAnswer} {own : String Global} {text : List ℕ} (asks : Asks bytes_eq (answers_of files) (Read own) text (Through second_call second_answer (Took same_call s t))) where
   pub asked : Asks same_answer (with_key (answers_of files)) (second_call (Read own)) (second_answer text) (Took same_call s t)
   asked = asked_through same_answer second_call second_answer (answers_of files) (with_key (answers_of files)) (Read own) text refl (λ x y. refl) asks
 
@@ -43,17 +44,17 @@ module _ (files : Files) {s t : Recording JoinedCall JoinedAnswer} {own text : S
   fits_read fits = record { whole = asked.sent.whole ∙ fits.whole; respects = fits.respects; agrees = (read fits.agrees).agrees }
 
   -- what was read is what is answered to the read
-  pub learns_read : FilesFit files s → Learns same_call same_answer s t (OnFiles (λ n. string_bytes (n (Read own)) ≡ string_bytes text))
+  pub learns_read : FilesFit files s → Learns same_call same_answer s t (OnFiles (λ n. n (Read own) ≡ text))
   learns_read fits = record {
     before = λ m f. record { whole = sym asked.sent.whole ∙ f.whole; respects = f.respects; agrees = (read fits.agrees).before m f.respects f.agrees };
-    told = λ m f part second. same_bytes (part (Read own)) text (subst (λ a. IsTrue (same_answer a (second_answer text))) (second (Read own)) ((read fits.agrees).told m f.respects f.agrees));
+    told = λ m f part second. same_shared (part (Read own)) text (subst (λ a. IsTrue (same_answer a (second_answer text))) (second (Read own)) ((read fits.agrees).told m f.respects f.agrees));
   }
 
   pub writes_read : t.writes ≡ s.writes
   writes_read = asked.sent.writes ∙ append-nil s.writes
 
-  pub text_read : string_bytes (answers_of files (Read own)) ≡ string_bytes text
-  text_read = same_bytes (answers_of files (Read own)) text asks.gives
+  pub text_read : answers_of files (Read own) ≡ text
+  text_read = same_shared (answers_of files (Read own)) text asks.gives
 
 pub on_err : {A E P : Type 0} (r : Result A E) → P → OnErr r P
 on_err (Ok x) p = tt

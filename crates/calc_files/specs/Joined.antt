@@ -2,9 +2,6 @@
 use Rattle.std.specs.Prelude.{◌≡◌, Bool, true, false, ◌&&◌, ⊤, List, String, string_eq}
 use Rattle.std.specs.Global.{Global}
 use Rattle.std.specs.contracts.prelude.UnitPartialEq.TheImpl as unit
-use Rattle.std.specs.contracts.string.String as string
-use Rattle.std.specs.contracts.alloc.Global as global
-use Rattle.std.specs.contracts.impls.GlobalAllocator.TheImpl as allocator
 use Rattle.comemo_track.specs.contracts.multi.MultiCallPartialEq.TheImpl as multi_call
 use Rattle.comemo_track.specs.contracts.multi.MultiAnswerPartialEq.TheImpl as multi_answer
 use Rattle.comemo.specs.Meaning.{Meaning, Invocation, invocation}
@@ -14,6 +11,8 @@ use Rattle.comemo.specs.Recording.{Recording}
 use Rattle.calc_files.specs.declared.files.Files.{Files}
 use Rattle.calc_files.specs.contracts.files.FileCall as file_call
 use Rattle.calc_files.specs.contracts.files.FileCallPartialEq.TheImpl as call
+use Rattle.calc_files.specs.contracts.text.Text as text
+use Rattle.calc_files.specs.contracts.text.TextPartialEq.TheImpl as same_text
 use Rattle.calc_files.specs.Files.{JoinedCall, JoinedAnswer, answers_of, with_key}
 
 -- the derived tests of joined calls, of their answers, and of keys
@@ -21,7 +20,7 @@ abbrev pub same_call : JoinedCall → JoinedCall → Bool
 same_call = (multi_call.ghosts denote.Builtin.unit file_call.the_row unit.ghosts unit.dict call.ghosts call.dict).eq
 
 abbrev pub same_answer : JoinedAnswer → JoinedAnswer → Bool
-same_answer = (multi_answer.ghosts denote.Builtin.unit (string.the_row global.the_row allocator.ghosts) unit.ghosts unit.dict (record { eq = string_eq }) unit.dict).eq
+same_answer = (multi_answer.ghosts denote.Builtin.unit text.the_row unit.ghosts unit.dict same_text.ghosts same_text.dict).eq
 
 abbrev pub same_key : String Global × ⊤ → String Global × ⊤ → Bool
 same_key a b = string_eq a.0 b.0 && true

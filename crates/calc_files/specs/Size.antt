@@ -14,8 +14,8 @@ use Rattle.calc_files.specs.declared.files.FileCall.{FileCall}
 use Rattle.calc_files.specs.declared.files.FileCall.TheVariants.{Read}
 
 -- the length in bytes of what is answered for the path
-abbrev pub IsSize : String Global → (FileCall → String Global) → ℕ → Type 0
-IsSize path m out = out ≡ length (string_bytes (m (Read path)))
+abbrev pub IsSize : String Global → (FileCall → List ℕ) → ℕ → Type 0
+IsSize path m out = out ≡ length (m (Read path))
 
 -- what the memoized function means: there are no writes, and the output is that length, at the files' answers alone
 abbrev pub IsSizeOf : String Global × ⊤ → (JoinedCall → JoinedAnswer) → ℕ → List JoinedCall → Type 0
@@ -31,7 +31,7 @@ Sizes = Entries (String Global × ⊤) JoinedCall JoinedAnswer ℕ
 -- one read, of the file at the path
 abbrev pub ReadsAlone : List ℕ → List (JoinedCall × JoinedAnswer) → Type 0
 ReadsAlone path pairs =
-    (own text : String Global) × (string_bytes own ≡ path) × (pairs ≡ (second_call (Read own), second_answer text) ∷ [])
+    (own : String Global) × (text : List ℕ) × (string_bytes own ≡ path) × (pairs ≡ (second_call (Read own), second_answer text) ∷ [])
 
 -- the reply to a call at a path: by an entry of es that agrees with the files; or none of them did, and a run read the file at
 -- the path, and nothing else

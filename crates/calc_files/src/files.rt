@@ -1,5 +1,5 @@
 //! Files in memory, as a tracked value.
-ghost use Rattle.std.specs.Prelude.{◌≡◌, ℕ, List, [], false, refl, String, string_bytes, string_eq, bytes_eq, if◌then◌else◌, IfOk, OnOk, OnErr};
+ghost use Rattle.std.specs.Prelude.{◌≡◌, ℕ, List, [], false, refl, String, string_bytes, bytes_eq, if◌then◌else◌, IfOk, OnOk, OnErr};
 ghost use Rattle.std.proofs.Common.{rules};
 ghost use Rattle.std.specs.Global.{Global};
 ghost use Rattle.comemo.specs.Sending.{Asks};
@@ -7,6 +7,7 @@ ghost use Rattle.comemo.specs.Mapped.{Through};
 ghost use Rattle.comemo.specs.Multi.{second_call, second_answer};
 ghost use Rattle.calc_files.specs.declared.files.FileCall.TheVariants.{Read};
 
+use crate::text::Text;
 use comemo::{Call, MultiAnswer, MultiCall, Second, Sink, Track, Tracked};
 use std::alloc::{AllocError, Global};
 use std::collections::HashMap;
@@ -23,7 +24,7 @@ pub enum FileCall {
 pub type JoinedCall = MultiCall<(), FileCall>;
 
 /// An answer of a key joined with the files: a text.
-pub type JoinedAnswer = MultiAnswer<(), String>;
+pub type JoinedAnswer = MultiAnswer<(), Text>;
 
 impl Call for FileCall {
     ghost is_write = { λ _. false };
@@ -39,13 +40,13 @@ impl Call for FileCall {
 
 /// Files in memory: a text for each path. A file that was never written is empty.
 ///
-/// As a tracked value it answers each read with a copy of the text, and refuses only where there is no memory for that.
-/// Paths are told apart by their bytes alone. comemo's example `calc` has `Files`, whose paths are `PathBuf`s.
+/// As a tracked value it answers each read with a clone of the text, which shares its bytes. Paths are told apart by
+/// their bytes alone. comemo's example `calc` has `Files`, whose paths are `PathBuf`s.
 #[derive(Drop)]
 pub struct Files {
-    texts: HashMap<String, String>,
-    missing: String,
-    ghost empty: { string_bytes missing ≡ [] },
+    texts: HashMap<String, Text>,
+    missing: Text,
+    ghost empty: { missing ≡ [] },
 }
 
 impl Files {
@@ -53,16 +54,16 @@ impl Files {
 
     /// No files. It takes no memory.
     pub fn new(alloc: Global) -> Self
-        ensures { (path : List ℕ) → string_bytes (text_at result path) ≡ [] }
+        ensures { (path : List ℕ) → text_at result path ≡ [] }
     {
         Files {
             texts: HashMap::new(alloc),
-            missing: String::new(alloc),
+            missing: Text::empty(),
         }
     }
 
     /// The text of the file at a path.
-    fn text(&self, path: &str) -> &String
+    fn text(&self, path: &str) -> &Text
         ensures { result.now ≡ text_at self.now path.now }
     {
         match self.texts.get(path) {
@@ -73,15 +74,15 @@ impl Files {
 
     /// Writes a text to the file at a path, in the place of any text before it.
     ///
-    /// An error says that there was no memory; then the files are as they were, and the path and the text are gone. It
-    /// copies neither; beside the time to hash the path it takes constant expected time, over many writes. `write` of
-    /// `Files` in comemo's example `calc`.
+    /// From here on the text is shared. An error says that there was no memory; then the files are as they were, and the
+    /// path and the text are gone. It copies neither; beside the time to hash the path it takes constant expected time,
+    /// over many writes. `write` of `Files` in comemo's example `calc`.
     pub fn write(&mut self, path: String, text: String) -> Result<(), AllocError>
         ensures ok { OnOk result ((q : List ℕ) → text_at self.new q
-            ≡ (if bytes_eq q (string_bytes path) then text else text_at self.old q)) }
+            ≡ (if bytes_eq q (string_bytes path) then string_bytes text else text_at self.old q)) }
         ensures err { OnErr result ((q : List ℕ) → text_at self.new q ≡ text_at self.old q) }
     {
-        match self.texts.insert(path, text) {
+        match self.texts.insert(path, Text::new(text)?) {
             Ok(_) => Ok(()),
             Err(_) => Err(AllocError),
         }
@@ -89,16 +90,16 @@ impl Files {
 
     /// The text of the file at a path, asked of a view, into a recording of a key joined with the files.
     ///
-    /// It copies the path, and the text once for the caller and once for the sink. An error says that there was no
-    /// memory for those or in the sink; then the sink is as it was. `read` of `Files` in comemo's example `calc`.
+    /// It copies the path, and shares the text with the caller and with the sink. An error says that there was no memory
+    /// for the path or in the sink; then the sink is as it was. `read` of `Files` in comemo's example `calc`.
     pub fn read<S: Sink<Call = JoinedCall, Answer = JoinedAnswer>>(
         alloc: Global,
         view: &Tracked<'_, Files>,
         path: &str,
         sink: &mut S,
-    ) -> Result<String, AllocError>
+    ) -> Result<Text, AllocError>
         ensures { IfOk result (λ text. (own : String Global) × (string_bytes own ≡ path.now)
-            × Asks string_eq (answers_of view.now) (Read own) text
+            × Asks bytes_eq (answers_of view.now) (Read own) text
             (Through second_call second_answer (S.took sink.old sink.new))) }
     {
         let own = String::from_str(alloc, path)?;
@@ -110,7 +111,7 @@ impl Files {
 impl Track for Files {
     type Call = FileCall;
 
-    type Answer = String;
+    type Answer = Text;
 
     ghost use Rattle.calc_files.specs.Files.{answers_of};
 
@@ -120,7 +121,7 @@ impl Track for Files {
 
     ghost clones = { λ x y h. Prim.search rules };
 
-    fn ask(&self, call: &FileCall) -> Result<String, AllocError> {
+    fn ask(&self, call: &FileCall) -> Result<Text, AllocError> {
         match call {
             FileCall::Read(path) => self.text(path.as_str()).clone(),
         }

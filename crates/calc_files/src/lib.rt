@@ -18,6 +18,8 @@
 
 pub mod files;
 pub mod measure;
+pub mod text;
 
 pub use files::{FileCall, Files, JoinedAnswer, JoinedCall};
 pub use measure::{FileSize, size};
+pub use text::Text;

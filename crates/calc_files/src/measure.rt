@@ -1,5 +1,5 @@
 //! The memoized size of a file.
-ghost use Rattle.std.specs.Prelude.{◌≡◌, string_bytes, length, IfOk, IfErr, OnErr};
+ghost use Rattle.std.specs.Prelude.{◌≡◌, length, IfOk, IfErr, OnErr};
 ghost use Rattle.std.proofs.Common.{rules};
 ghost use Rattle.comemo.specs.Finish.{BrokeOff};
 ghost use Rattle.comemo.specs.MeaningLaws.{none_alike};
@@ -8,6 +8,7 @@ ghost use Rattle.calc_files.specs.Joined.{same_answer};
 ghost use Rattle.calc_files.specs.Files.{text_at, answers_of, with_key};
 
 use crate::files::{FileCall, Files, JoinedAnswer, JoinedCall};
+use crate::text::Text;
 use comemo::{
     Begun, Breaking, CacheData, Fault, Hashed, How, Memo, Multi, MultiAnswer, MultiCall, Pending,
     Reply, Sink, Tracked, begin,
@@ -24,7 +25,7 @@ impl Memo for FileSize {
 
     type Key = (String, ());
 
-    type Answer = MultiAnswer<(), String>;
+    type Answer = MultiAnswer<(), Text>;
 
     type Out = u64;
 
@@ -55,7 +56,7 @@ pub fn size<S: Sink<Call = JoinedCall, Answer = JoinedAnswer>>(
     sink: &mut S,
 ) -> Result<Reply<u64>, Fault>
     ensures output { IfOk result (λ reply.
-        reply.output ≡ length (string_bytes (text_at files.now path.now))) }
+        reply.output ≡ length (text_at files.now path.now)) }
     ensures reply { IfOk result (λ reply. SizeReply files.now path.now cache.old
         (S.took sink.old sink.new) reply cache.new) }
     ensures fault { IfErr result (λ fault. fault ≡ Fault.Memory) }

@@ -1,6 +1,5 @@
 -- What a line prints, by the text that was made for it.
-use Rattle.std.proofs.Common.{◌≡◌, Bool, true, false, ℕ, List, Result, Ok, Err, IfOk, String, string_bytes, refl, sym, subst}
-use Rattle.std.specs.Prelude.{if◌then◌else◌}
+use Rattle.std.proofs.Common.{◌≡◌, ℕ, List, Result, Ok, Err, IfOk, String, string_bytes, sym, subst}
 use Rattle.std.specs.Global.{Global}
 use Rattle.calc_commands.specs.Requests.{Request, IsLineOf, IsNoCommand}
 use Rattle.calc_commands.specs.Printed.{printed, bad_command}
@@ -16,8 +15,3 @@ module _ {E : Type 0} {before after : Texts} (line : List ℕ) where
   pub prints_bad : (r : Result (String Global) E) → IsNoCommand line → Same before after → IfOk r (λ text. string_bytes text ≡ bad_command) → IfOk r (λ text. Prints before line (string_bytes text) after)
   prints_bad (Ok text) none stay same = subst (λ output. Prints before line output after) (sym same) (is_bad none stay)
   prints_bad (Err e) none stay same = tt
-
--- the bytes of one of two texts
-pub bytes_of_either : (b : Bool) (x y : String Global) → string_bytes (if b then x else y) ≡ (if b then string_bytes x else string_bytes y)
-bytes_of_either true x y = refl
-bytes_of_either false x y = refl

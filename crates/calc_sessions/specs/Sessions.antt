@@ -8,11 +8,11 @@ use Rattle.calc_commands.specs.declared.answer.Answer.{Answer}
 use Rattle.calc_commands.specs.declared.answer.Answer.TheVariants as answer
 use Rattle.calc_scripts.specs.Meaning.{Value, Means, IsTooDeep}
 use Rattle.calc_sessions.specs.declared.state.State.{State}
-use Rattle.calc_files.specs.Files.{Texts, texts_of, Reads}
+use Rattle.calc_files.specs.Files.{Texts, text_at, Reads}
 
 -- the texts of a session's files
 abbrev pub texts_in : State → Texts
-texts_in state = texts_of state.files
+texts_in state = text_at state.files
 
 abbrev pub Same : Texts → Texts → Type 0
 Same before after = (path : List ℕ) → after path ≡ before path

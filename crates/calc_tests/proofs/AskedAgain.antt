@@ -1,5 +1,5 @@
 -- For a caller of `size`: a size that was stored is found again, as long as the text at the path is the same.
-use Rattle.std.proofs.Common.{◌≡◌, ◌≢◌, ◌∙◌, Bool, not, ℕ, List, [], ◌∷◌, ◌++◌, IsTrue, is_some, String, string_bytes, string_eq, refl, sym, subst, inl, inr, rules}
+use Rattle.std.proofs.Common.{◌≡◌, ◌≢◌, ◌∙◌, Bool, not, ℕ, List, [], ◌∷◌, ◌++◌, IsTrue, is_some, String, string_bytes, refl, sym, subst, inl, inr, rules}
 use Rattle.std.specs.Prelude.{bytes_eq, if◌then◌else◌}
 use Rattle.std.specs.Bool.{⊤}
 use Rattle.std.specs.Cmp.{IsEquivalence}
@@ -61,11 +61,11 @@ module _ {C R : Type 0} {eq : C → C → Bool} {same : R → R → Bool} (calls
       subst (λ ps. Agrees same m ps) (sym n.2) (agrees_both n.0 (outside eq n.0 s) front (agrees_filter (λ p. not (is_some (lookup (eq p.0) n.0))) s a))
 
 -- the same read is answered alike where the text at its path is the same
-read_again : (files files' : Files) (path : List ℕ) (own text : String Global) → string_bytes own ≡ path → text_at files' path ≡ text_at files path → (pairs : List (JoinedCall × JoinedAnswer)) → pairs ≡ (second_call (Read own), second_answer text) ∷ [] → Agrees same_answer (with_key (answers_of files)) pairs → Agrees same_answer (with_key (answers_of files')) pairs
+read_again : (files files' : Files) (path : List ℕ) (own : String Global) (text : List ℕ) → string_bytes own ≡ path → text_at files' path ≡ text_at files path → (pairs : List (JoinedCall × JoinedAnswer)) → pairs ≡ (second_call (Read own), second_answer text) ∷ [] → Agrees same_answer (with_key (answers_of files)) pairs → Agrees same_answer (with_key (answers_of files')) pairs
 read_again files files' path own text named stays pairs alone agrees =
     let there : text_at files' (string_bytes own) ≡ text_at files (string_bytes own) = subst (λ p. text_at files' p ≡ text_at files p) (sym named) stays in
     let was : Agrees same_answer (with_key (answers_of files)) ((second_call (Read own), second_answer text) ∷ []) = subst (λ ps. Agrees same_answer (with_key (answers_of files)) ps) alone agrees in
-    subst (λ ps. Agrees same_answer (with_key (answers_of files')) ps) (sym alone) (subst (λ t. IsTrue (string_eq t text)) (sym there) was.0, tt)
+    subst (λ ps. Agrees same_answer (with_key (answers_of files')) ps) (sym alone) (subst (λ t. IsTrue (bytes_eq t text)) (sym there) was.0, tt)
 
 -- what was stored is found
 pub stored_is_found : {files files' : Files} {path : List ℕ} {es mid es' : Sizes} {sent sent' : List (JoinedCall × JoinedAnswer) → List JoinedCall → Type 0} {first second : Reply ℕ} → SizeReply files path es sent first mid → first.how ≡ how.Stored → text_at files' path ≡ text_at files path → SizeReply files' path mid sent' second es' → second.how ≡ how.Hit
@@ -93,7 +93,7 @@ stored_is_found {files = files} {files' = files'} {path = path} {es = es} {mid =
     ]
 
 -- the text at a path stays where a text is written to another one
-pub text_stays : (files files' : Files) (path : List ℕ) (other text : String Global) → string_bytes other ≢ path → ((q : List ℕ) → text_at files' q ≡ (if bytes_eq q (string_bytes other) then text else text_at files q)) → text_at files' path ≡ text_at files path
+pub text_stays : (files files' : Files) (path : List ℕ) (other text : String Global) → string_bytes other ≢ path → ((q : List ℕ) → text_at files' q ≡ (if bytes_eq q (string_bytes other) then string_bytes text else text_at files q)) → text_at files' path ≡ text_at files path
 text_stays files files' path other text apart wrote =
     elim (cases_Bool (bytes_eq path (string_bytes other))) [
       | inl e ↦ let same : path ≡ string_bytes other = search (rules, e) in absurd (apart (sym same))

@@ -39,17 +39,17 @@ pub evaluate_part-returns-in_ok-reply-in-Eval-clause-learns : goal.evaluate_part
 evaluate_part-returns-in_ok-reply-in-Eval-clause-learns t c = λ bytes is.
     let (own, named, asks) = c.in-Ok.ensures in
     let replied = c.in_ok-reply-in-Eval.ensures.reply in
-    learns_on (learns_read c.args.files.now asks c.requires) (learns_call c.args.files.now replied.is_reply (fits_read c.args.files.now asks c.requires)) (part_called replied.key c.in-Ok.text (rw c.in-Eval.is at is) named (rw c.as_str.ensures.value at replied.names))
+    learns_on (learns_read c.args.files.now asks c.requires) (learns_call c.args.files.now replied.is_reply (fits_read c.args.files.now asks c.requires)) (part_called replied.key c.in-Ok.text (rw c.in-Eval.is at is) named (rw c.as_str.ensures at replied.names))
 
 pub evaluate_part-returns-in_ok-reply-in-Eval-clause-led : goal.evaluate_part-returns-in_ok-reply-in-Eval-clause-led
 evaluate_part-returns-in_ok-reply-in-Eval-clause-led t c = λ bytes is.
     let (own, named, asks) = c.in-Ok.ensures in
-    one_call (rw c.in-Eval.is at is) (own, named, text_read c.args.files.now asks) (rw c.as_str.ensures.value at c.in_ok-reply-in-Eval.ensures.led)
+    one_call (rw c.in-Eval.is at is) (own, named, text_read c.args.files.now asks) (rw c.as_str.ensures at c.in_ok-reply-in-Eval.ensures.led)
 
 pub evaluate_part-returns-in_err-reply-in-Eval-clause-failed : goal.evaluate_part-returns-in_err-reply-in-Eval-clause-failed
 evaluate_part-returns-in_err-reply-in-Eval-clause-failed t c = λ bytes is.
     let (own, named, asks) = c.in-Ok.ensures in
-    on_err c.from_residual.result (failed_call (rw c.in-Eval.is at is) (own, named, text_read c.args.files.now asks) (rw c.as_str.ensures.value at c.in_err-reply-in-Eval.ensures.failed))
+    on_err c.from_residual.result (failed_call (rw c.in-Eval.is at is) (own, named, text_read c.args.files.now asks) (rw c.as_str.ensures at c.in_err-reply-in-Eval.ensures.failed))
 
 pub evaluate_part-returns-in_default-clause-failed : goal.evaluate_part-returns-in_default-clause-failed
 evaluate_part-returns-in_default-clause-failed t c = λ bytes is. not_read (rw c.in-Eval.is at is)
@@ -58,7 +58,7 @@ pub evaluate_part-returns-in_err-reply-in-Eval-clause-deep : goal.evaluate_part-
 evaluate_part-returns-in_err-reply-in-Eval-clause-deep t c = λ bytes is e.
     let (own, named, asks) = c.in-Ok.ensures in
     let deep = c.in_err-reply-in-Eval.ensures.deep (ap (λ f. Err f) (handed_on c.from_residual.result c.in_err-reply-in-Eval.field-0.0 _ c.from_residual.ensures.1 e)) in
-    (_, _, rw c.in-Eval.is at is, (own, named, text_read c.args.files.now asks), rw c.as_str.ensures.value at deep)
+    (_, _, rw c.in-Eval.is at is, (own, named, text_read c.args.files.now asks), rw c.as_str.ensures at deep)
 
 pub evaluate_within-returns-in-Hit-clause-outcome : goal.evaluate_within-returns-in-Hit-clause-outcome
 evaluate_within-returns-in-Hit-clause-outcome t c =

@@ -1,4 +1,4 @@
-use Rattle.std.proofs.Common.{rules, refl, ◌≡◌, ◌∙◌, sym, subst, length, string_bytes}
+use Rattle.std.proofs.Common.{rules, refl, ◌≡◌, ◌∙◌, sym, subst, length}
 use Rattle.comemo.proofs.Calls.{broke_at_begin, broke_at_end}
 use Rattle.comemo.proofs.KeyedViews.{keyed_calls, keyed_answers}
 use Rattle.calc_files.specs.Files.{text_at, answers_of, with_key}
@@ -21,7 +21,7 @@ returns-in_err-output-clause-err g c =
 pub returns-in-Hit-clause-output : goal.returns-in-Hit-clause-output
 returns-in-Hit-clause-output g c =
     let (hit, touched) = rw (c.in-Hit.is, c.fork.ensures) at c.in_ok-output.ensures.hit in
-    subst (λ path. c.in-Hit.output ≡ length (string_bytes (text_at c.args.files.now path))) c.in-Ok.ensures.ok (hit.right.1 (answers_of c.args.files.now) (λ c. refl))
+    subst (λ path. c.in-Hit.output ≡ length (text_at c.args.files.now path)) c.in-Ok.ensures.ok (hit.right.1 (answers_of c.args.files.now) (λ c. refl))
 
 pub returns-in-Hit-clause-reply : goal.returns-in-Hit-clause-reply
 returns-in-Hit-clause-reply g c =
@@ -37,21 +37,21 @@ pub finish-requires : goal.finish-requires
 finish-requires g c = λ whole.
     let (run, unchanged, kept, same) = rw (c.in-Run.is, c.fork.ensures) at c.in_ok-output.ensures.run in
     let (own, named, asks) = c.in-Ok-read.ensures in
-    let long : length (string_bytes c.in-Ok-read.text) ≡ c.len-output.result = search rules in
+    let long : length c.in-Ok-read.text ≡ c.len-output.result = search rules in
     size_stands c.args.files.now asks (rw c.recording.ensures.value run.whole) (rw c.recording.ensures.value run.pairs) (rw c.recording.ensures.value run.writes) c.in-Run.pending.key (named ∙ sym c.in-Ok.ensures.ok ∙ key_bytes c.in-Ok.key c.in-Run.pending.key.0 run.has_key) (sym long) whole
 
 pub returns-clause-output : goal.returns-clause-output
 returns-clause-output g c =
     let (run, unchanged, kept, same) = rw (c.in-Run.is, c.fork.ensures) at c.in_ok-output.ensures.run in
     let (own, named, asks) = c.in-Ok-read.ensures in
-    let long : length (string_bytes c.in-Ok-read.text) ≡ c.len-output.result = search rules in
+    let long : length c.in-Ok-read.text ≡ c.len-output.result = search rules in
     mapped (λ reply finished. finished.same ∙ sym long ∙ size_read c.args.files.now asks (rw c.recording.ensures.value run.whole) (rw c.recording.ensures.value run.pairs) named) c.finish.result c.finish.ensures.finished
 
 pub returns-clause-reply : goal.returns-clause-reply
 returns-clause-reply g c =
     let (run, unchanged, kept, same) = rw (c.in-Run.is, c.fork.ensures) at c.in_ok-output.ensures.run in
     let (own, named, asks) = c.in-Ok-read.ensures in
-    let long : length (string_bytes c.in-Ok-read.text) ≡ c.len-output.result = search rules in
+    let long : length c.in-Ok-read.text ≡ c.len-output.result = search rules in
     mapped (λ reply finished. size_by_run c.args.files.now c.in-Ok.ensures.ok run c.recording.ensures.value named asks (sym long) finished) c.finish.result (rw (kept, same) at c.finish.ensures.finished)
 
 pub returns-clause-err : goal.returns-clause-err

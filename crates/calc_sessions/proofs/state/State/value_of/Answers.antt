@@ -1,6 +1,6 @@
 use Rattle.std.proofs.Common.{refl}
 use Rattle.calc_scripts.proofs.Meanings.{means_map}
-use Rattle.calc_files.specs.Files.{Reads, texts_of, answers_of}
+use Rattle.calc_files.specs.Files.{Reads, text_at, answers_of}
 use Rattle.calc_evaluation.specs.Evaluations.{At}
 use Rattle.calc_sessions.specs.Sessions.{value, too_deep, no_memory}
 use Rattle.calc_evaluation.proofs.Evaluations.{reads}
@@ -10,7 +10,7 @@ pub returns-in-Ok : goal.returns-in-Ok
 returns-in-Ok c =
     let files = c.args.self.now.files in
     let (comes_to, low) = rw c.track-view.ensures at c.in-Ok.ensures.outcome in
-    value (means_map (At (answers_of files)) (Reads (texts_of files)) (reads files) comes_to) low (λ path. refl)
+    value (means_map (At (answers_of files)) (Reads (text_at files)) (reads files) comes_to) low (λ path. refl)
 
 pub returns-in-Err-TooDeep : goal.returns-in-Err-TooDeep
 returns-in-Err-TooDeep c =

@@ -1,0 +1,138 @@
+//! A text that is shared, not copied.
+ghost use Rattle.std.specs.Prelude.{◌≡◌, [], length, bytes_eq, string_bytes, IfOk, refl, Some};
+ghost use Rattle.std.specs.Ordering.{nat_cmp};
+ghost use Rattle.std.specs.Hash as fed;
+ghost use Rattle.std.specs.Cmp.Lexicographic.{slice_cmp, nat_list_eq_equiv, nat_list_cmp_total, texts_ties, texts_po};
+ghost use Rattle.std.specs.Cmp.{partial_equiv_from_equiv};
+ghost use Rattle.std.specs.Cmp.Rules.{hashing};
+ghost use Rattle.std.proofs.Common.{rules};
+
+use std::alloc::AllocError;
+use std::cmp::Ordering;
+use std::fmt;
+use std::fmt::{Debug, Formatter, Write};
+use std::hash::{Hash, Hasher};
+use std::marker::Model;
+use std::sync::ArcStr;
+
+/// A text whose clones share its bytes. A contract sees the bytes, and by them texts are compared and hashed.
+///
+/// A clone copies no byte and takes no memory, and is refused only where the count of clones is full. The bytes are let
+/// go with the last of them.
+#[derive(Drop)]
+pub struct Text {
+    // The bytes, where there are any: the empty text may go without.
+    shared: Option<ArcStr>,
+}
+
+impl Model for Text {
+    ghost use Rattle.std.specs.Prelude.{ℕ, List, [], option_map, unwrap_or};
+    ghost use Rattle.std.specs.Arc.{arc_str_bytes};
+
+    ghost Value = { List ℕ };
+
+    ghost view = { λ t. unwrap_or (option_map arc_str_bytes t.shared) [] };
+}
+
+impl Text {
+    /// The empty text. It takes no memory.
+    pub fn empty() -> Self
+        ensures { result ≡ [] }
+    {
+        Text { shared: None }
+    }
+
+    /// The text of a `String`, to be shared.
+    ///
+    /// It copies nothing, and takes memory for the count of its clones alone. An error says that there was none; then
+    /// the text is gone.
+    pub fn new(text: String) -> Result<Self, AllocError>
+        ensures { IfOk result (λ shared. shared ≡ string_bytes text) }
+    {
+        let shared = ArcStr::from_string(text)?;
+        Ok(Text {
+            shared: Some(shared),
+        })
+    }
+
+    /// The text.
+    pub fn as_str(&self) -> &str
+        ensures { result.now ≡ self.now }
+    {
+        match &self.shared {
+            Some(text) => text.as_str(),
+            None => "",
+        }
+    }
+
+    /// How many bytes it has.
+    pub fn len(&self) -> usize
+        ensures { result ≡ length self.now }
+    {
+        self.as_str().len()
+    }
+}
+
+impl Clone for Text {
+    ghost is_clone = { λ text copy. copy ≡ text };
+
+    fn clone(&self) -> Result<Self, AllocError> {
+        Ok(Text {
+            shared: self.shared.clone()?,
+        })
+    }
+}
+
+impl PartialEq for Text {
+    ghost eq = { bytes_eq };
+
+    ghost laws = { partial_equiv_from_equiv nat_list_eq_equiv };
+
+    fn eq(&self, other: &Self) -> bool {
+        self.as_str() == other.as_str()
+    }
+}
+
+impl Eq for Text {
+    ghost laws = { nat_list_eq_equiv };
+}
+
+impl PartialOrd for Text {
+    ghost partial_cmp = { λ x y. Some (slice_cmp nat_cmp x y) };
+
+    ghost laws = { texts_po };
+
+    fn partial_cmp(&self, other: &Self) -> Option<Ordering> {
+        Some(self.cmp(other))
+    }
+}
+
+impl Ord for Text {
+    ghost cmp = { slice_cmp nat_cmp };
+
+    ghost total = { nat_list_cmp_total };
+
+    ghost matches_partial_cmp = { λ x y. refl };
+
+    ghost matches_eq = { texts_ties };
+
+    fn cmp(&self, other: &Self) -> Ordering {
+        self.as_str().cmp(other.as_str())
+    }
+}
+
+impl Hash for Text {
+    ghost hash_input = { fed.str };
+
+    ghost respects_eq = { Prim.search (hashing, rules) };
+
+    fn hash<H: Hasher>(&self, state: &mut H) {
+        self.as_str().hash(state);
+    }
+}
+
+impl Debug for Text {
+    fn fmt<W: Write>(&self, f: &mut Formatter<W>) -> fmt::Result {
+        Debug::fmt(&self.as_str(), f)
+    }
+}
