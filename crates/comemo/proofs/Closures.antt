@@ -50,12 +50,12 @@ module _ {K C R O : Type 0} {M : Meaning K C R O} {es : Entries K C R O} {call :
     ran_from {i = i} {j = j} {p = p} {q = q} r unchanged pairs writes whole gave left = record { i = i; p = p; starts = record { none = is.none; unchanged = unchanged; pairs = pairs; writes = writes; whole = whole }; j = j; q = q; gave = gave; left = sym left }
 
     -- why a call failed whose run ended so
-    pub failed : (S : Type 0) (ran : Result O Fault) → Ran M es call did recording post input ran t → (r : Result (Reply O) Fault) → IfOk ran (λ _. (r ≡ Err fault.Incomplete) ↔ (t.whole ≡ false)) → IfErr ran (λ f. (r ≡ Err f) × S) → IfErr r (λ f. IsFault M es call did recording post input f)
-    failed S ran has (Ok reply) h f = tt
-    failed S (Ok output) has (Err fault.Memory) h f = inl refl
-    failed S (Ok output) has (Err fault.Write) h f = inr (inl refl)
-    failed S (Ok output) has (Err fault.Incomplete) h f = inr (inr (inl (refl, output, t, has, h.0 refl)))
-    failed S (Err g) has (Err e) h f = inr (inr (inr (t, subst (λ x. Ran M es call did recording post input (Err x) t) (sym (ap (fault_or e) f.0)) has)))
+    pub failed : (S : Type 0) (ran : Result O Fault) → Ran M es call did recording post input ran t → (r : Result (Reply O) Fault) → IfOk ran (λ _. (r ≡ Err fault.Incomplete) ↔ (t.whole ≡ false)) → IfOk ran (λ _. IfErr r (λ f. f ≡ fault.Write → ⊥)) → IfErr ran (λ f. (r ≡ Err f) × S) → IfErr r (λ f. IsFault M es call did recording post input f)
+    failed S ran has (Ok reply) h never f = tt
+    failed S (Ok output) has (Err fault.Memory) h never f = inl refl
+    failed S (Ok output) has (Err fault.Write) h never f = absurd (never refl)
+    failed S (Ok output) has (Err fault.Incomplete) h never f = inr (inr (inl (refl, output, t, has, h.0 refl)))
+    failed S (Err g) has (Err e) h never f = inr (inr (inr (t, subst (λ x. Ran M es call did recording post input (Err x) t) (sym (ap (fault_or e) f.0)) has)))
 
     -- how the sink of a call that failed is left whose run ended so
     pub left_broken : (broken : List (C × R) → Type 0) (after : List (C × R) → List C → Type 0) {S : Type 0} → (S → broken []) → (X : Type 0) (ran : Result O Fault) → Ran M es call did recording post input ran t → (w : Bool) → t.whole ≡ w → (r : Result (Reply O) Fault) → IfErr ran (λ f. (r ≡ Err f) × S) → (t.whole ≡ false → S) → OnErr r (X × BreaksOffRun M broken t.pairs) → OnErr r (X × IsBroken M es call did recording post input broken after)

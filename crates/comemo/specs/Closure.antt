@@ -1,5 +1,5 @@
 -- A call of a memoized function whose run is a closure.
-use Rattle.std.specs.Prelude.{◌≡◌, ◌↔◌, ◌⊎◌, true, false, List, [], IsTrue, Result, Ok, Err}
+use Rattle.std.specs.Prelude.{◌≡◌, ◌↔◌, ◌⊎◌, ⊤, true, false, List, [], IsTrue, Result, Ok, Err}
 use Rattle.std.specs.Borrow.{MutBor}
 use Rattle.comemo_track.specs.Recording.{Recording}
 use Rattle.comemo.specs.Meaning.{Meaning, Invocation, run}
@@ -36,7 +36,7 @@ module _ {K C R O : Type 0} (M : Meaning K C R O) (es : Entries K C R O) (call :
       -- that fault
       abbrev pub IsFault : Fault → Type 0
       IsFault f =
-          (f ≡ fault.Memory) ⊎ (f ≡ fault.Write) ⊎ ((f ≡ fault.Incomplete) × (output : O) × (t : Recording C R) × Ran (Ok output) t × (t.whole ≡ false)) ⊎ ((t : Recording C R) × Ran (Err f) t)
+          (f ≡ fault.Memory) ⊎ ((f ≡ fault.Write) × (j : I) × IsStopped M es call (did input j) (λ _ _. ⊤)) ⊎ ((f ≡ fault.Incomplete) × (output : O) × (t : Recording C R) × Ran (Ok output) t × (t.whole ≡ false)) ⊎ ((t : Recording C R) × Ran (Err f) t)
 
       -- how the sink of a call that failed is left: as by a call that did not begin, so as it was where the closure failed or its
       -- recording is spoiled; or the closure gave an output, and its recording, which is whole, was broken off; or a hit stopped

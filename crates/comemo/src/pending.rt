@@ -150,6 +150,7 @@ impl<M: Memo> Pending<M> {
         ensures finished { IfOk result (λ reply. Finished ⟦<M as Meant>⟧.meaning cache.old self
             (S.took sink.old sink.new) output reply cache.new) }
         ensures incomplete { (result ≡ Err Fault.Incomplete) ↔ (self.recording.whole ≡ false) }
+        ensures fault { IfErr result (λ fault. fault ≡ Fault.Write → ⊥) }
         ensures spoils { self.recording.whole ≡ false → S.spoils sink.old sink.new }
         ensures err { OnErr result ((cache.new ≡ cache.old)
             × BreaksOffRun ⟦<M as Meant>⟧.meaning (⟦<S as Breaking>⟧.breaks_off sink.old sink.new)
@@ -191,6 +192,7 @@ impl<M: Memo> Pending<M> {
             (S.took sink.old sink.new) output reply cache.new) }
         ensures incomplete { IfOk ran
             (λ _. (result ≡ Err Fault.Incomplete) ↔ (self.recording.whole ≡ false)) }
+        ensures write { IfOk ran (λ _. IfErr result (λ fault. fault ≡ Fault.Write → ⊥)) }
         ensures fault { IfErr ran (λ fault. (result ≡ Err fault) × S.spoils sink.old sink.new) }
         ensures spoils { self.recording.whole ≡ false → S.spoils sink.old sink.new }
         ensures err { OnErr result ((cache.new ≡ cache.old)
