@@ -109,7 +109,7 @@ impl Memo for SumOfTwoMemo {
 
     type Out = u32;
 
-    ghost def = { λ key _ out _. out ≡ (key.0 + key.1) % 2 ^ 32 };
+    ghost def = { reading (λ key _ out. out ≡ (key.0 + key.1) % 2 ^ 32) };
 
     ghost laws = { Prim.search rules };
 }
@@ -217,7 +217,7 @@ impl Memo for ThreeMemo {
 
     type Out = u32;
 
-    ghost def = { λ key _ out _. out ≡ (key.0 + key.1.0) % 2 ^ 32 };
+    ghost def = { reading (λ key _ out. out ≡ (key.0 + key.1.0) % 2 ^ 32) };
 
     ghost laws = { Prim.search rules };
 }
