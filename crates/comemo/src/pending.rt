@@ -432,12 +432,12 @@ fn replay<In: Input, S: Sink<Call = In::Call, Answer = In::Answer>>(
         × (writes.items ≡ front ++ next ∷ rest) × In.did input.old input.new front
         × ⟦<S as Breaking>⟧.spoiled_after sink.old sink.new [] front) }
 {
-    for call in writes {
-        let Ok(()) = input.call_mut(&call) else {
+    for write in writes {
+        let Ok(()) = input.call_mut(&write) else {
             sink.spoil();
             return Err(Fault::Write);
         };
-        let Ok(_) = sink.emit(call, None) else {
+        let Ok(_) = sink.emit(write, None) else {
             unreachable!()
         };
     }
@@ -463,11 +463,11 @@ fn give_found<
         × ⟦<S as Breaking>⟧.spoiled_after sink.old sink.new found.pairs.items front)) }
 {
     let Found {
-        pairs,
+        pairs: path,
         output,
         writes,
     } = found;
-    give_pairs(pairs, sink)?;
+    give_pairs(path, sink)?;
     let Ok(()) = sink.reserve(writes.len()) else {
         sink.spoil();
         return Err(Fault::Memory);
