@@ -1,19 +1,14 @@
 -- What a part of a script comes to where it calls another one, and what a run of a script learnt.
-use Rattle.std.proofs.Common.{◌≡◌, ◌≤◌, Bool, true, IsTrue, ℕ, List, [], ◌++◌, Result, Ok, Err, IsErrAnd, OnErr, ◌∙◌, ◌↔◌, ◌≢◌, String, string_bytes, refl, sym, ap, subst, append-nil}
+use Rattle.std.proofs.Common.{◌≡◌, ◌≤◌, true, IsTrue, ℕ, List, [], ◌++◌, Result, Ok, Err, IsErrAnd, ◌∙◌, ◌↔◌, ◌≢◌, String, string_bytes, refl, sym, ap, subst, append-nil}
 use Rattle.std.specs.Bool.{⊤}
 use Rattle.std.specs.Global.{Global}
 use Rattle.comemo.specs.Answers.{Respects, Agrees}
 use Rattle.comemo.specs.Function.{Learns}
 use Rattle.comemo.specs.Called.{IsReply}
-use Rattle.comemo.specs.Finish.{BrokeOff}
-use Rattle.comemo.specs.Mapped.{Through}
-use Rattle.comemo.specs.Multi.{second_call, second_answer}
 use Rattle.comemo.specs.Recording.{Recording, Took}
-use Rattle.comemo.specs.Sending.{Asks, BreaksOff}
 use Rattle.comemo.specs.declared.pending.Reply.{Reply}
-use Rattle.comemo.proofs.KeyedViews.{keyed_calls, keyed_answers, respects_with_key}
-use Rattle.comemo.proofs.Through.{asked_through}
-use Rattle.comemo.proofs.Telling.{ToldAnswer, told_answer, Told, told_pairs}
+use Rattle.comemo.proofs.KeyedViews.{keyed_calls, keyed_answers}
+use Rattle.comemo.proofs.Telling.{Told, told_pairs}
 use Rattle.calc_scripts.specs.Meaning.{Deep, IsTooDeep, is_eval}
 use Rattle.calc_scripts.specs.Parts.{IsEval}
 use Rattle.calc_scripts.proofs.Meanings.{means_map, deep_map, deep_is_too_deep}

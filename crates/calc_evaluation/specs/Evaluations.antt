@@ -6,9 +6,8 @@ use Rattle.comemo.specs.Meaning.{Meaning, reading}
 use Rattle.calc_scripts.specs.Meaning.{Means, PartMeans, Deep}
 use Rattle.calc_scripts.specs.Parts.{IsEval}
 use Rattle.calc_scripts.specs.declared.outcome.Outcome.{Outcome}
-use Rattle.calc_files.specs.declared.files.Files.{Files}
-use Rattle.calc_files.specs.Files.{JoinedCall, JoinedAnswer, OnFiles, answers_of, with_key}
-use Rattle.calc_files.specs.Joined.{same_call, same_answer, joined}
+use Rattle.calc_files.specs.Files.{JoinedCall, JoinedAnswer, OnFiles}
+use Rattle.calc_files.specs.Joined.{joined}
 use Rattle.calc_files.specs.declared.files.FileCall.{FileCall}
 use Rattle.calc_files.specs.declared.files.FileCall.TheVariants.{Read}
 

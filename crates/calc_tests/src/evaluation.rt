@@ -2,7 +2,7 @@
 use CalcFault::{NotANumber, Overflow};
 use calc_commands::{Answer, Command};
 use calc_evaluation::{Eval, EvalFault, evaluate};
-use calc_files::{FileCall, Files, JoinedAnswer, JoinedCall, size};
+use calc_files::{FileCall, Files, JoinedAnswer, JoinedCall, Text, size};
 use calc_scripts::{CalcFault, Outcome};
 use calc_sessions::session;
 use comemo::{CacheData, Constraint, How, MultiAnswer, MultiCall, Reply, Sink, Top, Track};
@@ -122,7 +122,7 @@ fn a_hit_obeys_the_limit(rt: HostRuntime) -> Result<(), Fail> {
 fn emit(
     sink: &mut Constraint<JoinedCall, JoinedAnswer>,
     path: String,
-    text: String,
+    text: Text,
 ) -> Result<bool, AllocError> {
     sink.emit(
         MultiCall::B(FileCall::Read(path)),
@@ -146,13 +146,12 @@ fn too_deep_spoils_the_sink(rt: HostRuntime) -> Result<(), Fail> {
     }
     let mut sink = Constraint::new(alloc);
     let _ = evaluate(alloc, &mut cache, &view, "eval a", 2, &mut sink)?;
-    let text = String::from_str(alloc, "1")?;
+    let text = Text::new(String::from_str(alloc, "1")?)?;
     let path = String::from_str(alloc, "a")?;
     // The read of `a` is held already, and that of `b` is not.
     assert_eq!(rt; emit(&mut sink, path, text), Ok(false));
-    let text = String::from_str(alloc, "")?;
     let path = String::from_str(alloc, "b")?;
-    assert_eq!(rt; emit(&mut sink, path, text), Ok(true));
+    assert_eq!(rt; emit(&mut sink, path, Text::empty()), Ok(true));
     Ok(())
 }
 

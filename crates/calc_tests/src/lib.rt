@@ -23,3 +23,5 @@ mod sessions;
 mod starts;
 #[cfg(test)]
 mod states;
+#[cfg(test)]
+mod texts;
