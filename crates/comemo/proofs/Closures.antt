@@ -7,7 +7,7 @@ use Rattle.comemo.specs.Meaning.{Meaning, Invocation, run}
 use Rattle.comemo.specs.Cache.{Entries, Stands}
 use Rattle.comemo.specs.Begin.{PendingRun, came_to, IsRun, IsBrokenOff}
 use Rattle.comemo.specs.Finish.{Ends, Finished, BreaksOffRun}
-use Rattle.comemo.proofs.Calls.{recorded, stands_at_call, never_stops}
+use Rattle.comemo.proofs.Calls.{recorded, stands_at_call, never_refused}
 use Rattle.comemo.specs.Closure.{Ran, Ended, IsFault, IsBroken}
 use Rattle.comemo.specs.declared.pending.Fault.{Fault}
 use Rattle.comemo.specs.declared.pending.Fault.TheVariants as fault
@@ -33,11 +33,11 @@ pub mapped_err : {A E P Q : Type 0} → (P → Q) → (r : Result A E) → OnErr
 mapped_err f (Ok a) p = tt
 mapped_err f (Err e) p = f p
 
--- the sink of a call of a function that only reads, which failed, was broken off at some pairs
-pub at_some_pairs : {K C R O I P : Type 0} {M : Meaning K C R O} {es : Entries K C R O} {call : Invocation K C R} {did : I → I → List C → Type 0} {recording : P → Recording C R} {post : MutBor I → MutBor P → Result O Fault → MutBor I → MutBor P → Type 0} {input : I} → Respects M.same_call M.same_answer call.answers → ((output : O) (writes : List C) → M.def call.key call.answers output writes → writes ≡ []) → (broken : List (C × R) → Type 0) {after : List (C × R) → List C → Type 0} → IsBroken M es call did recording post input broken after → (pairs : List (C × R)) × broken pairs
-at_some_pairs respects reads broken (inl begun) = (begun.pairs, begun.is_broken)
-at_some_pairs respects reads broken (inr (inl (j, is))) = absurd (never_stops respects reads is)
-at_some_pairs respects reads broken (inr (inr (output, t, ran, whole, is))) = (is.given, is.is_broken)
+-- the sink of a call of a function whose calls are reads alone, which failed, was broken off at some pairs
+pub at_some_pairs : {K C R O I P : Type 0} {M : Meaning K C R O} {es : Entries K C R O} {call : Invocation K C R} {did : I → I → List C → Type 0} {recording : P → Recording C R} {post : MutBor I → MutBor P → Result O Fault → MutBor I → MutBor P → Type 0} {input : I} → ((c : C) → M.is_write c ≡ false) → (broken : List (C × R) → Type 0) {after : List (C × R) → List C → Type 0} → IsBroken M es call did recording post input broken after → (pairs : List (C × R)) × broken pairs
+at_some_pairs reads broken (inl begun) = (begun.pairs, begun.is_broken)
+at_some_pairs reads broken (inr (inl (j, is))) = absurd (never_refused reads is)
+at_some_pairs reads broken (inr (inr (output, t, ran, whole, is))) = (is.given, is.is_broken)
 
 -- a sink that took nothing is left as by a call that did not begin
 took_nothing : {K C R O : Type 0} (M : Meaning K C R O) (es : Entries K C R O) (call : Invocation K C R) {broken : List (C × R) → Type 0} → broken [] → IsBrokenOff M es call broken

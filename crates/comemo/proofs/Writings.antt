@@ -112,12 +112,13 @@ module _ {I S C R : Type 0} {did : I → I → List C → Type 0} {took : S → 
     }
 
     -- it stopped at a write that was refused
-    pub stopped : {spoils : S → S → Type 0} (i j k : I) (s t u : S) (all old new : List C) (c : C) → old ≡ c ∷ new → did j k [] → spoils t u → DidWrites did took i j s t all old → (front : List C) × (next : C) × (rest : List C) × (all ≡ front ++ next ∷ rest) × did i k front × SpoiledAfter took spoils s u [] front
-    stopped i j k s t u all old new c e refused spoiled so = (
+    pub stopped : {spoils : S → S → Type 0} (i j k : I) (s t u : S) (w : C → Bool) (all old new : List C) (c : C) → old ≡ c ∷ new → All (λ e. w e ≡ true) old → did j k [] → spoils t u → DidWrites did took i j s t all old → (front : List C) × (next : C) × (rest : List C) × (all ≡ front ++ next ∷ rest) × did i k front × SpoiledAfter took spoils s u [] front × (w next ≡ true)
+    stopped i j k s t u w all old new c e written refused spoiled so = (
       so.front,
       c,
       new,
       so.parts ∙ ap (λ ws. so.front ++ ws) e,
       subst (λ ws. did i k ws) (append-nil so.front) (does i j k so.front [] so.done refused),
       record { mid = t; taken = so.taken; spoiled = spoiled },
+      head_write w old new c e written,
     )

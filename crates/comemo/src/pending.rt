@@ -430,7 +430,8 @@ fn replay<In: Input, S: Sink<Call = In::Call, Answer = In::Answer>>(
     ensures fault { IfErr result (λ fault. fault ≡ Fault.Write) }
     ensures err { OnErr result ((front : List In.Call) × (next : In.Call) × (rest : List In.Call)
         × (writes.items ≡ front ++ next ∷ rest) × In.did input.old input.new front
-        × ⟦<S as Breaking>⟧.spoiled_after sink.old sink.new [] front) }
+        × ⟦<S as Breaking>⟧.spoiled_after sink.old sink.new [] front
+        × (In.Call.is_write next ≡ true)) }
 {
     for write in writes {
         let Ok(()) = input.call_mut(&write) else {
@@ -460,7 +461,8 @@ fn give_found<
         × ⟦<S as Breaking>⟧.breaks_off sink.old sink.new found.pairs.items)
         ((front : List M.Call) × (next : M.Call) × (rest : List M.Call)
         × (found.writes.items ≡ front ++ next ∷ rest) × In.did input.old input.new front
-        × ⟦<S as Breaking>⟧.spoiled_after sink.old sink.new found.pairs.items front)) }
+        × ⟦<S as Breaking>⟧.spoiled_after sink.old sink.new found.pairs.items front
+        × (M.Call.is_write next ≡ true))) }
 {
     let Found {
         pairs: path,
@@ -486,7 +488,7 @@ fn give_found<
 /// given to the sink, which is spoiled; the entry stays, and a next call of the same kind is a hit again.
 ///
 /// It clones the key, and looks as `CacheData::look` does, which asks each call of one stored path once and finds its
-/// answer by binary search. On a hit it clones the calls of the entry's path, its output and its writes, and sends each
+/// answer in an ordered map. On a hit it clones the calls of the entry's path, its output and its writes, and sends each
 /// pair of the path and each write to the sink. The first half of comemo's `memoize`.
 pub fn begin<
     M: Memo,

@@ -3,7 +3,7 @@ use Rattle.comemo_base.proofs.Paths.{turned}
 use Rattle.comemo.specs.Meaning.{Meaning, run, invocation}
 use Rattle.comemo.specs.Cache.{Has, Stands}
 use Rattle.comemo.proofs.Calls.{fault_handed}
-use Rattle.comemo.proofs.Sendings.{on_err, breaks_at_once}
+use Rattle.comemo.proofs.Sendings.{breaks_at_once}
 use Rattle.comemo.proofs.Entries.{Has-alike, HasNone-alike, Agrees-found}
 use Rattle.comemo.proofs.pending.begin.Goals as goal
 use Rattle.comemo.proofs.pending.begin.Goals.{then-enabled+in-Ok-look+in_default-looked, else-enabled}
@@ -97,6 +97,7 @@ returns-in_err-output-clause-err g c =
         front = stop.0;
         next = stop.1;
         rest = stop.2;
+        is_refused = stop.6;
         is_enabled = c.if-enabled.true;
         kept = subst (λ ws. Has M c.args.cache.now (invocation key m c.args.enabled) (run key pairs output ws)) stop.3 kept;
         agrees = agrees;

@@ -10,7 +10,7 @@ pub returns-in_err-replay-clause-err : goal.returns-in_err-replay-clause-err
 returns-in_err-replay-clause-err g c =
     let at = c.in_err-replay.ensures.err in
     let given = took_run g.met.S.Sink.joins _ _ _ c.args.found.pairs.items [] c.in_ok-give_pairs.ensures.ok c.reserve.ensures.same in
-    write_handed c.from_residual-in_err-replay.result c.in_err-replay.field-0.0 c.from_residual-in_err-replay.ensures.1 c.in_err-replay.ensures.fault _ _ (at.0, at.1, at.2, at.3, at.4, spoiled_run g.met.S.Sink.joins _ _ _ c.args.found.pairs.items at.0 given at.5)
+    write_handed c.from_residual-in_err-replay.result c.in_err-replay.field-0.0 c.from_residual-in_err-replay.ensures.1 c.in_err-replay.ensures.fault _ _ (at.0, at.1, at.2, at.3, at.4, spoiled_run g.met.S.Sink.joins _ _ _ c.args.found.pairs.items at.0 given at.5, at.6)
 
 pub returns-clause-sent : goal.returns-clause-sent
 returns-clause-sent g c =

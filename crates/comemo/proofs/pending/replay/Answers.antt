@@ -13,4 +13,4 @@ loop-write-preserved g c =
     }
 
 pub returns-in_default-clause-err : goal.returns-in_default-clause-err
-returns-in_default-clause-err g c = stopped g.met.In.Input.joins _ _ _ _ _ _ _ _ _ c.in-Some.write c.in-Some.ensures.steps.0 c.in_default.ensures.err c.spoil.ensures c.loop-write.invariant.so_far
+returns-in_default-clause-err g c = stopped g.met.In.Input.joins _ _ _ _ _ _ g.In.Call.Call.is_write _ _ _ c.in-Some.write c.in-Some.ensures.steps.0 c.loop-write.invariant.writes c.in_default.ensures.err c.spoil.ensures c.loop-write.invariant.so_far

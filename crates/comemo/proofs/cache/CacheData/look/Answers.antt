@@ -1,4 +1,4 @@
-use Rattle.std.proofs.Common.{◌∙◌, inr, sym, ap, subst}
+use Rattle.std.proofs.Common.{◌∙◌, inr, sym, subst}
 use Rattle.comemo_base.proofs.Under.{Any-from_under}
 use Rattle.comemo.specs.Meaning.{Meaning}
 use Rattle.comemo.specs.Cache.{Kept, IsLegal}
