@@ -118,8 +118,8 @@ module _ {K C R O : Type 0} {M : Meaning K C R O} {es : Entries K C R O} {call :
   stopped_so is = record { pairs = is.pairs; output = is.output; front = is.front; next = is.next; rest = is.rest; is_refused = is.is_refused; is_enabled = is.is_enabled; kept = is.kept; agrees = is.agrees; stands = is.stands; are_done = is.are_done; is_spoiled = tt }
 
   -- a hit of a function whose calls are reads alone stops at no write
-  pub never_refused : ((c : C) → M.is_write c ≡ false) → {done : List C → Type 0} {spoiled : List (C × R) → List C → Type 0} → IsStopped M es call done spoiled → ⊥
-  never_refused reads is = let e : true ≡ false = sym is.is_refused ∙ reads is.next in cc
+  pub never_refused : {done : List C → Type 0} {spoiled : List (C × R) → List C → Type 0} → IsStopped M es call done spoiled → ((c : C) → M.is_write c ≡ false) → ⊥
+  never_refused is reads = let e : true ≡ false = sym is.is_refused ∙ reads is.next in cc
 
   -- a hit of a function that only reads stops at no write
   pub never_stops : Respects M.same_call M.same_answer call.answers → ((output : O) (writes : List C) → M.def call.key call.answers output writes → writes ≡ []) → {done : List C → Type 0} {spoiled : List (C × R) → List C → Type 0} → IsStopped M es call done spoiled → ⊥

@@ -34,10 +34,10 @@ mapped_err f (Ok a) p = tt
 mapped_err f (Err e) p = f p
 
 -- the sink of a call of a function whose calls are reads alone, which failed, was broken off at some pairs
-pub at_some_pairs : {K C R O I P : Type 0} {M : Meaning K C R O} {es : Entries K C R O} {call : Invocation K C R} {did : I → I → List C → Type 0} {recording : P → Recording C R} {post : MutBor I → MutBor P → Result O Fault → MutBor I → MutBor P → Type 0} {input : I} → ((c : C) → M.is_write c ≡ false) → (broken : List (C × R) → Type 0) {after : List (C × R) → List C → Type 0} → IsBroken M es call did recording post input broken after → (pairs : List (C × R)) × broken pairs
-at_some_pairs reads broken (inl begun) = (begun.pairs, begun.is_broken)
-at_some_pairs reads broken (inr (inl (j, is))) = absurd (never_refused reads is)
-at_some_pairs reads broken (inr (inr (output, t, ran, whole, is))) = (is.given, is.is_broken)
+pub at_some_pairs : {K C R O I P : Type 0} {M : Meaning K C R O} {es : Entries K C R O} {call : Invocation K C R} {did : I → I → List C → Type 0} {recording : P → Recording C R} {post : MutBor I → MutBor P → Result O Fault → MutBor I → MutBor P → Type 0} {input : I} → (broken : List (C × R) → Type 0) {after : List (C × R) → List C → Type 0} → IsBroken M es call did recording post input broken after → ((c : C) → M.is_write c ≡ false) → (pairs : List (C × R)) × broken pairs
+at_some_pairs broken (inl begun) reads = (begun.pairs, begun.is_broken)
+at_some_pairs broken (inr (inl (j, is))) reads = absurd (never_refused is reads)
+at_some_pairs broken (inr (inr (output, t, ran, whole, is))) reads = (is.given, is.is_broken)
 
 -- a sink that took nothing is left as by a call that did not begin
 took_nothing : {K C R O : Type 0} (M : Meaning K C R O) (es : Entries K C R O) (call : Invocation K C R) {broken : List (C × R) → Type 0} → broken [] → IsBrokenOff M es call broken
