@@ -47,10 +47,16 @@ impl Memo for ContainsMemo {
         (λ _ m. out ≡ (nat_eq (m Location) key.0 || nat_eq (m Styles) key.0))) };
 
     ghost laws = { record {
-      outputs = λ key m a b writes r d h. (h.0, λ x y p q. Prim.search
-          (rules, h.1 x y p q));
-      keys = λ j k m output writes r e h. (h.0, λ x y p q. Prim.search
-          (rules, h.1 x y p q));
+      outputs = λ key m a b writes r d h. (
+        h.0,
+        λ x y p q. Prim.search
+            (rules, h.1 x y p q),
+      );
+      keys = λ j k m output writes r e h. (
+        h.0,
+        λ x y p q. Prim.search
+            (rules, h.1 x y p q),
+      );
       writes = λ key m output V W r same h. (none_alike _ V W same h.0, h.1);
       key_clones = Prim.search rules;
       answer_clones = Prim.search rules;
@@ -154,10 +160,16 @@ impl Memo for LocationsMemo {
         (λ m n. out ≡ (m Location + n Location) % 2 ^ 64)) };
 
     ghost laws = { record {
-      outputs = λ key m a b writes r d h. (h.0, λ x y p q. Prim.search
-          (rules, h.1 x y p q));
-      keys = λ j k m output writes r e h. (h.0, λ x y p q. Prim.search
-          (rules, h.1 x y p q));
+      outputs = λ key m a b writes r d h. (
+        h.0,
+        λ x y p q. Prim.search
+            (rules, h.1 x y p q),
+      );
+      keys = λ j k m output writes r e h. (
+        h.0,
+        λ x y p q. Prim.search
+            (rules, h.1 x y p q),
+      );
       writes = λ key m output V W r same h. (none_alike _ V W same h.0, h.1);
       key_clones = Prim.search rules;
       answer_clones = Prim.search rules;

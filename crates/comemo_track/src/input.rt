@@ -237,9 +237,11 @@ impl<'a, T: Track> Input for TrackedMut<'a, T> {
 
     ghost starts = { λ s. (refl, refl) };
 
-    ghost joins = { λ s t u V W a b.
-        (done_both T.wrote T.Call.is_write T.Answer.eq T.answers
-        (place_of s).now (place_of t).now (place_of u).now V W a.0 b.0, b.1 ∙ a.1) };
+    ghost joins = { λ s t u V W a b. (
+      done_both T.wrote T.Call.is_write T.Answer.eq T.answers
+          (place_of s).now (place_of t).now (place_of u).now V W a.0 b.0,
+      b.1 ∙ a.1,
+    ) };
 
     ghost keeps = { λ s t W a.
         done_keeps T.wrote T.Call.is_write T.Answer.eq T.answers T.Answer.Eq.laws (place_of s).now (place_of t).now W a.0 };
@@ -282,11 +284,11 @@ impl<'a, T: Track> Input for &mut TrackedMut<'a, T> {
     ghost starts = { λ s. (refl, refl, refl) };
 
     ghost joins = { λ s t u V W a b. (
-        done_both T.wrote T.Call.is_write T.Answer.eq T.answers
-        (place_of s.now).now (place_of t.now).now (place_of u.now).now V W a.0 b.0,
-        b.1 ∙ a.1,
-        b.2 ∙ a.2,
-      ) };
+      done_both T.wrote T.Call.is_write T.Answer.eq T.answers
+          (place_of s.now).now (place_of t.now).now (place_of u.now).now V W a.0 b.0,
+      b.1 ∙ a.1,
+      b.2 ∙ a.2,
+    ) };
 
     ghost keeps = { λ s t W a.
         done_keeps T.wrote T.Call.is_write T.Answer.eq T.answers T.Answer.Eq.laws (place_of s.now).now (place_of t.now).now W a.0 };
