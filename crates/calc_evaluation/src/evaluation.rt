@@ -9,7 +9,6 @@ ghost use Rattle.comemo.specs.Begin.{IsRun};
 ghost use Rattle.comemo.specs.Begun.{OnBegun};
 ghost use Rattle.comemo.specs.Called.{IsReply};
 ghost use Rattle.comemo.specs.Finish.{BrokeOff};
-ghost use Rattle.comemo.specs.MeaningLaws.{none_alike};
 ghost use Rattle.calc_scripts.specs.Kinds.{IsPart};
 ghost use Rattle.calc_scripts.specs.Meaning.{Deep, IsTooDeep};
 ghost use Rattle.calc_scripts.specs.Calls.{CallLeads, CallFails, PartLeads, PartFails, RunLeads, RunFails};
@@ -46,7 +45,6 @@ impl Memo for Eval {
     ghost laws = { record {
       outputs = λ key m a b writes r c h. (h.0, λ part q. Prim.search (rules, h.1 part q));
       keys = λ j k m output writes r e h. (h.0, λ part q. Prim.search (rules, h.1 part q));
-      writes = λ key m output V W r same h. (none_alike _ V W same h.0, h.1);
       key_clones = Prim.search rules;
       answer_clones = Prim.search rules;
     } };
@@ -243,9 +241,9 @@ fn evaluate_within(
 /// run; `Memory` says that there was no memory. Both spoil the sink; what was kept on the way stays.
 ///
 /// Each call, a nested one and a hit too, finds the script by one hash look-up, and follows one stored path: it finds
-/// the text of each file on it in an ordered map of the texts that are kept at its place. It copies the script, and the
-/// path of each such file; their texts are shared. Runs nest on the stack, at most `limit` of them. comemo's example
-/// `calc` has `evaluate` with neither a limit nor faults.
+/// the text of each file on it by binary search among the texts that are kept at its place. It copies the script, and
+/// the path of each such file; their texts are shared. Runs nest on the stack, at most `limit` of them. comemo's example `calc` has `evaluate`
+/// with neither a limit nor faults.
 pub fn evaluate<S: Sink<Call = JoinedCall, Answer = JoinedAnswer>>(
     alloc: Global,
     cache: &mut CacheData<Eval>,

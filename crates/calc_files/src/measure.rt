@@ -2,7 +2,6 @@
 ghost use Rattle.std.specs.Prelude.{◌≡◌, length, IfOk, IfErr, OnErr};
 ghost use Rattle.std.proofs.Common.{rules};
 ghost use Rattle.comemo.specs.Finish.{BrokeOff};
-ghost use Rattle.comemo.specs.MeaningLaws.{none_alike};
 ghost use Rattle.calc_files.specs.Size.{IsSizeOf, SizeReply};
 ghost use Rattle.calc_files.specs.Joined.{same_answer};
 ghost use Rattle.calc_files.specs.Files.{text_at, answers_of, with_key};
@@ -36,7 +35,6 @@ impl Memo for FileSize {
     ghost laws = { record {
       outputs = λ key m a b writes r c h. (h.0, λ part q. Prim.search (rules, h.1 part q));
       keys = λ j k m output writes r e h. (h.0, size_alike j k m output r e h.1);
-      writes = λ key m output V W r same h. (none_alike _ V W same h.0, h.1);
       key_clones = Prim.search rules;
       answer_clones = Prim.search rules;
     } };
@@ -46,7 +44,7 @@ impl Memo for FileSize {
 ///
 /// The size is that of the present text, on a hit as on a miss. `Memory` says that there was no memory for the answer:
 /// then the cache is as it was, and the sink is spoiled. A call, a hit too, finds the path by one hash look-up, and the
-/// text in an ordered map of those kept under the path; it takes memory for some copies of the path. A run that is
+/// text by binary search among those kept under the path; it takes memory for some copies of the path. A run that is
 /// stored keeps the text, which it shares, and the path where none was kept under it.
 pub fn size<S: Sink<Call = JoinedCall, Answer = JoinedAnswer>>(
     alloc: Global,

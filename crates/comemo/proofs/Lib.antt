@@ -1,6 +1,5 @@
 pub mod Sendings
 pub mod Entries
-pub mod Writings
 pub mod NewPath
 pub mod Endings
 pub mod Looking

@@ -47,11 +47,7 @@ pub fn look_location(
     let Some(found) = cache.look(&(), &mut context)? else {
         return Ok(None);
     };
-    let Found {
-        pairs: _,
-        output,
-        writes: _,
-    } = found;
+    let Found { pairs: _, output } = found;
     Ok(Some(output))
 }
 
