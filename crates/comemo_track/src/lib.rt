@@ -32,6 +32,7 @@
 #![tactic(auto)]
 
 pub mod both;
+pub mod both_mut;
 pub mod constraint;
 pub mod input;
 pub mod mapped;
@@ -40,6 +41,7 @@ pub mod track;
 pub mod writing;
 
 pub use both::Both;
+pub use both_mut::BothMut;
 pub use constraint::Constraint;
 pub use input::{Hashed, Input, Keyed};
 pub use mapped::{CallMap, MappedSink};
