@@ -4,19 +4,18 @@ ghost use Rattle.std.proofs.Common.{rules};
 
 use crate::multi::{MultiAnswer, MultiCall};
 use crate::track::Track;
-use crate::writing::TrackedMut;
 use std::alloc::AllocError;
 
-/// Writing views joined: two tracked values as one that is read and written.
+/// Tracked values joined: two, lent as one that is read and written.
 ///
-/// Each call is a part's, as those of `Both` are; a write changes its part alone. It does not lend the values. It takes
-/// no memory. This project's own: comemo's functions take their tracked arguments side by side.
+/// Each call is a part's, as those of `Both` are; a write changes its part alone. It takes no memory. This project's
+/// own: comemo's functions take their tracked arguments side by side.
 #[derive(Drop)]
 pub struct BothMut<'a, A, B> {
-    /// A view of the first value.
-    pub first: TrackedMut<'a, A>,
-    /// A view of the second value.
-    pub second: TrackedMut<'a, B>,
+    /// The first value.
+    pub first: &'a mut A,
+    /// The second value.
+    pub second: &'a mut B,
 }
 
 /// An answer takes what its part takes, and is refused where its part's is. So it is with a write.
@@ -25,16 +24,13 @@ impl<'a, A: Track, B: Track> Track for BothMut<'a, A, B> {
 
     type Answer = MultiAnswer<A::Answer, B::Answer>;
 
-    ghost use Rattle.comemo_track.specs.Views.{place_of};
     ghost use Rattle.comemo_track.specs.Multi.{part_answers, OnCall};
     ghost use Rattle.comemo_track.specs.Writing.{WroteAt};
     ghost use Rattle.comemo_track.specs.MultiLaws.{by_parts, by_answers};
 
-    ghost answers = { λ s. part_answers
-        (A.answers (place_of s.first).now) (B.answers (place_of s.second).now) };
+    ghost answers = { λ s. part_answers (A.answers s.first.now) (B.answers s.second.now) };
 
-    ghost alike = { λ s. by_parts _
-        (A.alike (place_of s.first).now) (B.alike (place_of s.second).now)
+    ghost alike = { λ s. by_parts _ (A.alike s.first.now) (B.alike s.second.now)
         (λ c d h. Prim.search rules) (λ c d h. Prim.search rules) };
 
     ghost clones = { by_answers _ A.clones B.clones
@@ -42,8 +38,8 @@ impl<'a, A: Track, B: Track> Track for BothMut<'a, A, B> {
 
     // a write of a part changes the value of the part alone
     ghost wrote = { λ s call t. OnCall
-        (λ c. WroteAt A.wrote (place_of s.first) c (place_of t.first) × (t.second ≡ s.second))
-        (λ c. WroteAt B.wrote (place_of s.second) c (place_of t.second) × (t.first ≡ s.first))
+        (λ c. WroteAt A.wrote s.first c t.first × (t.second ≡ s.second))
+        (λ c. WroteAt B.wrote s.second c t.second × (t.first ≡ s.first))
         call };
 
     fn ask(
@@ -51,19 +47,19 @@ impl<'a, A: Track, B: Track> Track for BothMut<'a, A, B> {
         call: &MultiCall<A::Call, B::Call>,
     ) -> Result<MultiAnswer<A::Answer, B::Answer>, AllocError> {
         match call {
-            MultiCall::A(call) => Ok(MultiAnswer::A(self.first.read(call)?)),
-            MultiCall::B(call) => Ok(MultiAnswer::B(self.second.read(call)?)),
+            MultiCall::A(call) => Ok(MultiAnswer::A(self.first.ask(call)?)),
+            MultiCall::B(call) => Ok(MultiAnswer::B(self.second.ask(call)?)),
         }
     }
 
     fn call_mut(&mut self, call: &MultiCall<A::Call, B::Call>) -> Result<(), AllocError> {
         match call {
             MultiCall::A(call) => {
-                self.first.value.call_mut(call)?;
+                self.first.call_mut(call)?;
                 Ok(())
             }
             MultiCall::B(call) => {
-                self.second.value.call_mut(call)?;
+                self.second.call_mut(call)?;
                 Ok(())
             }
         }

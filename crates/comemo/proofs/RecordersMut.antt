@@ -1,0 +1,70 @@
+-- What a recorder of a value that is written knows of its recording.
+use Rattle.std.proofs.Common.{◌≡◌, ◌∙◌, Bool, true, false, List, [], ◌∷◌, ◌++◌, IsTrue, Result, Ok, Err, IfOk, OnErr, IsErrAnd, arith, refl, sym, ap, subst, append-nil}
+use Rattle.std.specs.List.{All}
+use Rattle.std.specs.Borrow.{MutBor}
+use Rattle.std.specs.Cmp.{IsEquivalence}
+use Rattle.comemo_base.specs.Answers.{Respects, Agrees}
+use Rattle.comemo_base.proofs.Paths.{turned, joined}
+use Rattle.comemo_track.specs.Recording.{Recording, Took}
+use Rattle.comemo_track.specs.Sending.{Asks}
+use Rattle.comemo_track.specs.Writing.{SameReads}
+use Rattle.comemo.specs.Function.{Recorded, Fits}
+use Rattle.comemo.specs.FunctionMut.{Reaches, Goes, TellsMut}
+use Rattle.comemo.specs.declared.pending.Fault.{Fault}
+use Rattle.comemo.specs.declared.pending.Fault.TheVariants as fault
+use Rattle.comemo.proofs.Recorders.{still_agrees, fitted, tells_answer}
+
+module _ {C R : Type 0} {w : C → Bool} {same : R → R → Bool} (answers : IsEquivalence same) (m n : C → R) where
+  -- answers of which no read's differs agree with the same reads
+  pub agrees_alike : SameReads w same m n → (ps : List (C × R)) → All (λ p. w p.0 ≡ false) ps → Agrees same m ps → Agrees same n ps
+  agrees_alike reads [] h a = tt
+  agrees_alike reads (p ∷ ps) h a = (joined answers (n p.0) (m p.0) p.1 (turned answers (m p.0) (n p.0) (reads p.0 (h 0 p (omega arith)))) a.0, agrees_alike reads ps (λ k d l. h (suc k) d (omega arith)) a.1)
+
+  pub turned_reads : SameReads w same m n → SameReads w same n m
+  turned_reads reads call read = turned answers (m call) (n call) (reads call read)
+
+-- after a read, and after one that was refused, the answers agree with what is recorded
+pub asked_agrees : {C R : Type 0} {eq : C → C → Bool} {same : R → R → Bool} → IsEquivalence eq → IsEquivalence same → (m : C → R) → Respects eq same m → (s t : Recording C R) → (s.whole ≡ true → Agrees same m s.pairs) → {E : Type 0} (call : C) (r : Result R E) → IfOk r (λ answer. Asks same m call answer (Took eq s t)) → OnErr r (Took eq s t [] []) → t.whole ≡ true → Agrees same m t.pairs
+asked_agrees calls answers m respects s t before call (Ok answer) k e = still_agrees calls answers m respects ((call, k.noted) ∷ []) [] k.sent (k.alike, tt) before
+asked_agrees calls answers m respects s t before call (Err x) k e = still_agrees calls answers m respects [] [] e tt before
+
+module _ {V C R : Type 0} {did : V → V → List C → Type 0} {s t : Recorded (MutBor V) C R} where
+  -- where neither the value nor the writes changed
+  pub goes_nowhere : t.value ≡ s.value → t.recording.writes ≡ s.recording.writes → {X : Type 0} (r : Result X Fault) → Goes did s t r
+  goes_nowhere value writes (Ok x) = record {
+    same_place = ap (λ v. v.ghost_name) value;
+    done = λ start d. subst (λ v. did start v.now t.recording.writes) (sym value) (subst (λ ws. did start s.value.now ws) (sym writes) d);
+    reached = λ start r. subst (λ v. Reaches did start v.now) (sym value) r;
+  }
+  goes_nowhere value writes (Err f) = record {
+    same_place = ap (λ v. v.ghost_name) value;
+    done = tt;
+    reached = λ start r. subst (λ v. Reaches did start v.now) (sym value) r;
+  }
+
+  -- after one write
+  pub goes_on : ((i j k : V) (U W : List C) → did i j U → did j k W → did i k (U ++ W)) → t.value.ghost_name ≡ s.value.ghost_name → (W : List C) → t.recording.writes ≡ s.recording.writes ++ W → did s.value.now t.value.now W → {X : Type 0} (x : X) → Goes did s t (Ok x)
+  goes_on joins place W writes does x = record {
+    same_place = place;
+    done = λ start d. subst (λ ws. did start t.value.now ws) (sym writes) (joins start s.value.now t.value.now s.recording.writes W d does);
+    reached = λ start r. (r.0 ++ W, joins start s.value.now t.value.now r.0 W r.1 does);
+  }
+
+  module _ {eq : C → C → Bool} {same : R → R → Bool} (calls : IsEquivalence eq) (answers : IsEquivalence same) (m : C → R) (respects : Respects eq same m) (before : s.recording.whole ≡ true → Agrees same m s.recording.pairs) where
+    pub tells_answer_mut : t.value ≡ s.value → (call : C) (answer : R) → Asks same m call answer (Took eq s.recording t.recording) → TellsMut did (Fits eq same) s t (Ok answer) (λ answer n. IsTrue (same (n call) answer))
+    tells_answer_mut value call answer k =
+        let told = tells_answer value calls answers m respects before call answer k in
+        record {
+          goes = goes_nowhere value (k.sent.writes ∙ append-nil s.recording.writes) (Ok answer);
+          before = told.before;
+          told = told.told;
+          fault = tt;
+        }
+
+    pub tells_write : {X : Type 0} (x : X) → Goes did s t (Ok x) → (W : List C) → Took eq s.recording t.recording [] W → TellsMut did (Fits eq same) s t (Ok x) (λ _ _. ⊤)
+    tells_write x goes W took = record {
+      goes = goes;
+      before = fitted calls answers m respects [] W took tt before;
+      told = λ n f. tt;
+      fault = tt;
+    }
