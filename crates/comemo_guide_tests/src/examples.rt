@@ -1,7 +1,7 @@
 //! The examples at the heads of the crates `comemo_samples` and `comemo_guide`.
 use comemo::{CacheData, How, MemoOf, Top, Track, memoized};
 use comemo_guide::warmth::Warmth;
-use comemo_samples::{Cells, Get, Town, TownCall};
+use comemo_samples::{Cells, Counter, CounterCall, Emitter, EmitterCall, Get, Town, TownCall};
 use std::test::Fail;
 
 #[test]
@@ -18,6 +18,19 @@ fn of_comemo_samples(rt: HostRuntime) -> Result<(), Fail> {
         degrees: 21,
     };
     assert_eq!(rt; town.ask(&TownCall::Degrees), Ok(21));
+
+    let mut emitter = Emitter::new(alloc);
+    for text in ["to", "day"] {
+        let emit = EmitterCall::Emit(String::from_str(alloc, text)?);
+        emitter.track_mut(alloc).write(emit, &mut Top::new())?;
+    }
+    assert_eq!(rt; emitter.text(), "today");
+
+    let mut counter = Counter { number: u64::MAX };
+    counter
+        .track_mut(alloc)
+        .write(CounterCall::Add(3), &mut Top::new())?;
+    assert_eq!(rt; counter.number, 2);
     Ok(())
 }
 
