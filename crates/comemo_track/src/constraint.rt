@@ -67,6 +67,13 @@ impl<C: Call, R> Constraint<C, R> {
         self.whole
     }
 
+    /// Nothing: it says that the recorded reads are reads, for a proof. It takes no memory. This project's own.
+    pub fn has_reads(&self)
+        ensures { All (λ p. C.is_write p.0 ≡ false) self.now.pairs }
+    {
+        let _ = &self.reads;
+    }
+
     /// The recorded reads, as a sequence, which is what a cache stores them by, and the recorded writes. It takes no
     /// memory. This project's own.
     pub fn into_parts(self) -> (CallSequence<C, R>, Vec<C>)

@@ -133,6 +133,63 @@ impl<'a, K: Clone + Eq + Hash, T: Track> Input for Keyed<'a, K, T> {
     }
 }
 
+/// A key joined with a view that writes: the input of a function that writes. Its calls are the view's, and on it they
+/// are done.
+///
+/// What `Keyed` is to a function that reads. It takes what its parts take, and a write is refused where the value
+/// refuses it. This project's own.
+#[derive(Drop)]
+pub struct KeyedMut<'a, K: Clone + Eq + Hash, T> {
+    /// What isn't tracked.
+    pub key: Hashed<K>,
+    /// A view of what is tracked.
+    pub view: TrackedMut<'a, T>,
+}
+
+impl<'a, K: Clone + Eq + Hash, T: Track> Input for KeyedMut<'a, K, T> {
+    type Call = T::Call;
+
+    type Key = K;
+
+    type Answer = T::Answer;
+
+    ghost key_of = { λ s. s.key };
+
+    ghost answers = { λ s. T.answers (place_of s.view).now };
+
+    ghost did = { λ s t W. ⟦<T as Written>⟧.did (place_of s.view).now (place_of t.view).now W
+        × ((place_of t.view).ghost_name ≡ (place_of s.view).ghost_name)
+        × (t.key ≡ s.key) };
+
+    ghost alike = { λ s. T.alike (place_of s.view).now };
+
+    ghost starts = { λ s. (refl, refl, refl) };
+
+    ghost joins = { λ s t u V W a b. (
+        done_both T.wrote T.Call.is_write T.Answer.eq T.answers
+        (place_of s.view).now (place_of t.view).now (place_of u.view).now V W a.0 b.0,
+        b.1 ∙ a.1,
+        b.2 ∙ a.2,
+      ) };
+
+    ghost keeps = { λ s t W a.
+        done_keeps T.wrote T.Call.is_write T.Answer.eq T.answers T.Answer.Eq.laws (place_of s.view).now (place_of t.view).now W a.0 };
+
+    ghost keeps_key = { λ s t W a. equal_if_one K.Eq.laws _ _ a.2 };
+
+    fn key(&self) -> Result<K, AllocError> {
+        self.key.key()
+    }
+
+    fn call(&mut self, call: &T::Call) -> Result<T::Answer, AllocError> {
+        self.view.read(call)
+    }
+
+    fn call_mut(&mut self, call: &T::Call) -> Result<(), AllocError> {
+        self.view.value.call_mut(call)
+    }
+}
+
 /// A view: an input with no key, whose calls and answers are the view's. Lent as `&mut`, it is its caller's again after
 /// a look-up. The key takes no memory; an answer is refused where the value refuses it.
 ///

@@ -41,7 +41,7 @@ pub mod writing;
 
 pub use both::Both;
 pub use constraint::Constraint;
-pub use input::{Hashed, Input, Keyed};
+pub use input::{Hashed, Input, Keyed, KeyedMut};
 pub use mapped::{CallMap, MappedSink};
 pub use multi::{First, Multi, MultiAnswer, MultiCall, Second};
 pub use track::{Breaking, Call, Sink, Top, Track, Tracked, TrackedWith, Written};
