@@ -1,0 +1,290 @@
+//! The front door for functions that write: a memoized function of a key and a tracked value, which it changes.
+ghost use Rattle.std.specs.Prelude.{◌≡◌, [], ◌∷◌, List, true, false, IsTrue, IfOk, IfErr, OnOk, OnErr, ⊤};
+ghost use Rattle.comemo.specs.Meaning.{invocation};
+ghost use Rattle.comemo.specs.Called.{IsReply};
+ghost use Rattle.comemo_track.specs.Recording.{Took};
+ghost use Rattle.comemo_track.specs.Sending.{Asks};
+ghost use Rattle.comemo_track.specs.Views.{place_of};
+ghost use Rattle.comemo.specs.FunctionMut.{Reached, TellsMut, LawsMut, FailsMut};
+
+use crate::cache::{CacheData, Meant, Memo};
+use crate::function::Told;
+use crate::pending::{Begun, Fault, How, Reply, begin};
+use comemo_track::constraint::Constraint;
+use comemo_track::input::{Hashed, KeyedMut};
+use comemo_track::track::{Breaking, Call, Sink, Track, Written};
+use comemo_track::writing::TrackedMut;
+use std::alloc::Global;
+use std::hash::Hash;
+use std::marker::{Model, PhantomData};
+
+/// A memoized function of a key and a tracked value, which it reads and writes.
+///
+/// It is written as a `Function` is, but `means` says which writes are right beside the output, and a law that it
+/// doesn't tell equal writes apart. This project's own: what comemo's `#[memoize]` makes of a function that takes a
+/// `TrackedMut`.
+pub trait FunctionMut {
+    /// What isn't tracked of the arguments: what a call is kept under.
+    type Key: Clone + Eq + Hash;
+
+    /// The tracked value that a run asks and changes.
+    type Of: Track;
+
+    /// What the function gives.
+    type Out: Clone;
+
+    /// What a run takes beside its arguments: the caches of the functions that it calls, or `()`.
+    type Needs;
+
+    // at this key and these answers, this output and these writes are right
+    ghost means: { Self.Key → (Self.Of.Call → Self.Of.Answer) → Self.Out
+        → List Self.Of.Call → Type 0 };
+
+    /// Does the function: asks the value and writes to it through the recorder, which keeps what it was told and what
+    /// was written.
+    ///
+    /// Output and writes have to be right for all answers that agree with what was recorded, and the value is changed
+    /// by the recorder alone. A run may answer `Incomplete` only where its recording was spoiled, as by a call that
+    /// failed. After a fault nothing is stored for the run; the writes that it did stay done, and what it did to its
+    /// needs stays.
+    fn run(
+        key: &Self::Key,
+        of: &mut RecorderMut<'_, Self::Of>,
+        needs: &mut Self::Needs,
+    ) -> Result<Self::Out, Fault>
+        requires { of.now.recording.writes ≡ [] }
+        ensures same { of.new.loan ≡ of.old.loan }
+        ensures right { IfOk result (λ output. (m : Self.Of.Call → Self.Of.Answer)
+            → ⟦<Self::Of as Told>⟧.fits of.new.recording m
+            → means key.now m output of.new.recording.writes) }
+        ensures done { OnOk result ((start : Self.Of)
+            → ⟦<Self::Of as Written>⟧.did start of.old.value of.old.recording.writes
+            → ⟦<Self::Of as Written>⟧.did start of.new.value of.new.recording.writes) }
+        ensures reached { (start : Self.Of)
+            → Reached ⟦<Self::Of as Written>⟧.did start of.old.value
+            → Reached ⟦<Self::Of as Written>⟧.did start of.new.value }
+        ensures fault { IfErr result
+            (λ fault. fault ≡ Fault.Incomplete → of.new.recording.whole ≡ false) };
+
+    // clones of keys are equal, and the meaning tells apart neither equal keys, nor equal writes, nor an output from its clone
+    ghost laws: { LawsMut Self.Of.Call.eq Self.Of.Answer.eq Self.Key.eq Self.Key.is_clone
+        Self.Out.is_clone means };
+}
+
+/// A view of a tracked value that writes, and records what it is asked and what it writes. A run is handed one.
+///
+/// This project's own.
+#[derive(Drop)]
+pub struct RecorderMut<'a, T: Track> {
+    pub(crate) alloc: Global,
+    pub(crate) view: TrackedMut<'a, T>,
+    pub(crate) recording: Constraint<T::Call, T::Answer>,
+}
+
+impl<'a, T: Track> Model for RecorderMut<'a, T> {
+    ghost use Rattle.std.specs.Prelude.{◌≡◌, true};
+    ghost use Rattle.comemo_base.specs.Answers.{Agrees};
+    ghost use Rattle.comemo_track.specs.Views.{place_of};
+    ghost use Rattle.comemo.specs.FunctionMut.{Written};
+
+    ghost Value = { Written T T.Call T.Answer };
+
+    ghost view = { λ s. record {
+      value = (place_of s.view).now;
+      loan = (place_of s.view).ghost_name;
+      recording = s.recording;
+    } };
+
+    ghost invariant = { λ s. s.recording.whole ≡ true
+        → Agrees T.Answer.eq (T.answers (place_of s.view).now) s.recording.pairs };
+}
+
+impl<'a, T: Track> RecorderMut<'a, T> {
+    /// A recorder of nothing.
+    fn new(alloc: Global, view: TrackedMut<'a, T>) -> Self
+        ensures value { result.value ≡ (place_of view.entry).now }
+        ensures loan { result.loan ≡ (place_of view.entry).ghost_name }
+        ensures pairs { result.recording.pairs ≡ [] }
+        ensures writes { result.recording.writes ≡ [] }
+        ensures whole { result.recording.whole ≡ true }
+    {
+        RecorderMut {
+            alloc,
+            view,
+            recording: Constraint::new(alloc),
+        }
+    }
+
+    /// Asks the value a read, and records the call with its answer.
+    ///
+    /// It does what `ask` of `Recorder` does, and costs the same. `Memory` says that there was none for the answer, its
+    /// clone or the recording, which is as it was then.
+    pub fn ask(&mut self, call: T::Call) -> Result<T::Answer, Fault>
+        requires { T.Call.is_write call ≡ false }
+        ensures tells { TellsMut ⟦<T as Told>⟧.fits ⟦<T as Written>⟧.did self.old self.new result
+            (λ answer m. IsTrue (T.Answer.eq (m call) answer)) }
+        ensures same { self.new.value ≡ self.old.value }
+        ensures writes { self.new.recording.writes ≡ self.old.recording.writes }
+        ensures asks { IfOk result
+            (λ answer. Asks T.Answer.eq (T.answers self.old.value) call answer
+            (Took T.Call.eq self.old.recording self.new.recording)) }
+        ensures err { IfErr result (λ fault. (fault ≡ Fault.Memory)
+            × Took T.Call.eq self.old.recording self.new.recording [] []) }
+    {
+        Ok(self.view.ask(call, &mut self.recording)?)
+    }
+
+    /// Does a write on the value, and records it.
+    ///
+    /// After `Ok` it was done and recorded; after `Memory` neither, and value and recording are as they were: the value
+    /// refused it, or there was no memory for it in the recording, which makes room first. It stands in the place of
+    /// the methods that comemo's macro `track` writes.
+    pub fn write(&mut self, call: T::Call) -> Result<(), Fault>
+        requires { T.Call.is_write call ≡ true }
+        ensures tells { TellsMut ⟦<T as Told>⟧.fits ⟦<T as Written>⟧.did self.old self.new result
+            (λ _ _. ⊤) }
+        ensures did { OnOk result
+            (⟦<T as Written>⟧.did self.old.value self.new.value (call ∷ [])) }
+        ensures took { OnOk result
+            (Took T.Call.eq self.old.recording self.new.recording [] (call ∷ [])) }
+        ensures err { IfErr result (λ fault. (fault ≡ Fault.Memory)
+            × (self.new.value ≡ self.old.value)
+            × Took T.Call.eq self.old.recording self.new.recording [] []) }
+    {
+        self.recording.has_reads();
+        self.view.write(call, &mut self.recording)?;
+        Ok(())
+    }
+}
+
+/// What a cache takes a function that writes for: `CacheData<MemoOfMut<F>>` is the cache of `F`.
+///
+/// There is no value of it to make. This project's own.
+pub struct MemoOfMut<F> {
+    function: PhantomData<F>,
+}
+
+impl<F: FunctionMut> Memo for MemoOfMut<F> {
+    type Call = <F::Of as Track>::Call;
+
+    type Key = F::Key;
+
+    type Answer = <F::Of as Track>::Answer;
+
+    type Out = F::Out;
+
+    ghost def = { F.means };
+
+    ghost laws = { record {
+      outputs = F.laws.outputs;
+      keys = F.laws.keys;
+      writes = F.laws.writes;
+      key_clones = F.laws.clones;
+      answer_clones = F.Of.clones;
+    } };
+}
+
+/// A memoized function of a key and `T`, which it reads and writes, where `T` may borrow.
+///
+/// What the function means is its `Memo`, which names no lifetime, so that its cache outlives the values. A
+/// `FunctionMut` is one by its `MemoOfMut`, with nothing to write. This project's own.
+pub trait FunctionMutOf<T: Track>: Memo<Call = T::Call, Answer = T::Answer> {
+    /// What a run takes beside its arguments: the caches of the functions that it calls, or `()`.
+    type Needs;
+
+    /// Does the function, as `FunctionMut::run` does, and with the same said of its output, its writes and its faults.
+    fn run(
+        key: &Self::Key,
+        of: &mut RecorderMut<'_, T>,
+        needs: &mut Self::Needs,
+    ) -> Result<Self::Out, Fault>
+        requires { of.now.recording.writes ≡ [] }
+        ensures same { of.new.loan ≡ of.old.loan }
+        ensures right { IfOk result (λ output. (m : T.Call → T.Answer)
+            → ⟦<T as Told>⟧.fits of.new.recording m
+            → Self.def key.now m output of.new.recording.writes) }
+        ensures done { OnOk result ((start : T)
+            → ⟦<T as Written>⟧.did start of.old.value of.old.recording.writes
+            → ⟦<T as Written>⟧.did start of.new.value of.new.recording.writes) }
+        ensures reached { (start : T)
+            → Reached ⟦<T as Written>⟧.did start of.old.value
+            → Reached ⟦<T as Written>⟧.did start of.new.value }
+        ensures fault { IfErr result
+            (λ fault. fault ≡ Fault.Incomplete → of.new.recording.whole ≡ false) };
+}
+
+impl<F: FunctionMut> FunctionMutOf<F::Of> for MemoOfMut<F> {
+    type Needs = F::Needs;
+
+    fn run(
+        key: &F::Key,
+        of: &mut RecorderMut<'_, F::Of>,
+        needs: &mut F::Needs,
+    ) -> Result<F::Out, Fault> {
+        F::run(key, of, needs)
+    }
+}
+
+/// Calls a memoized function that writes: gives the output that its cache keeps where an entry agrees, and does its
+/// writes again, or runs it and keeps what it gave and wrote.
+///
+/// The sink takes what was asked, and then the writes: the recording of the run around the call, or `Top` where there
+/// is none. With `enabled` false there is no look-up, and nothing is kept. A fault leaves the cache as it was and
+/// spoils the sink. Of a run that failed the writes that it did stay done, as does what it did to its needs. `Write`
+/// comes of a hit where the value refused a write, or of the run: those before it are done. A hit costs what
+/// `begin` costs, any other call what `begin`, the run and `finish` cost. This project's own: a call of a function under
+/// comemo's `#[memoize]` that takes a `TrackedMut`.
+pub fn memoized_mut<
+    M: FunctionMutOf<T>,
+    T: Track,
+    S: Sink<Call = T::Call, Answer = T::Answer>,
+>(
+    alloc: Global,
+    cache: &mut CacheData<M>,
+    needs: &mut M::Needs,
+    key: M::Key,
+    of: TrackedMut<'_, T>,
+    sink: &mut S,
+    enabled: bool,
+) -> Result<Reply<M::Out>, Fault>
+    ensures right { IfOk result (λ reply. (writes : List T.Call)
+        × M.def key (T.answers (place_of of.entry).now) reply.output writes
+        × ⟦<T as Written>⟧.did (place_of of.entry).now of.exit.0.now writes) }
+    ensures reply { IfOk result (λ reply. IsReply ⟦<M as Meant>⟧.meaning
+        (invocation key (T.answers (place_of of.entry).now) enabled) cache.old cache.old
+        (λ P W. S.took sink.old sink.new P W
+        × ⟦<T as Written>⟧.did (place_of of.entry).now of.exit.0.now W) reply cache.new) }
+    ensures err { OnErr result ((cache.new ≡ cache.old)
+        × FailsMut ⟦<M as Meant>⟧.meaning cache.old
+        (invocation key (T.answers (place_of of.entry).now) enabled)
+        ⟦<T as Written>⟧.did (place_of of.entry).now of.exit.0.now
+        (⟦<S as Breaking>⟧.breaks_off sink.old sink.new)
+        (⟦<S as Breaking>⟧.spoiled_after sink.old sink.new)) }
+{
+    let mut input = KeyedMut {
+        key: Hashed(key),
+        view: of,
+    };
+    match begin(alloc, cache, &mut input, sink, enabled)? {
+        Begun::Hit(output) => {
+            drop(input);
+            Ok(Reply {
+                output,
+                how: How::Hit,
+            })
+        }
+        Begun::Run(mut pending) => {
+            let KeyedMut { key, view } = input;
+            let mut recorder = RecorderMut::new(alloc, view);
+            let ran = M::run(&key.0, &mut recorder, needs);
+            let RecorderMut {
+                alloc: _,
+                view: _,
+                recording,
+            } = recorder;
+            recording.has_reads();
+            pending.recording = recording;
+            pending.end(cache, sink, ran)
+        }
+    }
+}
