@@ -44,7 +44,7 @@ impl Memo for FileSize {
 ///
 /// The size is that of the present text, on a hit as on a miss. `Memory` says that there was no memory for the answer:
 /// then the cache is as it was, and the sink is spoiled. A call, a hit too, finds the path by one hash look-up, and the
-/// text by binary search among those kept under the path; it takes memory for some copies of the path. A run that is
+/// text in an ordered map of those kept under the path; it takes memory for some copies of the path. A run that is
 /// stored keeps the text, which it shares, and the path where none was kept under it.
 pub fn size<S: Sink<Call = JoinedCall, Answer = JoinedAnswer>>(
     alloc: Global,

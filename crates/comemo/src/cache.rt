@@ -180,7 +180,7 @@ impl<M: Memo> CacheData<M> {
     /// Looks for the entry under a key whose path the input's answers agree with, and gives clones of it.
     ///
     /// It asks the input the calls along one stored path, each once, as `CallTree::find` does: it finds the key by one
-    /// hash look-up, and each answer by binary search among those that are stored at its place. It keeps a list of the
+    /// hash look-up, and each answer in an ordered map of those that are stored at its place. It keeps a list of the
     /// pairs on its way, and clones nothing but what it gives: the calls and the output. Nothing changes. An error says
     /// that there was no memory for an answer of the input or, where an entry was found, for the list or the clones. It
     /// is the first half of a hit of comemo's `memoize`.

@@ -347,7 +347,7 @@ fn end_run<M: Memo, S: Sink<Call = M::Call, Answer = M::Answer>>(
 /// after it took perhaps a beginning of the entry's path.
 ///
 /// It clones the key, and looks as `CacheData::look` does, which asks each call of one stored path once and finds its
-/// answer by binary search. On a hit it clones the calls of the entry's path and its output, and sends each pair of the
+/// answer in an ordered map. On a hit it clones the calls of the entry's path and its output, and sends each pair of the
 /// path to the sink. The first half of comemo's `memoize`.
 pub fn begin<
     M: Memo,
