@@ -53,12 +53,12 @@ pub trait Input {
         ensures same { did self.old self.new [] };
 
     /// Does a write on the input. An error says that it was refused, and then nothing was done. What can't be written
-    /// to does nothing.
+    /// to does nothing. It is handed no read.
     ///
     /// comemo's `Input::call_mut`, which can't be refused.
     fn call_mut(&mut self, call: &Self::Call) -> Result<(), AllocError>
-        requires { Self.Call.is_write call.now ≡ true }
-        ensures ok { OnOk result (did self.old self.new (call.now ∷ [])) }
+        ensures ok { Self.Call.is_write call.now ≡ true
+            → OnOk result (did self.old self.new (call.now ∷ [])) }
         ensures err { OnErr result (did self.old self.new []) };
 
     // equal calls have equal answers

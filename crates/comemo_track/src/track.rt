@@ -288,12 +288,13 @@ pub trait Track {
     // what a write does: the value before it, the write, and the value after it
     ghost wrote: { Self → Self.Call → Self → Type 0 } = { λ _ _ _. ⊤ };
 
-    /// Does a write, which changes no read's answer. An error says that it was refused, and then nothing changes.
+    /// Does a write, which changes no read's answer. An error says that it was refused, and then nothing changes. What it
+    /// does with a read is left open, but that it changes no read's answer either: it is handed none.
     ///
     /// A type without writes does not write this method. comemo's `Track::call_mut`, which can't be refused.
     fn call_mut(&mut self, call: &Self::Call) -> Result<(), AllocError>
-        requires { Self.Call.is_write call.now ≡ true }
-        ensures ok { OnOk result (wrote self.old call.now self.new) }
+        ensures ok { Self.Call.is_write call.now ≡ true
+            → OnOk result (wrote self.old call.now self.new) }
         ensures reads { OnOk result
             (SameReads Self.Call.is_write Self.Answer.eq (answers self.old) (answers self.new)) }
         ensures err { OnErr result (self.new ≡ self.old) }
