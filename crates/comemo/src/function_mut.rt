@@ -1,14 +1,68 @@
 //! The front door of functions that write: a memoized function of a key and a tracked value that its run writes to.
-ghost use Rattle.std.specs.Prelude.{◌≡◌, [], ◌∷◌, ◌++◌, List, true, false, IsTrue, IfOk, IfErr, OnOk, OnErr, ⊤};
-ghost use Rattle.comemo.specs.FunctionMut.{Goes, TellsMut, LawsMut};
+ghost use Rattle.std.specs.Prelude.{◌≡◌, ◌⊎◌, [], ◌∷◌, ◌++◌, List, true, false, IsTrue, IfOk, IfErr, OnOk, OnErr, ⊤};
+ghost use Rattle.comemo.specs.Meaning.{invocation};
+ghost use Rattle.comemo.specs.Called.{IsReply};
+ghost use Rattle.comemo.specs.Cache.{Touches};
+ghost use Rattle.comemo.specs.Begin.{IsStopped};
+ghost use Rattle.comemo.specs.Finish.{BrokeOff};
+ghost use Rattle.comemo.specs.FunctionMut.{Reaches, Goes, TellsMut, LawsMut};
 ghost use Rattle.comemo_track.specs.Sending.{Asks};
 
+use crate::cache::{CacheData, Meant, Memo};
 use crate::function::Told;
-use crate::pending::Fault;
+use crate::pending::{Begun, Fault, How, Reply, begin};
 use comemo_track::constraint::Constraint;
-use comemo_track::track::{Track, Written};
+use comemo_track::input::KeyedMut;
+use comemo_track::track::{Breaking, Call, Sink, Track, Written};
 use std::alloc::Global;
-use std::marker::Model;
+use std::hash::Hash;
+use std::marker::{Model, PhantomData};
+
+/// A memoized function of a key and a tracked value, which it reads and writes.
+///
+/// It is written as a `Function` is, but `means` says which writes are right beside the output, and the laws say that
+/// it doesn't tell equal writes apart. This project's own: what comemo's `#[memoize]` makes of a function that takes a
+/// `TrackedMut`.
+pub trait FunctionMut {
+    /// What isn't tracked of the arguments: what a call is kept under.
+    type Key: Clone + Eq + Hash;
+
+    /// The tracked value that a run asks and changes.
+    type Of: Track;
+
+    /// What the function gives.
+    type Out: Clone;
+
+    /// What a run takes beside its arguments: the caches of the functions that it calls, or `()`.
+    type Needs;
+
+    // at this key and these answers, this output and these writes are right
+    ghost means: { Self.Key → (Self.Of.Call → Self.Of.Answer) → Self.Out
+        → List Self.Of.Call → Type 0 };
+
+    /// Does the function: asks the value and writes to it through the recorder, which keeps what it was told and what
+    /// was written.
+    ///
+    /// Output and writes have to be right for all answers that agree with what was recorded. A run may answer
+    /// `Incomplete` only where its recording was spoiled, as by a call that failed. After a fault nothing is stored for
+    /// the run; the writes that it did stay done, and what it did to its needs stays.
+    fn run(
+        key: &Self::Key,
+        of: &mut RecorderMut<'_, Self::Of>,
+        needs: &mut Self::Needs,
+    ) -> Result<Self::Out, Fault>
+        requires { of.now.recording.writes ≡ [] }
+        ensures goes { Goes ⟦<Self::Of as Written>⟧.did of.old of.new result }
+        ensures right { IfOk result (λ output. (m : Self.Of.Call → Self.Of.Answer)
+            → ⟦<Self::Of as Told>⟧.fits of.new.recording m
+            → means key.now m output of.new.recording.writes) }
+        ensures fault { IfErr result
+            (λ fault. fault ≡ Fault.Incomplete → of.new.recording.whole ≡ false) };
+
+    // clones of keys are equal, and the meaning tells apart neither equal keys nor equal writes, nor an output from its clone
+    ghost laws: { LawsMut Self.Of.Call.eq Self.Of.Answer.eq Self.Key.eq Self.Key.is_clone
+        Self.Out.is_clone means };
+}
 
 /// A tracked value that is lent to a run, which records what it asks and what it writes. A run is handed one.
 ///
@@ -76,5 +130,129 @@ impl<'a, T: Track> RecorderMut<'a, T> {
         let mut view = self.value.track_mut(self.alloc);
         view.write(call, &mut self.recording)?;
         Ok(())
+    }
+}
+
+/// What a cache takes a function that writes for: `CacheData<MemoOfMut<F>>` is the cache of `F`.
+///
+/// There is no value of it to make. This project's own.
+pub struct MemoOfMut<F> {
+    function: PhantomData<F>,
+}
+
+impl<F: FunctionMut> Memo for MemoOfMut<F> {
+    type Call = <F::Of as Track>::Call;
+
+    type Key = F::Key;
+
+    type Answer = <F::Of as Track>::Answer;
+
+    type Out = F::Out;
+
+    ghost def = { F.means };
+
+    ghost laws = { record {
+      outputs = F.laws.outputs;
+      keys = F.laws.keys;
+      writes = F.laws.writes;
+      key_clones = F.laws.clones;
+      answer_clones = F.Of.clones;
+    } };
+}
+
+/// A memoized function of a key and `T`, which it reads and writes, where `T` may borrow: several tracked values as one,
+/// by `BothMut`, or a user's own.
+///
+/// What the function means is its `Memo`, which names no lifetime, so that its cache outlives the values. A
+/// `FunctionMut` is one by its `MemoOfMut`, with nothing to write. This project's own.
+pub trait FunctionMutOf<T: Track>: Memo<Call = T::Call, Answer = T::Answer> {
+    /// What a run takes beside its arguments: the caches of the functions that it calls, or `()`.
+    type Needs;
+
+    /// Does the function, as `FunctionMut::run` does, and with the same said of its output, its writes and its faults.
+    fn run(
+        key: &Self::Key,
+        of: &mut RecorderMut<'_, T>,
+        needs: &mut Self::Needs,
+    ) -> Result<Self::Out, Fault>
+        requires { of.now.recording.writes ≡ [] }
+        ensures goes { Goes ⟦<T as Written>⟧.did of.old of.new result }
+        ensures right { IfOk result (λ output. (m : T.Call → T.Answer)
+            → ⟦<T as Told>⟧.fits of.new.recording m
+            → Self.def key.now m output of.new.recording.writes) }
+        ensures fault { IfErr result
+            (λ fault. fault ≡ Fault.Incomplete → of.new.recording.whole ≡ false) };
+}
+
+impl<F: FunctionMut> FunctionMutOf<F::Of> for MemoOfMut<F> {
+    type Needs = F::Needs;
+
+    fn run(
+        key: &F::Key,
+        of: &mut RecorderMut<'_, F::Of>,
+        needs: &mut F::Needs,
+    ) -> Result<F::Out, Fault> {
+        F::run(key, of, needs)
+    }
+}
+
+/// Calls a memoized function that writes: gives the output that its cache keeps where an entry agrees, and does its
+/// writes again, or runs it and keeps what it gave and wrote.
+///
+/// The sink takes what was asked, and then the writes: the recording of the run around the call, or `Top` where there
+/// is none. With `enabled` false there is no look-up, and nothing is kept. Every fault spoils the sink. Of a run that
+/// failed the writes that it did stay done, as does what it did to its needs, and the cache is as it was. `Write` comes
+/// of a hit of which the value refused a write, or of the run: the writes before it are done. A hit costs what `begin`
+/// costs, any other call what `begin`, the run and `finish` cost. This project's own: a call of a function under
+/// comemo's `#[memoize]` that takes a `TrackedMut`.
+pub fn memoized_mut<M: FunctionMutOf<T>, T: Track, S: Sink<Call = T::Call, Answer = T::Answer>>(
+    alloc: Global,
+    cache: &mut CacheData<M>,
+    needs: &mut M::Needs,
+    key: M::Key,
+    of: &mut T,
+    sink: &mut S,
+    enabled: bool,
+) -> Result<Reply<M::Out>, Fault>
+    ensures right { IfOk result (λ reply. (writes : List T.Call)
+        × M.def key (T.answers of.old) reply.output writes
+        × ⟦<T as Written>⟧.did of.old of.new writes) }
+    ensures reply { IfOk result (λ reply. IsReply ⟦<M as Meant>⟧.meaning
+        (invocation key (T.answers of.old) enabled) cache.old cache.old
+        (λ P W. S.took sink.old sink.new P W × ⟦<T as Written>⟧.did of.old of.new W)
+        reply cache.new) }
+    ensures reached { Reaches ⟦<T as Written>⟧.did of.old of.new }
+    ensures err { OnErr result (((cache.new ≡ cache.old)
+        × BrokeOff T.Answer.eq (T.answers of.old)
+        (⟦<S as Breaking>⟧.breaks_off sink.old sink.new))
+        ⊎ (Touches cache.old cache.new
+        × IsStopped ⟦<M as Meant>⟧.meaning cache.old
+        (invocation key (T.answers of.old) enabled)
+        (⟦<T as Written>⟧.did of.old of.new)
+        (⟦<S as Breaking>⟧.spoiled_after sink.old sink.new))) }
+{
+    let mut input = KeyedMut { key, value: of };
+    match begin(alloc, cache, &mut input, sink, enabled)? {
+        Begun::Hit(output) => Ok(Reply {
+            output,
+            how: How::Hit,
+        }),
+        Begun::Run(mut pending) => {
+            let KeyedMut { key, value } = input;
+            let mut recorder = RecorderMut {
+                alloc,
+                value,
+                recording: Constraint::new(alloc),
+            };
+            let ran = M::run(&key, &mut recorder, needs);
+            let RecorderMut {
+                alloc: _,
+                value: _,
+                recording,
+            } = recorder;
+            recording.has_reads_and_writes();
+            pending.recording = recording;
+            pending.end(cache, sink, ran)
+        }
     }
 }
