@@ -9,6 +9,7 @@ ghost use Rattle.comemo.specs.Begin.{IsRun};
 ghost use Rattle.comemo.specs.Begun.{OnBegun};
 ghost use Rattle.comemo.specs.Called.{IsReply};
 ghost use Rattle.comemo.specs.Finish.{BrokeOff};
+ghost use Rattle.comemo.specs.MeaningLaws.{none_alike};
 ghost use Rattle.calc_scripts.specs.Kinds.{IsPart};
 ghost use Rattle.calc_scripts.specs.Meaning.{Deep, IsTooDeep};
 ghost use Rattle.calc_scripts.specs.Calls.{CallLeads, CallFails, PartLeads, PartFails, RunLeads, RunFails};
@@ -45,6 +46,7 @@ impl Memo for Eval {
     ghost laws = { record {
       outputs = λ key m a b writes r c h. (h.0, λ part q. Prim.search (rules, h.1 part q));
       keys = λ j k m output writes r e h. (h.0, λ part q. Prim.search (rules, h.1 part q));
+      writes = λ key m output V W r same h. (none_alike _ V W same h.0, h.1);
       key_clones = Prim.search rules;
       answer_clones = Prim.search rules;
     } };

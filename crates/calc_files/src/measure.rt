@@ -2,6 +2,7 @@
 ghost use Rattle.std.specs.Prelude.{◌≡◌, length, IfOk, IfErr, OnErr};
 ghost use Rattle.std.proofs.Common.{rules};
 ghost use Rattle.comemo.specs.Finish.{BrokeOff};
+ghost use Rattle.comemo.specs.MeaningLaws.{none_alike};
 ghost use Rattle.calc_files.specs.Size.{IsSizeOf, SizeReply};
 ghost use Rattle.calc_files.specs.Joined.{same_answer};
 ghost use Rattle.calc_files.specs.Files.{text_at, answers_of, with_key};
@@ -35,6 +36,7 @@ impl Memo for FileSize {
     ghost laws = { record {
       outputs = λ key m a b writes r c h. (h.0, λ part q. Prim.search (rules, h.1 part q));
       keys = λ j k m output writes r e h. (h.0, size_alike j k m output r e h.1);
+      writes = λ key m output V W r same h. (none_alike _ V W same h.0, h.1);
       key_clones = Prim.search rules;
       answer_clones = Prim.search rules;
     } };

@@ -84,7 +84,7 @@ stored_is_found {files = files} {files' = files'} {path = path} {es = es} {mid =
                 let agrees = read_again files files' path own text named stays p.pairs alone p.agrees in
                 let adds = stores.adds in
                 let found = agrees_stored (keyed_calls tests) (keyed_answers tests) (with_key (answers_of files')) (files_respect files') (under same_key es ran.own) p.pairs adds.path adds.is_new agrees in
-                let new : Stored (String Global × ⊤) JoinedCall JoinedAnswer (Kept ℕ JoinedCall) = stored adds.own adds.path (record { output = stores.kept; writes = p.writes }) in
+                let new : Stored (String Global × ⊤) JoinedCall JoinedAnswer (Kept ℕ JoinedCall) = stored adds.own adds.path stores.kept in
                 let here : Contains mid new = Contains-permutation (new ∷ es) mid new adds.entries (All-head (Contains (new ∷ es)) new es (All-contains_itself (new ∷ es))) in
                 let none = All-from_under same_key mid (b.key, tt) (λ e. ¬ Agrees same_answer (with_key (answers_of files')) e.path) (missed.none refl) in
                 let alike : IsTrue (same_key adds.own (b.key, tt)) = key_alike adds.own.0 b.key (key_bytes adds.own.0 ran.own.0 adds.is_key ∙ sym (key_bytes a.key ran.own.0 ran.has_key) ∙ a.names ∙ sym b.names) in

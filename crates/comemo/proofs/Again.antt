@@ -79,7 +79,7 @@ module _ {K C R O : Type 0} (M : Meaning K C R O) where
   still_has answers keys {es} {mid} {es'} {first} second {sent} {one} is stored_it same_key respects agrees =
       let ran = stored_run es mid es' first sent one is stored_it in
       let adds = ran.stores.2.adds in
-      let e = stored adds.own adds.path (record { output = ran.stores.2.kept; writes = is.writes }) in
+      let e = stored adds.own adds.path ran.stores.2.kept in
       let own_key = joined keys adds.own ran.own first.key adds.is_key (turned keys first.key ran.own ran.has_key) in
       has_some mid es' e second adds.entries
       (joined keys adds.own first.key second.key own_key same_key)
@@ -101,9 +101,9 @@ module _ {K C R O : Type 0} (M : Meaning K C R O) where
           let X : Type 0 = (kept : O) × M.is_clone one.output kept × M.is_clone kept two.output in
           let found : Run K C R O = run second.key next.pairs two.output next.writes in
           let Q : Stored K C R (Kept O C) → Type 0 = λ e. IsTrue (M.same_key e.key second.key) × IsEntryOf M second.answers found e in
-          let e : Stored K C R (Kept O C) = stored stores.adds.own stores.adds.path (record { output = stores.kept; writes = is.writes }) in
+          let e : Stored K C R (Kept O C) = stored stores.adds.own stores.adds.path stores.kept in
           let before = All-from_under M.same_key mid second.key (λ x. ¬ Agrees M.same_answer second.answers x.path) none in
-          let each = All-cons (λ x. Q x → X) e mid (λ q. (stores.kept, stores.is_clone, q.1.2)) (λ k d l q. absurd (before k d l q.0 q.1.0)) in
+          let each = All-cons (λ x. Q x → X) e mid (λ q. (stores.kept.output, stores.is_clone, q.1.2)) (λ k d l q. absurd (before k d l q.0 q.1.0)) in
           from_any Q es' (All-permutation (λ x. Q x → X) (e ∷ mid) es' stores.adds.entries each) (Any-from_under M.same_key es' second.key (IsEntryOf M second.answers found) hit.1.kept)
       | inr ran ↦ absurd (still_has answers keys second is stored_it same_key respects agrees (ran.none enabled))
     ]

@@ -1,14 +1,18 @@
 -- For the authors of memoized functions: what `begin` and `finish` say makes what a caller wants to know.
-use Rattle.std.proofs.Common.{◌≡◌, Bool, true, false, List, [], inl, inr, Result, Ok, Err, OnErr, refl, sym, subst}
+use Rattle.std.specs.Prelude.{⊤}
+use Rattle.std.proofs.Common.{◌≡◌, Bool, true, false, List, [], ◌∷◌, ◌++◌, inl, inr, Result, Ok, Err, IfErr, OnErr, IsErrAnd, refl, sym, subst, ◌∙◌}
 use Rattle.std.specs.Cmp.{IsEquivalence}
 use Rattle.comemo_base.specs.Answers.{Respects, Agrees}
 use Rattle.comemo_track.specs.Recording.{Recording}
-use Rattle.comemo.specs.Begin.{PendingRun, came_to, IsHit, IsRun, IsBrokenOff}
+use Rattle.comemo.specs.Begin.{PendingRun, came_to, IsHit, IsRun, IsBrokenOff, IsStopped}
+use Rattle.comemo.specs.Begun.{OnFault}
 use Rattle.comemo.specs.Meaning.{Meaning, Invocation, run}
 use Rattle.comemo.specs.Cache.{Entries, Stands, Touches}
 use Rattle.comemo.specs.Called.{IsReply}
 use Rattle.comemo.specs.Finish.{Ends, Finished, BreaksOffRun, BrokeOff}
 use Rattle.comemo.specs.declared.pending.How.TheVariants as how
+use Rattle.comemo.specs.declared.pending.Fault.{Fault}
+use Rattle.comemo.specs.declared.pending.Fault.TheVariants as fault
 use Rattle.comemo.specs.declared.pending.Reply.{Reply}
 use Rattle.comemo_base.proofs.Paths.{Agrees-same, IsSamePath-turned}
 use Rattle.comemo.proofs.Endings.{gives_itself}
@@ -16,6 +20,50 @@ use Rattle.comemo.proofs.Endings.{gives_itself}
 -- the pending run after it recorded this
 abbrev pub recorded : {K C R : Type 0} → PendingRun K C R → Recording C R → PendingRun K C R
 recorded begun t = record { key = begun.key; enabled = begun.enabled; recording = t }
+
+some_write : {C : Type 0} (front : List C) (next : C) (rest : List C) → front ++ next ∷ rest ≡ [] → ⊥
+some_write [] next rest e = cc
+some_write (c ∷ front) next rest e = cc
+
+-- why a call did not begin
+pub on_fault : (f : Fault) {P Q X : Type 0} → OnFault f P Q → (P → X) → (Q → X) → X
+on_fault fault.Memory is p q = p is
+on_fault fault.Write is p q = q is
+on_fault fault.Incomplete is p q = absurd is
+
+-- what holds of a call that did not begin, where it didn't stop at a write
+pub of_memory : (f : Fault) (P : Type 0) {Q : Type 0} → OnFault f P Q → (Q → ⊥) → P
+of_memory fault.Memory P is never = is
+of_memory fault.Write P is never = absurd (never is)
+of_memory fault.Incomplete P is never = absurd is
+
+-- it is for want of memory, where it didn't stop at a write
+pub for_memory : (f : Fault) (P : Type 0) {Q : Type 0} → OnFault f P Q → (Q → ⊥) → f ≡ fault.Memory
+for_memory fault.Memory P is never = refl
+for_memory fault.Write P is never = absurd (never is)
+for_memory fault.Incomplete P is never = absurd is
+
+fault_as : (f : Fault) (P Q X Y : Type 0) → OnFault f P Q → (P → X) → (Q → Y) → OnFault f X Y
+fault_as fault.Memory P Q X Y is p q = p is
+fault_as fault.Write P Q X Y is p q = q is
+fault_as fault.Incomplete P Q X Y is p q = is
+
+-- a fault that is handed on, and says more
+pub fault_handed : {A : Type 0} (r : Result A Fault) (f : Fault) → IsErrAnd r (λ x. x ≡ f) → (P Q X Y : Type 0) → OnFault f P Q → (P → X) → (Q → Y) → IfErr r (λ x. OnFault x X Y)
+fault_handed (Ok x) f e P Q X Y is p q = tt
+fault_handed (Err g) f e P Q X Y is p q = subst (λ x. OnFault x X Y) (sym e) (fault_as f P Q X Y is p q)
+
+-- what holds of a fault that is handed on
+pub fault_is : {A : Type 0} (r : Result A Fault) (f : Fault) → IsErrAnd r (λ x. x ≡ f) → (P : Type 0) {Q : Type 0} → OnFault f P Q → (X : Fault → Type 0) → (P → X fault.Memory) → (Q → X fault.Write) → IfErr r X
+fault_is (Ok x) f e P is X p q = tt
+fault_is (Err g) fault.Memory e P is X p q = subst X (sym e) (p is)
+fault_is (Err g) fault.Write e P is X p q = subst X (sym e) (q is)
+fault_is (Err g) fault.Incomplete e P is X p q = absurd is
+
+-- a write that was refused, handed on
+pub write_handed : {A : Type 0} (r : Result A Fault) (f : Fault) → IsErrAnd r (λ x. x ≡ f) → f ≡ fault.Write → (P Q : Type 0) → Q → IfErr r (λ x. OnFault x P Q)
+write_handed (Ok x) f e w P Q q = tt
+write_handed (Err g) f e w P Q q = subst (λ x. OnFault x P Q) (sym (e ∙ w)) q
 
 module _ {K C R O : Type 0} {M : Meaning K C R O} {es : Entries K C R O} {call : Invocation K C R} where
   -- a run that began, however it is seen
@@ -64,6 +112,18 @@ module _ {K C R O : Type 0} {M : Meaning K C R O} {es : Entries K C R O} {call :
     gives = record { given = is.gives.given; alike = is.gives.alike; agreeing = is.gives.agreeing; are_sent = f is.gives.given is.writes is.gives.are_sent };
     came = is.came;
   }
+
+  -- a hit that stopped, whatever became of its sink
+  pub stopped_so : {done : List C → Type 0} {spoiled : List (C × R) → List C → Type 0} → IsStopped M es call done spoiled → IsStopped M es call done (λ _ _. ⊤)
+  stopped_so is = record { pairs = is.pairs; output = is.output; front = is.front; next = is.next; rest = is.rest; is_refused = is.is_refused; is_enabled = is.is_enabled; kept = is.kept; agrees = is.agrees; stands = is.stands; are_done = is.are_done; is_spoiled = tt }
+
+  -- a hit of a function whose calls are reads alone stops at no write
+  pub never_refused : {done : List C → Type 0} {spoiled : List (C × R) → List C → Type 0} → IsStopped M es call done spoiled → ((c : C) → M.is_write c ≡ false) → ⊥
+  never_refused is reads = let e : true ≡ false = sym is.is_refused ∙ reads is.next in cc
+
+  -- a hit of a function that only reads stops at no write
+  pub never_stops : Respects M.same_call M.same_answer call.answers → ((output : O) (writes : List C) → M.def call.key call.answers output writes → writes ≡ []) → {done : List C → Type 0} {spoiled : List (C × R) → List C → Type 0} → IsStopped M es call done spoiled → ⊥
+  never_stops respects reads is = some_write is.front is.next is.rest (reads is.output (is.front ++ is.next ∷ is.rest) (is.stands call.answers respects is.agrees))
 
   -- a call that did not begin broke off what was sent to its sink
   pub broke_at_begin : {broken : List (C × R) → Type 0} → IsBrokenOff M es call broken → BrokeOff M.same_answer call.answers broken

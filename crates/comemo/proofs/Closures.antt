@@ -1,12 +1,13 @@
 -- What `begin`, a closure's run and `finish` say together.
 use Rattle.std.proofs.Common.{◌≡◌, ◌↔◌, inl, inr, Bool, true, false, List, [], Result, Ok, Err, IfOk, IfErr, OnErr, refl, sym, ap, subst}
 use Rattle.std.specs.Borrow.{MutBor}
+use Rattle.comemo_base.specs.Answers.{Respects}
 use Rattle.comemo_track.specs.Recording.{Recording}
 use Rattle.comemo.specs.Meaning.{Meaning, Invocation, run}
 use Rattle.comemo.specs.Cache.{Entries, Stands}
 use Rattle.comemo.specs.Begin.{PendingRun, came_to, IsRun, IsBrokenOff}
 use Rattle.comemo.specs.Finish.{Ends, Finished, BreaksOffRun}
-use Rattle.comemo.proofs.Calls.{recorded, stands_at_call}
+use Rattle.comemo.proofs.Calls.{recorded, stands_at_call, never_refused}
 use Rattle.comemo.specs.Closure.{Ran, Ended, IsFault, IsBroken}
 use Rattle.comemo.specs.declared.pending.Fault.{Fault}
 use Rattle.comemo.specs.declared.pending.Fault.TheVariants as fault
@@ -32,10 +33,11 @@ pub mapped_err : {A E P Q : Type 0} → (P → Q) → (r : Result A E) → OnErr
 mapped_err f (Ok a) p = tt
 mapped_err f (Err e) p = f p
 
--- the sink of a call that failed was broken off at some pairs
-pub at_some_pairs : {K C R O I P : Type 0} {M : Meaning K C R O} {es : Entries K C R O} {call : Invocation K C R} {did : I → I → List C → Type 0} {recording : P → Recording C R} {post : MutBor I → MutBor P → Result O Fault → MutBor I → MutBor P → Type 0} {input : I} (broken : List (C × R) → Type 0) → IsBroken M es call did recording post input broken → (pairs : List (C × R)) × broken pairs
-at_some_pairs broken (inl begun) = (begun.pairs, begun.is_broken)
-at_some_pairs broken (inr (output, t, ran, whole, is)) = (is.given, is.is_broken)
+-- the sink of a call of a function whose calls are reads alone, which failed, was broken off at some pairs
+pub at_some_pairs : {K C R O I P : Type 0} {M : Meaning K C R O} {es : Entries K C R O} {call : Invocation K C R} {did : I → I → List C → Type 0} {recording : P → Recording C R} {post : MutBor I → MutBor P → Result O Fault → MutBor I → MutBor P → Type 0} {input : I} → (broken : List (C × R) → Type 0) {after : List (C × R) → List C → Type 0} → IsBroken M es call did recording post input broken after → ((c : C) → M.is_write c ≡ false) → (pairs : List (C × R)) × broken pairs
+at_some_pairs broken (inl begun) reads = (begun.pairs, begun.is_broken)
+at_some_pairs broken (inr (inl (j, is))) reads = absurd (never_refused is reads)
+at_some_pairs broken (inr (inr (output, t, ran, whole, is))) reads = (is.given, is.is_broken)
 
 -- a sink that took nothing is left as by a call that did not begin
 took_nothing : {K C R O : Type 0} (M : Meaning K C R O) (es : Entries K C R O) (call : Invocation K C R) {broken : List (C × R) → Type 0} → broken [] → IsBrokenOff M es call broken
@@ -48,18 +50,19 @@ module _ {K C R O : Type 0} {M : Meaning K C R O} {es : Entries K C R O} {call :
     ran_from {i = i} {j = j} {p = p} {q = q} r unchanged pairs writes whole gave left = record { i = i; p = p; starts = record { none = is.none; unchanged = unchanged; pairs = pairs; writes = writes; whole = whole }; j = j; q = q; gave = gave; left = sym left }
 
     -- why a call failed whose run ended so
-    pub failed : (S : Type 0) (ran : Result O Fault) → Ran M es call did recording post input ran t → (r : Result (Reply O) Fault) → IfOk ran (λ _. (r ≡ Err fault.Incomplete) ↔ (t.whole ≡ false)) → IfErr ran (λ f. (r ≡ Err f) × S) → IfErr r (λ f. IsFault M es call did recording post input f)
-    failed S ran has (Ok reply) h f = tt
-    failed S (Ok output) has (Err fault.Memory) h f = inl refl
-    failed S (Ok output) has (Err fault.Incomplete) h f = inr (inl (refl, output, t, has, h.0 refl))
-    failed S (Err g) has (Err e) h f = inr (inr (t, subst (λ x. Ran M es call did recording post input (Err x) t) (sym (ap (fault_or e) f.0)) has))
+    pub failed : (S : Type 0) (ran : Result O Fault) → Ran M es call did recording post input ran t → (r : Result (Reply O) Fault) → IfOk ran (λ _. (r ≡ Err fault.Incomplete) ↔ (t.whole ≡ false)) → IfOk ran (λ _. IfErr r (λ f. f ≡ fault.Write → ⊥)) → IfErr ran (λ f. (r ≡ Err f) × S) → IfErr r (λ f. IsFault M es call did recording post input f)
+    failed S ran has (Ok reply) h never f = tt
+    failed S (Ok output) has (Err fault.Memory) h never f = inl refl
+    failed S (Ok output) has (Err fault.Write) h never f = absurd (never refl)
+    failed S (Ok output) has (Err fault.Incomplete) h never f = inr (inr (inl (refl, output, t, has, h.0 refl)))
+    failed S (Err g) has (Err e) h never f = inr (inr (inr (t, subst (λ x. Ran M es call did recording post input (Err x) t) (sym (ap (fault_or e) f.0)) has)))
 
     -- how the sink of a call that failed is left whose run ended so
-    pub left_broken : (broken : List (C × R) → Type 0) {S : Type 0} → (S → broken []) → (X : Type 0) (ran : Result O Fault) → Ran M es call did recording post input ran t → (w : Bool) → t.whole ≡ w → (r : Result (Reply O) Fault) → IfErr ran (λ f. (r ≡ Err f) × S) → (t.whole ≡ false → S) → OnErr r (X × BreaksOffRun M broken t.pairs) → OnErr r (X × IsBroken M es call did recording post input broken)
-    left_broken broken spoils X ran has w e (Ok reply) given_up spoiled b = tt
-    left_broken broken spoils X (Err f) has w e (Err g) given_up spoiled b = (b.0, inl (took_nothing M es call (spoils given_up.1)))
-    left_broken broken spoils X (Ok output) has false e (Err g) given_up spoiled b = (b.0, inl (took_nothing M es call (spoils (spoiled e))))
-    left_broken broken spoils X (Ok output) has true e (Err g) given_up spoiled b = (b.0, inr (output, t, has, e, b.1))
+    pub left_broken : (broken : List (C × R) → Type 0) (after : List (C × R) → List C → Type 0) {S : Type 0} → (S → broken []) → (X : Type 0) (ran : Result O Fault) → Ran M es call did recording post input ran t → (w : Bool) → t.whole ≡ w → (r : Result (Reply O) Fault) → IfErr ran (λ f. (r ≡ Err f) × S) → (t.whole ≡ false → S) → OnErr r (X × BreaksOffRun M broken t.pairs) → OnErr r (X × IsBroken M es call did recording post input broken after)
+    left_broken broken after spoils X ran has w e (Ok reply) given_up spoiled b = tt
+    left_broken broken after spoils X (Err f) has w e (Err g) given_up spoiled b = (b.0, inl (took_nothing M es call (spoils given_up.1)))
+    left_broken broken after spoils X (Ok output) has false e (Err g) given_up spoiled b = (b.0, inl (took_nothing M es call (spoils (spoiled e))))
+    left_broken broken after spoils X (Ok output) has true e (Err g) given_up spoiled b = (b.0, inr (inr (output, t, has, e, b.1)))
 
     -- what a call gave whose run was finished
     pub ended : {sent : List (C × R) → List C → Type 0} {output : O} {reply : Reply O} {es' : Entries K C R O} → Ran M es call did recording post input (Ok output) t → Stands M (came_to (recorded begun t) output) → Finished M es (recorded begun t) sent output reply es' → Ended M es call (Ran M es call did recording post input) sent reply.output reply.how es'

@@ -1,12 +1,12 @@
 -- How a run ends, where a clone of its output is kept.
-use Rattle.std.proofs.Common.{Bool, List, [], ◌∷◌, subst}
+use Rattle.std.proofs.Common.{Bool, List, [], ◌∷◌, sym, subst}
 use Rattle.std.specs.Cmp.{IsEquivalence}
-use Rattle.comemo_base.specs.Insertion.{Adds}
 use Rattle.comemo_base.specs.Tree.{IsSamePath}
 use Rattle.comemo_base.proofs.Paths.{Agrees-same, IsSamePath-turned}
-use Rattle.comemo.specs.Meaning.{Meaning, run, exactly}
+use Rattle.comemo.specs.Meaning.{Meaning, run, exactly, SameWrites}
 use Rattle.comemo.specs.Cache.{Entries}
 use Rattle.comemo.specs.Finish.{Ends, Gives, BreaksOffRun}
+use Rattle.comemo.proofs.Writings.{SameWrites-joined}
 use Rattle.comemo.specs.declared.pending.How.{How}
 use Rattle.comemo.specs.declared.pending.How.TheVariants as how
 
@@ -31,10 +31,10 @@ module _ {K C R O : Type 0} {M : Meaning K C R O} (calls : IsEquivalence M.same_
   pub broken_itself : {broken : List (C × R) → Type 0} (ps : List (C × R)) → broken ps → BreaksOffRun M broken ps
   broken_itself ps is = record { given = ps; alike = IsSamePath-itself calls answers ps; is_broken = is }
 
-module _ {K C R O : Type 0} (M : Meaning K C R O) (es : Entries K C R O) (key : K) (pairs : List (C × R)) (writes : List C) (output kept : O) (is : M.is_clone output kept) where
-  pub Ends-cloned : (h : How) (es' : Entries K C R O) → Ends (exactly M) es (run key pairs kept writes) h es' → Ends M es (run key pairs output writes) h es'
+module _ {K C R O : Type 0} (M : Meaning K C R O) (calls : IsEquivalence M.same_call) (es : Entries K C R O) (key : K) (pairs : List (C × R)) (output kept : O) (is : M.is_clone output kept) (writes copies : List C) (same : SameWrites M.same_call writes copies) where
+  pub Ends-cloned : (h : How) (es' : Entries K C R O) → Ends (exactly M) es (run key pairs kept copies) h es' → Ends M es (run key pairs output writes) h es'
   Ends-cloned how.Hit es' e = e
-  Ends-cloned how.Stored es' e = (e.0, e.1, record { kept = kept; is_clone = is; adds = subst (λ o. Adds M.same_call M.same_answer M.same_key es key pairs (record { output = o; writes = writes }) es') e.2.is_clone e.2.adds })
+  Ends-cloned how.Stored es' e = (e.0, e.1, record { kept = e.2.kept; is_clone = subst (λ o. M.is_clone output o) (sym e.2.is_clone) is; same_writes = SameWrites-joined calls writes copies e.2.kept.writes same e.2.same_writes; adds = e.2.adds })
   Ends-cloned how.AlreadyExists es' e = e
   Ends-cloned how.MissingCall es' e = e
   Ends-cloned how.NotStored es' e = e

@@ -23,7 +23,7 @@ grows_on es mid es' a b =
 -- a run that ended lost no entry
 pub grows_by_ends : {K C R O : Type 0} (M : Meaning K C R O) (es : Entries K C R O) (ran : Run K C R O) (reply : How) (es' : Entries K C R O) → Ends M es ran reply es' → Grows es es'
 grows_by_ends M es ran how.Hit es' e = absurd e
-grows_by_ends M es ran how.Stored es' e = (stored e.2.adds.own e.2.adds.path (record { output = e.2.kept; writes = ran.writes }) ∷ [], e.2.adds.entries)
+grows_by_ends M es ran how.Stored es' e = (stored e.2.adds.own e.2.adds.path e.2.kept ∷ [], e.2.adds.entries)
 grows_by_ends M es ran how.AlreadyExists es' e = grows_not es es' e.1
 grows_by_ends M es ran how.MissingCall es' e = grows_not es es' e.1
 grows_by_ends M es ran how.NotStored es' e = grows_not es es' e

@@ -1,5 +1,6 @@
 pub mod Sendings
 pub mod Entries
+pub mod Writings
 pub mod NewPath
 pub mod Endings
 pub mod Looking

@@ -1,5 +1,5 @@
 -- How a call of a memoized function begins.
-use Rattle.std.specs.Prelude.{◌≡◌, ◌⊎◌, Bool, true, List, [], IsTrue, refl}
+use Rattle.std.specs.Prelude.{◌≡◌, ◌⊎◌, Bool, true, List, [], ◌∷◌, ◌++◌, IsTrue, refl}
 use Rattle.std.specs.Coded.{Coded, code_by, coded×, coded_bool}
 use Rattle.comemo_base.specs.Answers.{Respects, Agrees}
 use Rattle.comemo_track.specs.Recording.{Recording, recording_code}
@@ -52,3 +52,20 @@ module _ {K C R O : Type 0} (M : Meaning K C R O) (es : Entries K C R O) (call :
     pub found : (pairs ≡ []) ⊎ ((output : O) × (writes : List C) × Has M es call (run call.key pairs output writes))
     pub agrees : Agrees M.same_answer call.answers pairs
     pub is_broken : broken pairs
+
+  -- a hit that stopped, since a write was refused: an entry was kept that has the key and agrees with the answers; its path went to
+  -- the sink, and its writes before that one were done on the input and went there, before it was spoiled; a function whose calls are
+  -- reads alone has none that could be refused
+  pub record IsStopped (done : List C → Type 0) (spoiled : List (C × R) → List C → Type 0) : Type 0 where
+    pub pairs : List (C × R)
+    pub output : O
+    pub front : List C
+    pub next : C
+    pub rest : List C
+    pub is_refused : M.is_write next ≡ true
+    pub is_enabled : call.enabled ≡ true
+    pub kept : Has M es call (run call.key pairs output (front ++ next ∷ rest))
+    pub agrees : Agrees M.same_answer call.answers pairs
+    pub stands : Stands M (run call.key pairs output (front ++ next ∷ rest))
+    pub are_done : done front
+    pub is_spoiled : spoiled pairs front

@@ -1,11 +1,11 @@
 -- What a cache keeps, and when an entry is legal.
 use Rattle.std.specs.Prelude.{◌≡◌, Bool, ◌⊎◌, true, false, List, Option, None, refl, IsTrue}
-use Rattle.std.specs.List.{All, Any, AllZip}
+use Rattle.std.specs.List.{All, Any}
 use Rattle.std.specs.Coded.{Coded, code_by, coded×, coded_list}
 use Rattle.comemo_base.specs.Answers.{Respects, Agrees}
 use Rattle.comemo_base.specs.Tree.{Stored, IsSamePath}
 use Rattle.comemo_base.specs.Lookup.{under, IsAsked, IsRefused}
-use Rattle.comemo.specs.Meaning.{Meaning, Invocation, Run, run}
+use Rattle.comemo.specs.Meaning.{Meaning, Invocation, Run, run, SameWrites}
 
 -- the output of a run, and the writes that it did
 pub record Kept (O C : Type 0) : Type 0 where
@@ -20,10 +20,11 @@ abbrev pub Entries : Type 0 → Type 0 → Type 0 → Type 0 → Type 0
 Entries K C R O = List (Stored K C R (Kept O C))
 
 -- clones of keys and of answers are equal, and the definition of a memoized function tells apart, at answers that tell no
--- equal calls apart, neither equal keys nor an output from its clone
+-- equal calls apart, neither equal keys, nor equal writes, nor an output from its clone
 pub record MemoLaws {K C R O : Type 0} (eq : C → C → Bool) (same : R → R → Bool) (eqk : K → K → Bool) (key_clone : K → K → Type 0) (answer_clone : R → R → Type 0) (cloned : O → O → Type 0) (def : K → (C → R) → O → List C → Type 0) : Type 0 where
   pub outputs : (key : K) (m : C → R) (a b : O) (writes : List C) → Respects eq same m → cloned a b → def key m a writes → def key m b writes
   pub keys : (j k : K) (m : C → R) (output : O) (writes : List C) → Respects eq same m → IsTrue (eqk j k) → def j m output writes → def k m output writes
+  pub writes : (key : K) (m : C → R) (output : O) (V W : List C) → Respects eq same m → SameWrites eq V W → def key m output V → def key m output W
   pub key_clones : (x y : K) → key_clone x y → IsTrue (eqk x y)
   pub answer_clones : (x y : R) → answer_clone x y → IsTrue (same x y)
 
@@ -41,7 +42,7 @@ module _ {K C R O : Type 0} (M : Meaning K C R O) where
   -- the entry agrees with the answers, and its path, its output and its writes are those of this run, up to clones
   abbrev pub IsEntryOf : (C → R) → Run K C R O → Stored K C R (Kept O C) → Type 0
   IsEntryOf m ran e =
-      Agrees M.same_answer m e.path × IsSamePath M.same_call M.same_answer ran.pairs e.path × M.is_clone e.value.output ran.output × AllZip (λ a b. IsTrue (M.same_call a b)) e.value.writes ran.writes
+      Agrees M.same_answer m e.path × IsSamePath M.same_call M.same_answer ran.pairs e.path × M.is_clone e.value.output ran.output × SameWrites M.same_call e.value.writes ran.writes
 
   module _ (es : Entries K C R O) (call : Invocation K C R) where
     -- no entry under the call's key agrees with its answers

@@ -1,10 +1,10 @@
 -- A call of a memoized function whose run is a closure.
-use Rattle.std.specs.Prelude.{◌≡◌, ◌↔◌, ◌⊎◌, true, false, List, [], IsTrue, Result, Ok, Err}
+use Rattle.std.specs.Prelude.{◌≡◌, ◌↔◌, ◌⊎◌, ⊤, true, false, List, [], IsTrue, Result, Ok, Err}
 use Rattle.std.specs.Borrow.{MutBor}
 use Rattle.comemo_track.specs.Recording.{Recording}
 use Rattle.comemo.specs.Meaning.{Meaning, Invocation, run}
 use Rattle.comemo.specs.Cache.{Entries, Stands, HasNone}
-use Rattle.comemo.specs.Begin.{IsBrokenOff}
+use Rattle.comemo.specs.Begin.{IsBrokenOff, IsStopped}
 use Rattle.comemo.specs.Finish.{Ends, Gives, BreaksOffRun}
 use Rattle.comemo.specs.declared.pending.Fault.{Fault}
 use Rattle.comemo.specs.declared.pending.Fault.TheVariants as fault
@@ -32,15 +32,16 @@ module _ {K C R O : Type 0} (M : Meaning K C R O) (es : Entries K C R O) (call :
         pub gave : post i p r j q
         pub left : recorded q.now ≡ t
 
-      -- why the call failed: for want of memory, or the run's recording is spoiled, or the closure gave that fault
+      -- why the call failed: for want of memory, or a hit stopped at a write, or the run's recording is spoiled, or the closure gave
+      -- that fault
       abbrev pub IsFault : Fault → Type 0
       IsFault f =
-          (f ≡ fault.Memory) ⊎ ((f ≡ fault.Incomplete) × (output : O) × (t : Recording C R) × Ran (Ok output) t × (t.whole ≡ false)) ⊎ ((t : Recording C R) × Ran (Err f) t)
+          (f ≡ fault.Memory) ⊎ ((f ≡ fault.Write) × (j : I) × IsStopped M es call (did input j) (λ _ _. ⊤)) ⊎ ((f ≡ fault.Incomplete) × (output : O) × (t : Recording C R) × Ran (Ok output) t × (t.whole ≡ false)) ⊎ ((t : Recording C R) × Ran (Err f) t)
 
       -- how the sink of a call that failed is left: as by a call that did not begin, so as it was where the closure failed or its
-      -- recording is spoiled; or the closure gave an output, and its recording, which is whole, was broken off
-      abbrev pub IsBroken : (List (C × R) → Type 0) → Type 0
-      IsBroken broken = IsBrokenOff M es call broken ⊎ ((output : O) × (t : Recording C R) × Ran (Ok output) t × (t.whole ≡ true) × BreaksOffRun M broken t.pairs)
+      -- recording is spoiled; or the closure gave an output, and its recording, which is whole, was broken off; or a hit stopped
+      abbrev pub IsBroken : (List (C × R) → Type 0) → (List (C × R) → List C → Type 0) → Type 0
+      IsBroken broken after = IsBrokenOff M es call broken ⊎ ((j : I) × IsStopped M es call (did input j) after) ⊎ ((output : O) × (t : Recording C R) × Ran (Ok output) t × (t.whole ≡ true) × BreaksOffRun M broken t.pairs)
 
   -- the closure, whose runs are these, ran and gave the output; its recording, which is whole, went to the sink, and became of
   -- the entries what the reply says

@@ -4,8 +4,8 @@ use Rattle.comemo_base.specs.Answers.{Respects, Agrees}
 use Rattle.comemo_base.specs.Tree.{IsSamePath}
 use Rattle.comemo_base.specs.Lookup.{under}
 use Rattle.comemo_base.specs.Insertion.{Exists, Misses, Adds}
-use Rattle.comemo.specs.Meaning.{Meaning, Run}
-use Rattle.comemo.specs.Cache.{Entries}
+use Rattle.comemo.specs.Meaning.{Meaning, Run, SameWrites}
+use Rattle.comemo.specs.Cache.{Kept, Entries}
 use Rattle.comemo.specs.Begin.{PendingRun, came_to}
 use Rattle.comemo.specs.declared.pending.How.{How}
 use Rattle.comemo.specs.declared.pending.How.TheVariants as how
@@ -13,11 +13,12 @@ use Rattle.comemo.specs.declared.pending.Reply.{Reply}
 
 module _ {K C R O : Type 0} (M : Meaning K C R O) (es : Entries K C R O) where
   module _ (ran : Run K C R O) where
-    -- one more entry: a clone of the output, and the writes, at the path that the pairs take, under an equal key
+    -- one more entry: a clone of the output, and the writes up to equality, at the path that the pairs take, under an equal key
     pub record AddsRun (es' : Entries K C R O) : Type 0 where
-      pub kept : O
-      pub is_clone : M.is_clone ran.output kept
-      pub adds : Adds M.same_call M.same_answer M.same_key es ran.key ran.pairs (record { output = kept; writes = ran.writes }) es'
+      pub kept : Kept O C
+      pub is_clone : M.is_clone ran.output kept.output
+      pub same_writes : SameWrites M.same_call ran.writes kept.writes
+      pub adds : Adds M.same_call M.same_answer M.same_key es ran.key ran.pairs kept es'
 
     -- so a run is stored: no entry has all its pairs among those of the run, none lacks a call of it, and there is one more
     abbrev pub Stores : Entries K C R O → Type 0
@@ -32,7 +33,7 @@ module _ {K C R O : Type 0} (M : Meaning K C R O) (es : Entries K C R O) where
     Ends how.NotStored es' = es' ≡ es
     Ends how.Disabled es' = es' ≡ es
 
--- the pairs went to the sink, up to equality, so that the same answers agree with what went there, and the writes
+-- the pairs went to the sink, up to equality, so that the same answers agree with what went there, and then the writes
 pub record Gives {K C R O : Type 0} (M : Meaning K C R O) (sent : List (C × R) → List C → Type 0) (pairs : List (C × R)) (writes : List C) : Type 0 where
   pub given : List (C × R)
   pub alike : IsSamePath M.same_call M.same_answer given pairs

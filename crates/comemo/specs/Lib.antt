@@ -1,4 +1,5 @@
 pub mod Meaning
+pub mod MeaningLaws
 pub mod Cache
 pub mod Begin
 pub mod Begun
@@ -7,6 +8,8 @@ pub mod Called
 pub mod Closure
 pub mod Function
 pub use Rattle.comemo_track.specs.Sending
+pub use Rattle.comemo_track.specs.Writing
+pub use Rattle.comemo_track.specs.WritingLaws
 pub use Rattle.comemo_track.specs.Recording
 pub use Rattle.comemo_track.specs.RecordingLaws
 pub use Rattle.comemo_track.specs.Views

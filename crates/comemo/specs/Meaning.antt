@@ -1,5 +1,6 @@
 -- What a memoized function means, and how it is called, each as one value.
-use Rattle.std.specs.Prelude.{◌≡◌, Bool, List, []}
+use Rattle.std.specs.Prelude.{◌≡◌, Bool, List, [], IsTrue}
+use Rattle.std.specs.List.{AllZip}
 
 -- when two calls, two answers and two keys are equal, which calls are writes, and when an output is a clone of another; and
 -- which outputs and writes are right at a key and at answers
@@ -14,6 +15,10 @@ pub record Meaning (K C R O : Type 0) : Type 1 where
 -- the same, where an output has no clone but itself
 abbrev pub exactly : {K C R O : Type 0} → Meaning K C R O → Meaning K C R O
 exactly M = record M { is_clone = λ a b. b ≡ a }
+
+-- the same writes, each up to equality
+abbrev pub SameWrites : {C : Type 0} → (C → C → Bool) → List C → List C → Type 0
+SameWrites eq V W = AllZip (λ a b. IsTrue (eq a b)) V W
 
 -- what a function that only reads means, where these outputs are right: that there are no writes, and such an output
 abbrev pub reading : {K C R O : Type 0} → (K → (C → R) → O → Type 0) → K → (C → R) → O → List C → Type 0

@@ -19,8 +19,8 @@ use std::marker::Model;
 /// A memoized function: the types of its calls, keys, answers and outputs, and what it means.
 ///
 /// `def` says which outputs and writes are right at a key and at answers. It knows of no cache. Its laws say that, at
-/// answers that tell no equal calls apart, it doesn't tell apart equal keys, or a clone from its original. This
-/// project's own: comemo has the function alone.
+/// answers that tell no equal calls apart, it doesn't tell apart equal keys or equal writes, or a clone from its
+/// original. This project's own: comemo has the function alone.
 pub trait Memo {
     /// What a run can ask.
     type Call: Call;
@@ -37,7 +37,8 @@ pub trait Memo {
     // at this key and these answers, this output and these writes are right
     ghost def: { Self.Key → (Self.Call → Self.Answer) → Self.Out → List Self.Call → Type 0 };
 
-    // clones of keys and of answers are equal, and the definition tells apart neither equal keys nor an output from its clone
+    // clones of keys and of answers are equal, and the definition tells apart neither equal keys nor equal writes, nor an
+    // output from its clone
     ghost laws: { MemoLaws Self.Call.eq Self.Answer.eq Self.Key.eq
         Self.Key.is_clone Self.Answer.is_clone Self.Out.is_clone def };
 }
@@ -64,24 +65,24 @@ impl<M: Memo> Meant for M {
 #[derive(Drop)]
 struct KeptRun<M: Memo> {
     output: M::Out,
+    writes: Vec<M::Call>,
 }
 
 impl<M: Memo> Model for KeptRun<M> {
-    ghost use Rattle.std.specs.Prelude.{[]};
     ghost use Rattle.comemo.specs.Cache.{Kept, kept_code};
 
     ghost Value = { Kept M.Out M.Call };
 
     ghost coded = { kept_code M.Out.code M.Call.code };
 
-    ghost view = { λ s. record { output = s.output; writes = [] } };
+    ghost view = { λ s. record { output = s.output; writes = s.writes.items } };
 }
 
 /// A cache of one memoized function: outputs under the keys and the paths of calls of their runs.
 ///
 /// Contracts see it as a list of entries, of whose order no clause speaks. Its type keeps that each entry is legal:
-/// whichever answers agree with its path, its output is right at its key. It keeps keys, calls, answers and outputs
-/// themselves. All entries under a key share two copies of it, and those whose paths have an equal front share its
+/// whichever answers agree with its path, its output and its writes are right at its key. It keeps keys, calls, answers
+/// and outputs themselves. All entries under a key share two copies of it, and those whose paths have an equal front share its
 /// calls and answers. It drops no entry as long as it lives. comemo's `CacheData`.
 #[derive(Drop)]
 pub struct CacheData<M: Memo> {
@@ -112,7 +113,7 @@ impl<M: Memo> Model for CacheData<M> {
     })) s.tree };
 }
 
-/// What a look-up found: the path of an entry, with its calls cloned, and a clone of its output.
+/// What a look-up found: the path of an entry, with its calls cloned, and clones of its output and its writes.
 ///
 /// This project's own.
 #[derive(Drop)]
@@ -121,6 +122,8 @@ pub struct Found<M: Memo> {
     pub pairs: Vec<(M::Call, M::Answer)>,
     /// The output.
     pub output: M::Out,
+    /// The writes that the run did, in order.
+    pub writes: Vec<M::Call>,
 }
 
 /// The path under a key of a tree of reads that an input's answers agree with, its calls cloned, with its value.
@@ -181,9 +184,9 @@ impl<M: Memo> CacheData<M> {
     ///
     /// It asks the input the calls along one stored path, each once, as `CallTree::find` does: it finds the key by one
     /// hash look-up, and each answer in an ordered map of those that are stored at its place. It keeps a list of the
-    /// pairs on its way, and clones nothing but what it gives: the calls and the output. Nothing changes. An error says
-    /// that there was no memory for an answer of the input or, where an entry was found, for the list or the clones. It
-    /// is the first half of a hit of comemo's `memoize`.
+    /// pairs on its way, and clones nothing but what it gives: the calls, the output and the writes. Nothing changes. An
+    /// error says that there was no memory for an answer of the input or, where an entry was found, for the list or the
+    /// clones. It is the first half of a hit of comemo's `memoize`.
     pub fn look<In: Input<Call = M::Call, Key = M::Key, Answer = M::Answer>>(
         &self,
         key: &M::Key,
@@ -195,14 +198,17 @@ impl<M: Memo> CacheData<M> {
             (invocation key.now (In.answers input.old) true))
             (λ f. Has ⟦<M as Meant>⟧.meaning self.now
             (invocation key.now (In.answers input.old) true)
-            (run key.now f.pairs.items f.output []))) }
+            (run key.now f.pairs.items f.output f.writes.items))) }
         ensures asked { IfOk result (λ found. IfNone found ((asked : List (M.Call × M.Answer))
             × IsMiss ⟦<M as Meant>⟧.meaning self.now
             (invocation key.now (In.answers input.old) true) asked)) }
         ensures stands { IfOk result (λ found. IfSome found (λ f.
-            Stands ⟦<M as Meant>⟧.meaning (run key.now f.pairs.items f.output []))) }
+            Stands ⟦<M as Meant>⟧.meaning
+            (run key.now f.pairs.items f.output f.writes.items))) }
         ensures reads { IfOk result (λ found. IfSome found (λ f.
             All (λ p. M.Call.is_write p.0 ≡ false) f.pairs.items)) }
+        ensures written { IfOk result (λ found. IfSome found (λ f.
+            All (λ c. M.Call.is_write c ≡ true) f.writes.items)) }
         ensures err { OnErr result
             (IsRefusedLook ⟦<M as Meant>⟧.meaning self.now
             (invocation key.now (In.answers input.old) true)) }
@@ -212,13 +218,18 @@ impl<M: Memo> CacheData<M> {
             return Ok(None);
         };
         let output = kept.output.clone()?;
-        Ok(Some(Found { pairs, output }))
+        let writes = kept.writes.clone()?;
+        Ok(Some(Found {
+            pairs,
+            output,
+            writes,
+        }))
     }
 
-    /// Keeps the output of a run under a key and the sequence of calls that the run asked.
+    /// Keeps the output of a run, and its writes, under a key and the sequence of calls that the run asked.
     ///
-    /// The output has to be right for all answers that agree with the sequence, which holds reads alone. The entry's
-    /// path is the one that the sequence takes in the tree. Every error leaves the cache as it was, and comes where
+    /// Output and writes have to be right for all answers that agree with the sequence, which holds reads alone. The
+    /// entry's path is the one that the sequence takes in the tree. Every error leaves the cache as it was, and comes where
     /// [`InsertError`] says so; what was handed in is dropped then. As `CallTree::insert` does, it takes each pair of
     /// the stored front out of the sequence, and then adds a node for each pair that is left. It is the end of a miss
     /// of comemo's `memoize`.
@@ -227,16 +238,19 @@ impl<M: Memo> CacheData<M> {
         key: M::Key,
         sequence: CallSequence<M::Call, M::Answer>,
         output: M::Out,
+        writes: Vec<M::Call>,
     ) -> Result<(), InsertError>
         requires reads { All (λ p. M.Call.is_write p.0 ≡ false) sequence.pairs }
-        requires stands { Stands ⟦<M as Meant>⟧.meaning (run key sequence.pairs output []) }
+        requires written { All (λ c. M.Call.is_write c ≡ true) writes.items }
+        requires stands { Stands ⟦<M as Meant>⟧.meaning
+            (run key sequence.pairs output writes.items) }
         ensures stored { OnOk result (Stores (exactly ⟦<M as Meant>⟧.meaning) self.old
-            (run key sequence.pairs output []) self.new) }
+            (run key sequence.pairs output writes.items) self.new) }
         ensures reason { IfErr result
             (IsReason M.Call.eq M.Answer.eq (under M.Key.eq self.old key) sequence.pairs) }
         ensures err { OnErr result (self.new ≡ self.old) }
     {
         sequence.has_distinct_calls();
-        self.tree.insert(key, sequence, KeptRun { output })
+        self.tree.insert(key, sequence, KeptRun { output, writes })
     }
 }

@@ -100,7 +100,8 @@ pub fn memoize<
         In.did P.recorded (F.post func) input fault) }
     ensures err { OnErr result ((cache.new ≡ cache.old)
         × IsBroken ⟦<M as Meant>⟧.meaning cache.old (⟦<In as Invoked>⟧.invoked input enabled)
-        In.did P.recorded (F.post func) input (⟦<S as Breaking>⟧.breaks_off sink.old sink.new)) }
+        In.did P.recorded (F.post func) input (⟦<S as Breaking>⟧.breaks_off sink.old sink.new)
+        (⟦<S as Breaking>⟧.spoiled_after sink.old sink.new)) }
 {
     match begin(alloc, cache, &mut input, sink, enabled)? {
         Begun::Hit(output) => Ok(Reply {

@@ -1,6 +1,7 @@
 //! The library's front door: a memoized function of a key and a tracked value, as one trait and one call.
 ghost use Rattle.std.specs.Prelude.{◌≡◌, [], List, true, false, IsTrue, IfOk, IfErr, OnOk, OnErr};
 ghost use Rattle.comemo.specs.Meaning.{invocation, reading};
+ghost use Rattle.comemo.specs.MeaningLaws.{none_alike};
 ghost use Rattle.comemo.specs.Called.{IsReply};
 ghost use Rattle.comemo.specs.Finish.{BrokeOff};
 ghost use Rattle.comemo_track.specs.Recording.{Recording, Took, Spoiled};
@@ -191,6 +192,8 @@ impl<F: Function> Memo for MemoOf<F> {
     ghost laws = { record {
       outputs = λ key m a b _ r c right. (right.0, F.laws.outputs key m a b r c right.1);
       keys = λ j k m output _ r e right. (right.0, F.laws.keys j k m output r e right.1);
+      writes = λ key m output V W _ same right.
+          (none_alike F.Of.Call.eq V W same right.0, right.1);
       key_clones = F.laws.clones;
       answer_clones = F.Of.clones;
     } };

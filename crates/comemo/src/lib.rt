@@ -43,7 +43,8 @@ pub use closure::{Record, memoize};
 pub use comemo_base::{CallSequence, InsertError, Prehashed, SipHasher13, Tagged, hash, hash_any};
 pub use comemo_track::{
     Both, Breaking, Call, CallMap, Constraint, First, Hashed, Input, Keyed, MappedSink, Multi,
-    MultiAnswer, MultiCall, Second, Sink, Top, Track, Tracked, TrackedWith,
+    MultiAnswer, MultiCall, Second, Sink, Top, Track, Tracked, TrackedMut, TrackedMutWith,
+    TrackedWith, Written,
 };
 pub use comemo_tree::CallTree;
 pub use function::{Function, FunctionOf, MemoOf, Recorder, Told, memoized};

@@ -1,12 +1,12 @@
 //! Calls of memoized functions, from their beginning to their end: a hit, or a run, which is finished and stored where
 //! it can be, or given up.
-ghost use Rattle.std.specs.Prelude.{◌≡◌, [], ◌∷◌, ◌++◌, ◌↔◌, List, Bool, true, false, IsTrue, IfOk, IfErr, OnOk, OnErr, Ok, Err, ⊤};
+ghost use Rattle.std.specs.Prelude.{◌≡◌, ◌≤◌, [], ◌∷◌, ◌++◌, ◌↔◌, List, Bool, true, false, length, IsTrue, IfOk, IfErr, OnOk, OnErr, Ok, Err, ⊤};
 ghost use Rattle.std.specs.List.{All};
 ghost use Rattle.comemo_base.specs.Tree.{IsSamePath};
-ghost use Rattle.comemo.specs.Meaning.{Invocation, exactly, invocation, run};
+ghost use Rattle.comemo.specs.Meaning.{Invocation, SameWrites, exactly, invocation, run};
 ghost use Rattle.comemo.specs.Cache.{Stands, Touches};
-ghost use Rattle.comemo.specs.Begin.{IsHit, IsRun, IsBrokenOff, came_to};
-ghost use Rattle.comemo.specs.Begun.{OnBegun};
+ghost use Rattle.comemo.specs.Begin.{IsHit, IsRun, IsBrokenOff, IsStopped, came_to};
+ghost use Rattle.comemo.specs.Begun.{OnBegun, OnFault};
 ghost use Rattle.comemo.specs.Finish.{Ends, Gives, Finished, BreaksOffRun};
 
 use crate::cache::{CacheData, Found, Meant, Memo};
@@ -24,6 +24,8 @@ use std::marker::Model;
 pub enum Fault {
     /// A request for memory was refused.
     Memory,
+    /// A write of a hit, which was to be done again, was refused. Those before it are done.
+    Write,
     /// The run's recording is spoiled: something that it should hold is lost.
     Incomplete,
 }
@@ -129,14 +131,14 @@ impl<M: Memo> Pending<M> {
 
     /// Ends the run with its output: gives its recording to the sink, and stores it.
     ///
-    /// The output has to be right for all answers that agree with the recorded pairs. A run that was begun with
+    /// Output and recorded writes have to be right for all answers that agree with the recorded pairs. A run that was begun with
     /// `enabled` false isn't stored; nor is one for whose clones there is no memory. `Incomplete` comes exactly where
     /// the recording is spoiled, and `Memory` where the sink found no memory: then the cache is as it was, and the sink
     /// is spoiled, after it took perhaps a beginning of the recorded pairs.
     ///
-    /// It clones each recorded pair and the output once, sends each pair to the sink, and stores as `CacheData::store`
-    /// does; with `enabled` false it sends the pairs alone, and clones nothing itself. The second half of comemo's
-    /// `memoize`.
+    /// It clones each recorded pair, each write and the output once, sends the pairs to the sink and then the writes,
+    /// and stores as `CacheData::store` does; with `enabled` false it sends them alone, and clones nothing itself. The
+    /// second half of comemo's `memoize`.
     pub fn finish<S: Sink<Call = M::Call, Answer = M::Answer>>(
         self,
         cache: &mut CacheData<M>,
@@ -148,6 +150,7 @@ impl<M: Memo> Pending<M> {
         ensures finished { IfOk result (λ reply. Finished ⟦<M as Meant>⟧.meaning cache.old self
             (S.took sink.old sink.new) output reply cache.new) }
         ensures incomplete { (result ≡ Err Fault.Incomplete) ↔ (self.recording.whole ≡ false) }
+        ensures fault { IfErr result (λ fault. fault ≡ Fault.Write → ⊥) }
         ensures spoils { self.recording.whole ≡ false → S.spoils sink.old sink.new }
         ensures err { OnErr result ((cache.new ≡ cache.old)
             × BreaksOffRun ⟦<M as Meant>⟧.meaning (⟦<S as Breaking>⟧.breaks_off sink.old sink.new)
@@ -163,11 +166,11 @@ impl<M: Memo> Pending<M> {
             sink.spoil();
             return Err(Fault::Incomplete);
         }
-        let reads = recording.into_reads();
+        let (reads, writes) = recording.into_parts();
         let how = if enabled {
-            end_run(alloc, cache, sink, key, reads, &output)?
+            end_run(alloc, cache, sink, key, reads, &output, writes)?
         } else {
-            give_reads(reads, sink)?;
+            give_recording(reads, writes, sink)?;
             How::Disabled
         };
         Ok(Reply { output, how })
@@ -189,6 +192,7 @@ impl<M: Memo> Pending<M> {
             (S.took sink.old sink.new) output reply cache.new) }
         ensures incomplete { IfOk ran
             (λ _. (result ≡ Err Fault.Incomplete) ↔ (self.recording.whole ≡ false)) }
+        ensures write { IfOk ran (λ _. IfErr result (λ fault. fault ≡ Fault.Write → ⊥)) }
         ensures fault { IfErr ran (λ fault. (result ≡ Err fault) × S.spoils sink.old sink.new) }
         ensures spoils { self.recording.whole ≡ false → S.spoils sink.old sink.new }
         ensures err { OnErr result ((cache.new ≡ cache.old)
@@ -255,19 +259,86 @@ fn copy_pairs<C: Call, R: Clone + Ord>(
     Ok(pairs)
 }
 
-/// Clones of the pairs and the output of a run, so that the sink and the store, the caller and the store have one each.
+/// Clones of writes.
+fn copy_writes<C: Call>(writes: &Vec<C>) -> Result<Vec<C>, AllocError>
+    ensures same { IfOk result (λ copies. SameWrites C.eq writes.now.items copies.items) }
+    ensures written { All (λ c. C.is_write c ≡ true) writes.now.items
+        → IfOk result (λ copies. All (λ c. C.is_write c ≡ true) copies.items) }
+{
+    let copies = writes.clone()?;
+    Ok(copies)
+}
+
+/// Clones of the pairs, the output and the writes of a run, so that the sink and the store, the caller and the store
+/// have one each.
 fn copy_run<M: Memo>(
     alloc: Global,
     reads: &CallSequence<M::Call, M::Answer>,
     output: &M::Out,
-) -> Result<(Vec<(M::Call, M::Answer)>, M::Out), AllocError>
+    writes: &Vec<M::Call>,
+) -> Result<(Vec<(M::Call, M::Answer)>, M::Out, Vec<M::Call>), AllocError>
     ensures pairs { IfOk result
         (λ copies. IsSamePath M.Call.eq M.Answer.eq copies.0.items reads.now.pairs) }
     ensures output { IfOk result (λ copies. M.Out.is_clone output.now copies.1) }
+    ensures same { IfOk result (λ copies. SameWrites M.Call.eq writes.now.items copies.2.items) }
+    ensures written { All (λ c. M.Call.is_write c ≡ true) writes.now.items
+        → IfOk result (λ copies. All (λ c. M.Call.is_write c ≡ true) copies.2.items) }
 {
     let pairs = copy_pairs(alloc, reads)?;
     let kept = output.clone()?;
-    Ok((pairs, kept))
+    let writes = copy_writes(writes)?;
+    Ok((pairs, kept, writes))
+}
+
+/// Gives writes to a sink, all or none, and spoils it where there is no memory for them.
+fn give_writes<S: Sink>(writes: Vec<S::Call>, sink: &mut S) -> Result<(), Fault>
+    requires { All (λ c. S.Call.is_write c ≡ true) writes.items }
+    ensures ok { OnOk result (S.took sink.old sink.new [] writes.items) }
+    ensures fault { IfErr result (λ fault. fault ≡ Fault.Memory) }
+    ensures err { OnErr result (⟦<S as Breaking>⟧.spoiled_after sink.old sink.new [] []) }
+{
+    let Ok(()) = sink.reserve(writes.len()) else {
+        sink.spoil();
+        return Err(Fault::Memory);
+    };
+    for call in writes {
+        let Ok(_) = sink.emit(call, None) else {
+            unreachable!()
+        };
+    }
+    Ok(())
+}
+
+/// Gives pairs and then writes to a sink, and spoils it where there is no memory.
+fn give_run<S: Sink>(
+    pairs: Vec<(S::Call, S::Answer)>,
+    writes: Vec<S::Call>,
+    sink: &mut S,
+) -> Result<(), Fault>
+    requires reads { All (λ p. S.Call.is_write p.0 ≡ false) pairs.items }
+    requires written { All (λ c. S.Call.is_write c ≡ true) writes.items }
+    ensures ok { OnOk result (S.took sink.old sink.new pairs.items writes.items) }
+    ensures fault { IfErr result (λ fault. fault ≡ Fault.Memory) }
+    ensures err { OnErr result (⟦<S as Breaking>⟧.breaks_off sink.old sink.new pairs.items) }
+{
+    give_pairs(pairs, sink)?;
+    give_writes(writes, sink)
+}
+
+/// Gives a sequence of reads and then writes to a sink, and spoils it where there is no memory.
+fn give_recording<S: Sink>(
+    reads: CallSequence<S::Call, S::Answer>,
+    writes: Vec<S::Call>,
+    sink: &mut S,
+) -> Result<(), Fault>
+    requires reads { All (λ p. S.Call.is_write p.0 ≡ false) reads.pairs }
+    requires written { All (λ c. S.Call.is_write c ≡ true) writes.items }
+    ensures ok { OnOk result (S.took sink.old sink.new reads.pairs writes.items) }
+    ensures fault { IfErr result (λ fault. fault ≡ Fault.Memory) }
+    ensures err { OnErr result (⟦<S as Breaking>⟧.breaks_off sink.old sink.new reads.pairs) }
+{
+    give_reads(reads, sink)?;
+    give_writes(writes, sink)
 }
 
 /// Gives the pairs of a sequence of reads to a sink, and spoils it where there is no memory.
@@ -295,14 +366,16 @@ fn keep<M: Memo>(
     key: M::Key,
     reads: CallSequence<M::Call, M::Answer>,
     output: M::Out,
+    writes: Vec<M::Call>,
 ) -> How
     requires reads { All (λ p. M.Call.is_write p.0 ≡ false) reads.pairs }
-    requires stands { Stands ⟦<M as Meant>⟧.meaning (run key reads.pairs output []) }
+    requires written { All (λ c. M.Call.is_write c ≡ true) writes.items }
+    requires stands { Stands ⟦<M as Meant>⟧.meaning (run key reads.pairs output writes.items) }
     ensures ends { Ends (exactly ⟦<M as Meant>⟧.meaning) cache.old
-        (run key reads.pairs output []) result cache.new }
+        (run key reads.pairs output writes.items) result cache.new }
     ensures enabled { result ≡ How.Disabled → ⊥ }
 {
-    match cache.store(key, reads, output) {
+    match cache.store(key, reads, output, writes) {
         Ok(()) => How::Stored,
         Err(InsertError::AlreadyExists) => How::AlreadyExists,
         Err(InsertError::MissingCall) => How::MissingCall,
@@ -310,7 +383,7 @@ fn keep<M: Memo>(
     }
 }
 
-/// Gives a run's pairs to a sink and keeps it in a cache, and says what became of it.
+/// Gives a run's pairs and writes to a sink and keeps it in a cache, and says what became of it.
 fn end_run<M: Memo, S: Sink<Call = M::Call, Answer = M::Answer>>(
     alloc: Global,
     cache: &mut CacheData<M>,
@@ -318,37 +391,105 @@ fn end_run<M: Memo, S: Sink<Call = M::Call, Answer = M::Answer>>(
     key: M::Key,
     reads: CallSequence<M::Call, M::Answer>,
     output: &M::Out,
+    writes: Vec<M::Call>,
 ) -> Result<How, Fault>
     requires reads { All (λ p. M.Call.is_write p.0 ≡ false) reads.pairs }
-    requires stands { Stands ⟦<M as Meant>⟧.meaning (run key reads.pairs output.now []) }
+    requires written { All (λ c. M.Call.is_write c ≡ true) writes.items }
+    requires stands { Stands ⟦<M as Meant>⟧.meaning
+        (run key reads.pairs output.now writes.items) }
     ensures ends { IfOk result (λ how. Ends ⟦<M as Meant>⟧.meaning cache.old
-        (run key reads.pairs output.now []) how cache.new) }
+        (run key reads.pairs output.now writes.items) how cache.new) }
     ensures enabled { IfOk result (λ how. how ≡ How.Disabled → ⊥) }
     ensures gives { OnOk result
-        (Gives ⟦<M as Meant>⟧.meaning (S.took sink.old sink.new) reads.pairs []) }
+        (Gives ⟦<M as Meant>⟧.meaning (S.took sink.old sink.new) reads.pairs writes.items) }
     ensures fault { IfErr result (λ fault. fault ≡ Fault.Memory) }
     ensures err { OnErr result ((cache.new ≡ cache.old)
         × BreaksOffRun ⟦<M as Meant>⟧.meaning
         (⟦<S as Breaking>⟧.breaks_off sink.old sink.new) reads.pairs) }
 {
-    let Ok((pairs, kept)) = copy_run::<M>(alloc, &reads, output) else {
-        give_reads(reads, sink)?;
+    let Ok((pairs, kept, copies)) = copy_run::<M>(alloc, &reads, output, &writes) else {
+        give_recording(reads, writes, sink)?;
         return Ok(How::NotStored);
     };
-    give_pairs(pairs, sink)?;
-    Ok(keep(cache, key, reads, kept))
+    give_run(pairs, writes, sink)?;
+    Ok(keep(cache, key, reads, kept, copies))
+}
+
+/// Does the writes of a hit on its input and gives them to a sink that has room for them, in order.
+///
+/// At a write that is refused it stops, and spoils the sink.
+fn replay<In: Input, S: Sink<Call = In::Call, Answer = In::Answer>>(
+    writes: Vec<In::Call>,
+    input: &mut In,
+    sink: &mut S,
+) -> Result<(), Fault>
+    requires written { All (λ c. In.Call.is_write c ≡ true) writes.items }
+    requires room { length writes.items ≤ S.room sink.now }
+    ensures done { OnOk result (In.did input.old input.new writes.items) }
+    ensures sent { OnOk result (S.took sink.old sink.new [] writes.items) }
+    ensures fault { IfErr result (λ fault. fault ≡ Fault.Write) }
+    ensures err { OnErr result ((front : List In.Call) × (next : In.Call) × (rest : List In.Call)
+        × (writes.items ≡ front ++ next ∷ rest) × In.did input.old input.new front
+        × ⟦<S as Breaking>⟧.spoiled_after sink.old sink.new [] front
+        × (In.Call.is_write next ≡ true)) }
+{
+    for write in writes {
+        let Ok(()) = input.call_mut(&write) else {
+            sink.spoil();
+            return Err(Fault::Write);
+        };
+        let Ok(_) = sink.emit(write, None) else {
+            unreachable!()
+        };
+    }
+    Ok(())
+}
+
+/// Gives what a look-up found: its path to the sink, its writes to the input and the sink, and its output.
+fn give_found<
+    M: Memo,
+    In: Input<Call = M::Call, Key = M::Key, Answer = M::Answer>,
+    S: Sink<Call = M::Call, Answer = M::Answer>,
+>(found: Found<M>, input: &mut In, sink: &mut S) -> Result<M::Out, Fault>
+    requires reads { All (λ p. M.Call.is_write p.0 ≡ false) found.pairs.items }
+    requires written { All (λ c. M.Call.is_write c ≡ true) found.writes.items }
+    ensures output { IfOk result (λ output. output ≡ found.output) }
+    ensures done { OnOk result (In.did input.old input.new found.writes.items) }
+    ensures sent { OnOk result (S.took sink.old sink.new found.pairs.items found.writes.items) }
+    ensures err { IfErr result (λ fault. OnFault fault
+        (In.did input.old input.new []
+        × ⟦<S as Breaking>⟧.breaks_off sink.old sink.new found.pairs.items)
+        ((front : List M.Call) × (next : M.Call) × (rest : List M.Call)
+        × (found.writes.items ≡ front ++ next ∷ rest) × In.did input.old input.new front
+        × ⟦<S as Breaking>⟧.spoiled_after sink.old sink.new found.pairs.items front
+        × (M.Call.is_write next ≡ true))) }
+{
+    let Found {
+        pairs: path,
+        output,
+        writes,
+    } = found;
+    give_pairs(path, sink)?;
+    let Ok(()) = sink.reserve(writes.len()) else {
+        sink.spoil();
+        return Err(Fault::Memory);
+    };
+    replay(writes, input, sink)?;
+    Ok(output)
 }
 
 /// Begins a call of a memoized function: looks for an entry that agrees, and gives its output; or begins a run.
 ///
 /// With `enabled` false there is no look-up, and the run won't be stored. On a hit the entry's path is given to the
-/// sink. A run changes nothing yet. `Memory` comes where the key, an answer of the input, a clone of the entry found or
-/// the sink found no memory: then the cache is as it was, nothing was written to the input, and the sink is spoiled,
-/// after it took perhaps a beginning of the entry's path.
+/// sink, and then each of its writes is done on the input and given to the sink, in order. A run changes nothing yet.
+/// `Memory` comes where the key, an answer of the input, a clone of the entry found or the sink found no memory: then
+/// the cache is as it was, nothing was written to the input, and the sink is spoiled, after it took perhaps a beginning
+/// of the entry's path. `Write` comes where the input refused a write of a hit: then those before it were done and
+/// given to the sink, which is spoiled; the entry stays, and a next call of the same kind is a hit again.
 ///
 /// It clones the key, and looks as `CacheData::look` does, which asks each call of one stored path once and finds its
-/// answer in an ordered map. On a hit it clones the calls of the entry's path and its output, and sends each pair of the
-/// path to the sink. The first half of comemo's `memoize`.
+/// answer in an ordered map. On a hit it clones the calls of the entry's path, its output and its writes, and sends each
+/// pair of the path and each write to the sink. The first half of comemo's `memoize`.
 pub fn begin<
     M: Memo,
     In: Input<Call = M::Call, Key = M::Key, Answer = M::Answer>,
@@ -370,10 +511,13 @@ pub fn begin<
         (λ run. IsRun ⟦<M as Meant>⟧.meaning cache.old
         (⟦<In as Invoked>⟧.invoked input.old enabled) run
         × In.did input.old input.new [] × (sink.new ≡ sink.old) × (cache.new ≡ cache.old))) }
-    ensures fault { IfErr result (λ fault. fault ≡ Fault.Memory) }
-    ensures err { OnErr result ((cache.new ≡ cache.old) × In.did input.old input.new []
+    ensures err { IfErr result (λ fault. OnFault fault
+        ((cache.new ≡ cache.old) × In.did input.old input.new []
         × IsBrokenOff ⟦<M as Meant>⟧.meaning cache.old (⟦<In as Invoked>⟧.invoked input.old enabled)
-        (⟦<S as Breaking>⟧.breaks_off sink.old sink.new)) }
+        (⟦<S as Breaking>⟧.breaks_off sink.old sink.new))
+        (Touches cache.old cache.new
+        × IsStopped ⟦<M as Meant>⟧.meaning cache.old (⟦<In as Invoked>⟧.invoked input.old enabled)
+        (In.did input.old input.new) (⟦<S as Breaking>⟧.spoiled_after sink.old sink.new))) }
 {
     let Ok(key) = input.key() else {
         sink.spoil();
@@ -385,11 +529,7 @@ pub fn begin<
             return Err(Fault::Memory);
         };
         if let Some(found) = looked {
-            let Found {
-                pairs: path,
-                output,
-            } = found;
-            give_pairs(path, sink)?;
+            let output = give_found(found, input, sink)?;
             return Ok(Begun::Hit(output));
         }
     }

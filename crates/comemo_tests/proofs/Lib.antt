@@ -3,3 +3,4 @@ pub mod Contexts
 pub mod Before
 pub mod Contains
 pub mod Failing
+pub mod Stopping

@@ -47,7 +47,11 @@ pub fn look_location(
     let Some(found) = cache.look(&(), &mut context)? else {
         return Ok(None);
     };
-    let Found { pairs: _, output } = found;
+    let Found {
+        pairs: _,
+        output,
+        writes: _,
+    } = found;
     Ok(Some(output))
 }
 

@@ -2,6 +2,8 @@
 ghost use Rattle.std.specs.Prelude.{◌≡◌, [], ◌∷◌, ◌||◌, ◌+◌, ◌%◌, ◌^◌, Bool, false, IfOk, OnOk, OnErr, nat_eq};
 ghost use Rattle.std.proofs.Common.{rules};
 ghost use Rattle.comemo.specs.Multi.{OnParts};
+ghost use Rattle.comemo.specs.Meaning.{reading};
+ghost use Rattle.comemo.specs.MeaningLaws.{none_alike};
 ghost use Rattle.comemo_tests.specs.Broken.{IsBroken};
 
 use crate::sinks::send;
@@ -41,14 +43,21 @@ impl Memo for ContainsMemo {
 
     ghost use Rattle.comemo_samples.specs.declared.contexts.ContextCall.TheVariants.{Location, Styles};
 
-    ghost def = { λ key answers out _. OnParts answers
-        (λ _ m. out ≡ (nat_eq (m Location) key.0 || nat_eq (m Styles) key.0)) };
+    ghost def = { reading (λ key answers out. OnParts answers
+        (λ _ m. out ≡ (nat_eq (m Location) key.0 || nat_eq (m Styles) key.0))) };
 
     ghost laws = { record {
-      outputs = λ key m a b writes r d h x y p q. Prim.search
-          (rules, h x y p q);
-      keys = λ j k m output writes r e h x y p q. Prim.search
-          (rules, h x y p q);
+      outputs = λ key m a b writes r d h. (
+        h.0,
+        λ x y p q. Prim.search
+            (rules, h.1 x y p q),
+      );
+      keys = λ j k m output writes r e h. (
+        h.0,
+        λ x y p q. Prim.search
+            (rules, h.1 x y p q),
+      );
+      writes = λ key m output V W r same h. (none_alike _ V W same h.0, h.1);
       key_clones = Prim.search rules;
       answer_clones = Prim.search rules;
     } };
@@ -106,7 +115,7 @@ impl Memo for SumOfTwoMemo {
 
     type Out = u32;
 
-    ghost def = { λ key _ out _. out ≡ (key.0 + key.1) % 2 ^ 32 };
+    ghost def = { reading (λ key _ out. out ≡ (key.0 + key.1) % 2 ^ 32) };
 
     ghost laws = { Prim.search rules };
 }
@@ -147,14 +156,21 @@ impl Memo for LocationsMemo {
 
     ghost use Rattle.comemo_samples.specs.declared.contexts.ContextCall.TheVariants.{Location};
 
-    ghost def = { λ _ answers out _. OnParts answers
-        (λ m n. out ≡ (m Location + n Location) % 2 ^ 64) };
+    ghost def = { reading (λ _ answers out. OnParts answers
+        (λ m n. out ≡ (m Location + n Location) % 2 ^ 64)) };
 
     ghost laws = { record {
-      outputs = λ key m a b writes r d h x y p q. Prim.search
-          (rules, h x y p q);
-      keys = λ j k m output writes r e h x y p q. Prim.search
-          (rules, h x y p q);
+      outputs = λ key m a b writes r d h. (
+        h.0,
+        λ x y p q. Prim.search
+            (rules, h.1 x y p q),
+      );
+      keys = λ j k m output writes r e h. (
+        h.0,
+        λ x y p q. Prim.search
+            (rules, h.1 x y p q),
+      );
+      writes = λ key m output V W r same h. (none_alike _ V W same h.0, h.1);
       key_clones = Prim.search rules;
       answer_clones = Prim.search rules;
     } };
@@ -213,7 +229,7 @@ impl Memo for ThreeMemo {
 
     type Out = u32;
 
-    ghost def = { λ key _ out _. out ≡ (key.0 + key.1.0) % 2 ^ 32 };
+    ghost def = { reading (λ key _ out. out ≡ (key.0 + key.1.0) % 2 ^ 32) };
 
     ghost laws = { Prim.search rules };
 }

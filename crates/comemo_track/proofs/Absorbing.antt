@@ -8,6 +8,7 @@ use Rattle.std.specs.Map.{lookup}
 use Rattle.std.specs.HashMap.Eq.{lookup_congr}
 use Rattle.comemo_base.specs.Sequence.{Sequence, HasDistinctCalls, was_seen, unseen, held, absorbed}
 use Rattle.comemo_base.proofs.Pairs.{held-push}
+use Rattle.std.specs.List.{All}
 use Rattle.comemo_track.specs.Recording.{IsRecording}
 
 or_none : (a : Bool) → (a || false) ≡ a
@@ -66,14 +67,14 @@ module _ {C R : Type 0} {eq : C → C → Bool} (laws : IsEquivalence eq) where
         | inr a ↦ rw a (held-others ps qs c a)
       ]
 
-  module _ (w : C → Bool) (s o t : Sequence C R) (is : IsRecording eq w s) where
+  module _ (w : C → Bool) (s o t : Sequence C R) {V : List C} (is : IsRecording eq w s V) where
     unseen_others : unseen eq s o.pairs ≡ others s.pairs o.pairs
     unseen_others = λ i. filter (λ q. not (is.seen q.0 i)) o.pairs
 
     pub pairs-absorbed : HasDistinctCalls eq o.pairs → t.pairs ≡ s.pairs ++ unseen eq s o.pairs → t.pairs ≡ absorbed eq s.pairs o.pairs
     pairs-absorbed d e = e ∙ ap (λ x. s.pairs ++ x) unseen_others ∙ sym (absorbed_distinct s.pairs o.pairs d)
 
-    both : IsRecording eq w o → t.pairs ≡ s.pairs ++ unseen eq s o.pairs → ((c : C) → was_seen eq t c ≡ (was_seen eq s c || held eq o.pairs c)) → IsRecording eq w t
+    both : All (λ p. w p.0 ≡ false) o.pairs → t.pairs ≡ s.pairs ++ unseen eq s o.pairs → ((c : C) → was_seen eq t c ≡ (was_seen eq s c || held eq o.pairs c)) → IsRecording eq w t V
     both other e seen =
         let pairs : t.pairs ≡ s.pairs ++ others s.pairs o.pairs = e ∙ ap (λ x. s.pairs ++ x) unseen_others in
         record {
@@ -81,10 +82,16 @@ module _ {C R : Type 0} {eq : C → C → Bool} (laws : IsEquivalence eq) where
               seen c
               ∙ ap (λ b. b || held eq o.pairs c) (is.seen c)
               ∙ sym (ap (λ ps. held eq ps c) pairs ∙ held-both s.pairs o.pairs c);
-          all_reads = rw pairs (All-append (λ p. w p.0 ≡ false) s.pairs (others s.pairs o.pairs) is.all_reads (All-filter (λ q. not (held eq s.pairs q.0)) (λ p. w p.0 ≡ false) o.pairs other.all_reads));
+          all_reads = rw pairs (All-append (λ p. w p.0 ≡ false) s.pairs (others s.pairs o.pairs) is.all_reads (All-filter (λ q. not (held eq s.pairs q.0)) (λ p. w p.0 ≡ false) o.pairs other));
+          all_writes = is.all_writes;
         }
 
-    -- refused or not, the sequence is a recording's
-    pub IsRecording-absorbed : {T E : Type 0} (r : Result T E) → IsRecording eq w o → OnOk r (t.pairs ≡ s.pairs ++ unseen eq s o.pairs) → OnOk r ((c : C) → was_seen eq t c ≡ (was_seen eq s c || held eq o.pairs c)) → OnErr r (t ≡ s) → IsRecording eq w t
-    IsRecording-absorbed (Ok x) other e seen same = both other e seen
-    IsRecording-absorbed (Err x) other e seen same = rw same is
+    -- with the other's writes added it is a recording's
+    pub IsRecording-absorbed : (U W : List C) → All (λ p. w p.0 ≡ false) o.pairs → All (λ c. w c ≡ true) U → t.pairs ≡ s.pairs ++ unseen eq s o.pairs → ((c : C) → was_seen eq t c ≡ (was_seen eq s c || held eq o.pairs c)) → W ≡ V ++ U → IsRecording eq w t W
+    IsRecording-absorbed U W reads written e seen writes =
+        let is_both = both reads e seen in
+        record {
+          seen = is_both.seen;
+          all_reads = is_both.all_reads;
+          all_writes = rw writes (All-append (λ c. w c ≡ true) V U is.all_writes written);
+        }

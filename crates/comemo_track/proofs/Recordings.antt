@@ -1,14 +1,14 @@
 -- How a recording takes one more call.
-use Rattle.std.proofs.Common.{◌≡◌, Bool, true, false, not, ◌||◌, [], ◌∷◌, ◌++◌, IsTrue, Result, Ok, Err, IfOk, OnErr, refl, sym, ap, ◌∙◌}
+use Rattle.std.proofs.Common.{◌≡◌, Bool, true, false, not, ◌||◌, List, [], ◌∷◌, ◌++◌, IsTrue, Result, Ok, Err, IfOk, OnErr, refl, sym, ap, ◌∙◌, append-nil}
 use Rattle.std.proofs.lemmas.List.Elements.{All-push}
 use Rattle.std.specs.Cmp.{IsEquivalence}
 use Rattle.std.specs.declared.alloc.AllocError.{AllocError}
 use Rattle.comemo_base.specs.Sequence.{Sequence, was_seen, held}
 use Rattle.comemo_base.proofs.Pairs.{or_turned, held-push}
-use Rattle.comemo_track.specs.Recording.{IsRecording}
+use Rattle.comemo_track.specs.Recording.{Recording, Took, Spoiled, IsRecording}
 
-module _ {C R : Type 0} {eq : C → C → Bool} (laws : IsEquivalence eq) (w : C → Bool) (s : Sequence C R) (is : IsRecording eq w s) where
-  taken : (t : Sequence C R) (call : C) (answer : R) → w call ≡ false → t.pairs ≡ s.pairs ++ (call, answer) ∷ [] → ((other : C) → was_seen eq t other ≡ (eq call other || was_seen eq s other)) → IsRecording eq w t
+module _ {C R : Type 0} {eq : C → C → Bool} (laws : IsEquivalence eq) (w : C → Bool) (s : Sequence C R) {W : List C} (is : IsRecording eq w s W) where
+  taken : (t : Sequence C R) (call : C) (answer : R) → w call ≡ false → t.pairs ≡ s.pairs ++ (call, answer) ∷ [] → ((other : C) → was_seen eq t other ≡ (eq call other || was_seen eq s other)) → IsRecording eq w t W
   taken t call answer read pairs seen = record {
     seen = λ other.
         seen other
@@ -17,10 +17,28 @@ module _ {C R : Type 0} {eq : C → C → Bool} (laws : IsEquivalence eq) (w : C
         ∙ ap (λ b. held eq s.pairs other || b) (laws.symm call other)
         ∙ sym (ap (λ ps. held eq ps other) pairs ∙ held-push eq s.pairs call answer other);
     all_reads = rw pairs (All-push (λ p. w p.0 ≡ false) s.pairs (call, answer) is.all_reads read);
+    all_writes = is.all_writes;
   }
 
   -- a read, taken or not
-  pub IsRecording-read : (t : Sequence C R) (call : C) (answer : R) (r : Result Bool AllocError) → w call ≡ false → IfOk r (λ new. IsTrue new → t.pairs ≡ s.pairs ++ (call, answer) ∷ []) → IfOk r (λ new. IsTrue new → (other : C) → was_seen eq t other ≡ (eq call other || was_seen eq s other)) → IfOk r (λ new. IsTrue (not new) → t ≡ s) → OnErr r (t ≡ s) → IsRecording eq w t
+  pub IsRecording-read : (t : Sequence C R) (call : C) (answer : R) (r : Result Bool AllocError) → w call ≡ false → IfOk r (λ new. IsTrue new → t.pairs ≡ s.pairs ++ (call, answer) ∷ []) → IfOk r (λ new. IsTrue new → (other : C) → was_seen eq t other ≡ (eq call other || was_seen eq s other)) → IfOk r (λ new. IsTrue (not new) → t ≡ s) → OnErr r (t ≡ s) → IsRecording eq w t W
   IsRecording-read t call answer (Ok true) read pairs seen held err = taken t call answer read (pairs refl) (seen refl)
   IsRecording-read t call answer (Ok false) read pairs seen held err = rw (held refl) is
   IsRecording-read t call answer (Err e) read pairs seen held err = rw err is
+
+  -- a write is added
+  pub IsRecording-written : (V : List C) (call : C) → w call ≡ true → V ≡ W ++ call ∷ [] → IsRecording eq w s V
+  IsRecording-written V call written e = record {
+    seen = is.seen;
+    all_reads = is.all_reads;
+    all_writes = rw e (All-push (λ c. w c ≡ true) W call is.all_writes written);
+  }
+
+-- nothing was taken
+pub took_none : {C R : Type 0} (eq : C → C → Bool) (s t : Recording C R) → t.pairs ≡ s.pairs → t.writes ≡ s.writes → t.whole ≡ s.whole → Took eq s t [] []
+took_none eq s t pairs writes whole = record { pairs = pairs; writes = writes ∙ sym (append-nil s.writes); whole = whole }
+
+-- nothing was taken where it was refused, and then it was spoiled
+pub spoiled_at : {T E C R : Type 0} (eq : C → C → Bool) (r : Result T E) (s m t : Recording C R) → OnErr r (Took eq s m [] []) → t.pairs ≡ m.pairs → t.writes ≡ m.writes → OnErr r (t.whole ≡ false) → OnErr r (Spoiled s t)
+spoiled_at eq (Ok x) s m t taken pairs writes whole = tt
+spoiled_at eq (Err e) s m t taken pairs writes whole = record { pairs = pairs ∙ taken.pairs; writes = writes ∙ taken.writes ∙ append-nil s.writes; whole = whole }

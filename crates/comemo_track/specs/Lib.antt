@@ -7,3 +7,5 @@ pub mod Mapped
 pub mod MultiLaws
 pub mod MappedLaws
 pub mod InputLaws
+pub mod Writing
+pub mod WritingLaws

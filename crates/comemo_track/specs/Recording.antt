@@ -1,15 +1,16 @@
 -- What a recording holds, and how it takes more.
-use Rattle.std.specs.Prelude.{◌≡◌, Bool, false, List, ◌∷◌, ◌++◌, refl}
+use Rattle.std.specs.Prelude.{◌≡◌, ℕ, Bool, true, false, List, ◌∷◌, ◌++◌, refl}
 use Rattle.std.specs.List.{All}
-use Rattle.std.specs.Coded.{Coded, code_by, coded×, coded_list, coded_bool}
+use Rattle.std.specs.Coded.{Coded, code_by, coded×, coded_list, coded_bool, coded_ℕ}
 use Rattle.comemo_base.specs.Answers.{Agrees}
 use Rattle.comemo_base.specs.Sequence.{Sequence, was_seen, held, absorbed}
 
--- reads with their answers, writes, and whether nothing was lost
+-- reads with their answers, writes, whether nothing was lost, and how many writes more have room
 pub record Recording (C R : Type 0) : Type 0 where
   pub pairs : List (C × R)
   pub writes : List C
   pub whole : Bool
+  pub room : ℕ
 
 -- t is s after it took these pairs and these writes
 pub record Took {C R : Type 0} (eq : C → C → Bool) (s t : Recording C R) (P : List (C × R)) (W : List C) : Type 0 where
@@ -30,9 +31,10 @@ AgreesBefore {C} {R} same m pairs = (front : List (C × R)) × (next : C × R) �
 -- a recording is coded as the tuple of its fields, by which a proof tells two apart
 abbrev pub recording_code : {C R : Type 0} → Coded C → Coded R → Coded (Recording C R)
 recording_code {C} {R} c r =
-    code_by (List (C × R) × (List C × Bool)) (coded× (coded_list (coded× c r)) (coded× (coded_list c) coded_bool)) (λ s. (s.pairs, (s.writes, s.whole))) (λ p. record { pairs = p.0; writes = p.1.0; whole = p.1.1 }) (λ _. refl)
+    code_by (List (C × R) × (List C × (Bool × ℕ))) (coded× (coded_list (coded× c r)) (coded× (coded_list c) (coded× coded_bool coded_ℕ))) (λ s. (s.pairs, (s.writes, (s.whole, s.room)))) (λ p. record { pairs = p.0; writes = p.1.0; whole = p.1.1.0; room = p.1.1.1 }) (λ _. refl)
 
--- how a `Constraint` keeps it: the calls seen are those of the pairs, all of them reads
-pub record IsRecording {C R : Type 0} (eq : C → C → Bool) (w : C → Bool) (reads : Sequence C R) : Type 0 where
+-- how a `Constraint` keeps it: the calls seen are those of the pairs, all of them reads, and the writes are writes
+pub record IsRecording {C R : Type 0} (eq : C → C → Bool) (w : C → Bool) (reads : Sequence C R) (writes : List C) : Type 0 where
   pub seen : (call : C) → was_seen eq reads call ≡ held eq reads.pairs call
   pub all_reads : All (λ p. w p.0 ≡ false) reads.pairs
+  pub all_writes : All (λ c. w c ≡ true) writes

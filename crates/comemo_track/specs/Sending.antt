@@ -26,3 +26,9 @@ pub record BreaksOff {S C R : Type 0} (took : S → S → List (C × R) → List
   pub mid : S
   pub taken : took s mid front []
   pub spoiled : spoils mid t
+
+-- the sink took these pairs and these writes, and then was spoiled
+pub record SpoiledAfter {S C R : Type 0} (took : S → S → List (C × R) → List C → Type 0) (spoils : S → S → Type 0) (s t : S) (pairs : List (C × R)) (writes : List C) : Type 0 where
+  pub mid : S
+  pub taken : took s mid pairs writes
+  pub spoiled : spoils mid t

@@ -1,7 +1,9 @@
--- What a view with a sink is, and how a view prints.
+-- What a view that writes, or that has a sink, is, and how a view prints.
 use Rattle.std.specs.Prelude.{ℕ, List, codes}
 use Rattle.std.specs.Borrow.{MutBor}
 use Rattle.comemo_track.specs.declared.track.TrackedWith.{TrackedWith}
+use Rattle.comemo_track.specs.declared.writing.TrackedMut.{TrackedMut}
+use Rattle.comemo_track.specs.declared.writing.TrackedMutWith.{TrackedMutWith}
 
 module _ {T S : Type 0} where
   -- the value that a view with a sink reads
@@ -12,6 +14,22 @@ module _ {T S : Type 0} where
   abbrev pub sink_of : TrackedWith T S → MutBor S
   sink_of view = view.sink
 
+  -- the value that a writing view with a sink reads and writes, as it was lent
+  abbrev pub place_in : TrackedMutWith T S → MutBor T
+  place_in view = view.value
+
+  -- the sink that it sends its calls to, as it was lent
+  abbrev pub writing_sink_of : TrackedMutWith T S → MutBor S
+  writing_sink_of view = view.sink
+
+-- the value that a writing view reads and writes, as it was lent
+abbrev pub place_of : {T : Type 0} → TrackedMut T → MutBor T
+place_of view = view.value
+
 -- what a reading view prints, with no option at the hole
 abbrev pub tracked_text : List ℕ
 tracked_text = codes "Tracked(..)"
+
+-- what a writing view prints
+abbrev pub tracked_mut_text : List ℕ
+tracked_mut_text = codes "TrackedMut(..)"

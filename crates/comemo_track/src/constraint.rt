@@ -1,5 +1,5 @@
 //! Recordings: what a run asked, and what it did.
-ghost use Rattle.std.specs.Prelude.{◌≡◌, ◌↔◌, ◌&&◌, [], ◌∷◌, ◌++◌, Bool, true, false, IsTrue, IfOk, OnOk, OnErr, not, is_none};
+ghost use Rattle.std.specs.Prelude.{◌≡◌, ◌↔◌, ◌≤◌, ◌+◌, ◌&&◌, ◌||◌, [], ◌∷◌, ◌++◌, Bool, true, false, length, IsTrue, IsOk, IfOk, OnOk, OnErr, not, is_none};
 ghost use Rattle.std.specs.List.{All};
 ghost use Rattle.comemo_base.specs.Sequence.{held, absorbed};
 ghost use Rattle.comemo_base.specs.Answers.{Agrees};
@@ -11,28 +11,35 @@ use comemo_base::CallSequence;
 use std::alloc::{AllocError, Global};
 use std::marker::Model;
 
-/// A recording of one run of a memoized function: its reads with their answers, each read once. Writes are to come.
+/// A recording of one run of a memoized function: its reads with their answers, each read once, and its writes in
+/// order.
 ///
 /// It is whole, or spoiled: then something that should have been recorded was not. It keeps its reads as a
-/// `CallSequence`, and takes what that takes. comemo's `Constraint`, owned and lent for writing, with answers
-/// themselves in the place of their hashes.
+/// `CallSequence` and its writes as a `Vec`, and takes what those take. comemo's `Constraint`, owned and lent for
+/// writing, with answers themselves in the place of their hashes.
 #[derive(Drop)]
 pub struct Constraint<C: Call, R> {
     reads: CallSequence<C, R>,
+    writes: Vec<C>,
     whole: bool,
 }
 
 impl<C: Call, R> Model for Constraint<C, R> {
-    ghost use Rattle.std.specs.Prelude.{[]};
+    ghost use Rattle.std.specs.Prelude.{◌-◌, vec_len, vec_capacity};
     ghost use Rattle.comemo_track.specs.Recording.{Recording, recording_code, IsRecording};
 
     ghost Value = { Recording C R };
 
     ghost coded = { recording_code C.code R.code };
 
-    ghost view = { λ s. record { pairs = s.reads.pairs; writes = []; whole = s.whole } };
+    ghost view = { λ s. record {
+      pairs = s.reads.pairs;
+      writes = s.writes.items;
+      whole = s.whole;
+      room = vec_capacity s.writes - vec_len s.writes;
+    } };
 
-    ghost invariant = { λ s. IsRecording C.eq C.is_write s.reads };
+    ghost invariant = { λ s. IsRecording C.eq C.is_write s.reads s.writes.items };
 }
 
 impl<C: Call, R> Constraint<C, R> {
@@ -46,6 +53,7 @@ impl<C: Call, R> Constraint<C, R> {
     {
         Constraint {
             reads: CallSequence::new(alloc),
+            writes: Vec::new(alloc),
             whole: true,
         }
     }
@@ -59,14 +67,20 @@ impl<C: Call, R> Constraint<C, R> {
         self.whole
     }
 
-    /// The recorded reads, as a sequence, which is what a cache stores them by. It takes no memory. This project's own.
-    pub fn into_reads(self) -> CallSequence<C, R>
-        ensures pairs { result.pairs ≡ self.pairs }
-        ensures reads { All (λ p. C.is_write p.0 ≡ false) self.pairs }
-        ensures writes { self.writes ≡ [] }
+    /// The recorded reads, as a sequence, which is what a cache stores them by, and the recorded writes. It takes no
+    /// memory. This project's own.
+    pub fn into_parts(self) -> (CallSequence<C, R>, Vec<C>)
+        ensures pairs { result.0.pairs ≡ self.pairs }
+        ensures writes { result.1.items ≡ self.writes }
+        ensures are_reads { All (λ p. C.is_write p.0 ≡ false) self.pairs }
+        ensures are_writes { All (λ c. C.is_write c ≡ true) self.writes }
     {
-        let Constraint { reads, whole: _ } = self;
-        reads
+        let Constraint {
+            reads,
+            writes,
+            whole: _,
+        } = self;
+        (reads, writes)
     }
 }
 
@@ -75,7 +89,7 @@ impl<C: Call, R: Drop> Constraint<C, R> {
     /// own ones. Of a read that is held the own answer stays. Where the other is spoiled this one is spoiled too.
     ///
     /// Where there is no memory it answers `AllocError`: then reads and writes stay as they were and the recording is
-    /// spoiled, since the other is gone. It takes the room for all reads of the other at once, clones nothing, and
+    /// spoiled, since the other is gone. It takes the room for all calls of the other at once, clones nothing, and
     /// takes constant expected time for each of them. comemo's `Constraint` has nothing like it.
     pub fn absorb(&mut self, other: Constraint<C, R>) -> Result<(), AllocError>
         ensures pairs { OnOk result (self.new.pairs ≡ absorbed C.eq self.old.pairs other.pairs) }
@@ -83,11 +97,38 @@ impl<C: Call, R: Drop> Constraint<C, R> {
         ensures whole { OnOk result (self.new.whole ≡ (self.old.whole && other.whole)) }
         ensures err { OnErr result (Spoiled self.old self.new) }
     {
-        let Constraint { reads, whole } = other;
+        let Constraint {
+            reads,
+            writes,
+            whole,
+        } = other;
+        let absorbed = self.absorb_parts(reads, writes);
+        if absorbed.is_err() {
+            self.whole = false;
+            return absorbed;
+        }
+        self.whole = self.whole && whole;
+        Ok(())
+    }
+
+    /// Adds reads and writes. An error says that there was no memory for them, and then nothing was added.
+    fn absorb_parts(
+        &mut self,
+        reads: CallSequence<C, R>,
+        mut writes: Vec<C>,
+    ) -> Result<(), AllocError>
+        requires reads { All (λ p. C.is_write p.0 ≡ false) reads.pairs }
+        requires writes { All (λ c. C.is_write c ≡ true) writes.items }
+        ensures ok { OnOk result (Took C.eq self.old self.new reads.pairs writes.items) }
+        ensures err { OnErr result (Took C.eq self.old self.new [] []) }
+    {
         reads.has_distinct_calls();
-        let absorbed = self.reads.absorb(reads);
-        self.whole = self.whole && whole && absorbed.is_ok();
-        absorbed
+        self.writes.reserve(writes.len())?;
+        self.reads.absorb(reads)?;
+        let Ok(()) = self.writes.append(&mut writes) else {
+            unreachable!()
+        };
+        Ok(())
     }
 }
 
@@ -115,7 +156,7 @@ impl<C: Call, R: Clone + Ord> Constraint<C, R> {
 }
 
 /// It takes note of a read as `CallSequence::insert` does: it clones a call that is new, in constant expected time, and
-/// where there is no memory nothing changes. The first answer to a call stays.
+/// where there is no memory nothing changes. The first answer to a call stays. A write is added behind the others.
 impl<C: Call, R: Clone + Ord> Sink for Constraint<C, R> {
     type Call = C;
 
@@ -141,19 +182,33 @@ impl<C: Call, R: Clone + Ord> Sink for Constraint<C, R> {
 
     ghost spoiled_holds = { spoiled_held C.eq };
 
+    ghost room = { λ s. s.room };
+
     fn emit(&mut self, call: C, answer: Option<R>) -> Result<bool, AllocError>
         requires answered { is_none answer ≡ C.is_write call }
-        requires reads { C.is_write call ≡ false }
         ensures ok { OnOk result
             (Took C.eq self.old self.new (sent_pairs call answer) (sent_writes call answer)) }
-        ensures new { IfOk result (λ new. new ≡ not (held C.eq self.old.pairs call)) }
+        ensures new { IfOk result
+            (λ new. new ≡ (is_none answer || not (held C.eq self.old.pairs call))) }
         ensures err { OnErr result (Took C.eq self.old self.new [] []) }
+        ensures succeeds { IsTrue (is_none answer) → 1 ≤ self.old.room → IsOk result }
+        ensures room { self.old.room ≤ self.new.room + length (sent_writes call answer) }
     {
         match answer {
             Some(answer) => self.reads.insert(call, answer),
-            // Only a write comes without an answer, and there are none yet.
-            None => Ok(true),
+            // Only a write comes without an answer.
+            None => {
+                self.writes.push(call)?;
+                Ok(true)
+            }
         }
+    }
+
+    fn reserve(&mut self, writes: usize) -> Result<(), AllocError>
+        ensures ok { OnOk result (writes ≤ self.new.room) }
+        ensures same { Took C.eq self.old self.new [] [] }
+    {
+        self.writes.reserve(writes)
     }
 
     fn spoil(&mut self) {

@@ -1,11 +1,14 @@
 //! Inputs of memoized functions: a key, by which entries are told apart, and calls, whose answers they are looked up
 //! by.
-ghost use Rattle.std.specs.Prelude.{◌≡◌, [], ◌++◌, List, false, IsTrue, IfOk, refl};
+ghost use Rattle.std.specs.Prelude.{◌≡◌, [], ◌∷◌, ◌++◌, List, true, false, IsTrue, IfOk, OnOk, OnErr, refl};
 ghost use Rattle.std.proofs.Common.{◌∙◌, ap};
 ghost use Rattle.comemo_base.specs.Answers.{Respects};
 ghost use Rattle.comemo_track.specs.InputLaws.{equal_if_one};
+ghost use Rattle.comemo_track.specs.WritingLaws.{done_both, done_keeps};
+ghost use Rattle.comemo_track.specs.Views.{place_of};
 
-use crate::track::{Call, Track, Tracked};
+use crate::track::{Call, Track, Tracked, Written};
+use crate::writing::TrackedMut;
 use std::alloc::AllocError;
 use std::hash::Hash;
 use std::marker::Model;
@@ -48,6 +51,15 @@ pub trait Input {
         ensures answer { IfOk result
             (λ answer. IsTrue (Self.Answer.eq (answers self.old call.now) answer)) }
         ensures same { did self.old self.new [] };
+
+    /// Does a write on the input. An error says that it was refused, and then nothing was done. What can't be written
+    /// to does nothing. It is handed no read.
+    ///
+    /// comemo's `Input::call_mut`, which can't be refused.
+    fn call_mut(&mut self, call: &Self::Call) -> Result<(), AllocError>
+        ensures ok { Self.Call.is_write call.now ≡ true
+            → OnOk result (did self.old self.new (call.now ∷ [])) }
+        ensures err { OnErr result (did self.old self.new []) };
 
     // equal calls have equal answers
     ghost alike: { (s : Self) → Respects Self.Call.eq Self.Answer.eq (answers s) };
@@ -115,6 +127,10 @@ impl<'a, K: Clone + Eq + Hash, T: Track> Input for Keyed<'a, K, T> {
     fn call(&mut self, call: &T::Call) -> Result<T::Answer, AllocError> {
         self.view.read(call)
     }
+
+    fn call_mut(&mut self, _call: &T::Call) -> Result<(), AllocError> {
+        Ok(())
+    }
 }
 
 /// A view: an input with no key, whose calls and answers are the view's. Lent as `&mut`, it is its caller's again after
@@ -152,6 +168,10 @@ impl<'a, T: Track> Input for Tracked<'a, T> {
     fn call(&mut self, call: &T::Call) -> Result<T::Answer, AllocError> {
         self.read(call)
     }
+
+    fn call_mut(&mut self, _call: &T::Call) -> Result<(), AllocError> {
+        Ok(())
+    }
 }
 
 /// A reference to a view: an input like the view itself, for a place where the view can't be moved to.
@@ -188,6 +208,103 @@ impl<'a, T: Track> Input for &mut Tracked<'a, T> {
 
     fn call(&mut self, call: &T::Call) -> Result<T::Answer, AllocError> {
         (**self).read(call)
+    }
+
+    fn call_mut(&mut self, _call: &T::Call) -> Result<(), AllocError> {
+        Ok(())
+    }
+}
+
+/// A view that writes: an input with no key, whose calls and answers are the view's, and on which writes are done.
+/// Lent as `&mut`, it is its caller's again after a call. It takes what the value takes.
+///
+/// comemo's `Input` for `TrackedMut`.
+impl<'a, T: Track> Input for TrackedMut<'a, T> {
+    type Call = T::Call;
+
+    type Key = ();
+
+    type Answer = T::Answer;
+
+    ghost key_of = { λ _. tt };
+
+    ghost answers = { λ s. T.answers (place_of s).now };
+
+    ghost did = { λ s t W. ⟦<T as Written>⟧.did (place_of s).now (place_of t).now W
+        × ((place_of t).ghost_name ≡ (place_of s).ghost_name) };
+
+    ghost alike = { λ s. T.alike (place_of s).now };
+
+    ghost starts = { λ s. (refl, refl) };
+
+    ghost joins = { λ s t u V W a b. (
+      done_both T.wrote T.Call.is_write T.Answer.eq T.answers
+          (place_of s).now (place_of t).now (place_of u).now V W a.0 b.0,
+      b.1 ∙ a.1,
+    ) };
+
+    ghost keeps = { λ s t W a.
+        done_keeps T.wrote T.Call.is_write T.Answer.eq T.answers T.Answer.Eq.laws (place_of s).now (place_of t).now W a.0 };
+
+    ghost keeps_key = { λ _ _ _ _. refl };
+
+    fn key(&self) -> Result<(), AllocError> {
+        Ok(())
+    }
+
+    fn call(&mut self, call: &T::Call) -> Result<T::Answer, AllocError> {
+        self.read(call)
+    }
+
+    fn call_mut(&mut self, call: &T::Call) -> Result<(), AllocError> {
+        self.value.call_mut(call)
+    }
+}
+
+/// A reference to a view that writes: an input like the view itself, for a place where the view can't be moved to.
+///
+/// It takes what the view takes. comemo has `Input` for `&mut TrackedMut` too.
+impl<'a, T: Track> Input for &mut TrackedMut<'a, T> {
+    type Call = T::Call;
+
+    type Key = ();
+
+    type Answer = T::Answer;
+
+    ghost key_of = { λ _. tt };
+
+    ghost answers = { λ s. T.answers (place_of s.now).now };
+
+    ghost did = { λ s t W. ⟦<T as Written>⟧.did (place_of s.now).now (place_of t.now).now W
+        × ((place_of t.now).ghost_name ≡ (place_of s.now).ghost_name)
+        × (t.ghost_name ≡ s.ghost_name) };
+
+    ghost alike = { λ s. T.alike (place_of s.now).now };
+
+    ghost starts = { λ s. (refl, refl, refl) };
+
+    ghost joins = { λ s t u V W a b. (
+      done_both T.wrote T.Call.is_write T.Answer.eq T.answers
+          (place_of s.now).now (place_of t.now).now (place_of u.now).now V W a.0 b.0,
+      b.1 ∙ a.1,
+      b.2 ∙ a.2,
+    ) };
+
+    ghost keeps = { λ s t W a.
+        done_keeps T.wrote T.Call.is_write T.Answer.eq T.answers T.Answer.Eq.laws (place_of s.now).now (place_of t.now).now W a.0 };
+
+    ghost keeps_key = { λ _ _ _ _. refl };
+
+    fn key(&self) -> Result<(), AllocError> {
+        Ok(())
+    }
+
+    fn call(&mut self, call: &T::Call) -> Result<T::Answer, AllocError> {
+        (**self).read(call)
+    }
+
+    fn call_mut(&mut self, call: &T::Call) -> Result<(), AllocError> {
+        (**self).value.call_mut(call)
     }
 }
 
@@ -238,6 +355,10 @@ impl<T: Clone + Eq + Hash> Input for Hashed<T> {
     }
 
     fn call(&mut self, _call: &()) -> Result<(), AllocError> {
+        Ok(())
+    }
+
+    fn call_mut(&mut self, _call: &()) -> Result<(), AllocError> {
         Ok(())
     }
 }

@@ -37,10 +37,12 @@ pub mod input;
 pub mod mapped;
 pub mod multi;
 pub mod track;
+pub mod writing;
 
 pub use both::Both;
 pub use constraint::Constraint;
 pub use input::{Hashed, Input, Keyed};
 pub use mapped::{CallMap, MappedSink};
 pub use multi::{First, Multi, MultiAnswer, MultiCall, Second};
-pub use track::{Breaking, Call, Sink, Top, Track, Tracked, TrackedWith};
+pub use track::{Breaking, Call, Sink, Top, Track, Tracked, TrackedWith, Written};
+pub use writing::{TrackedMut, TrackedMutWith};

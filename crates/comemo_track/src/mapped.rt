@@ -1,5 +1,5 @@
 //! Sinks that send each call on under another name.
-ghost use Rattle.std.specs.Prelude.{◌≡◌, [], List, false, not, is_none, IfOk, OnOk, OnErr, map, refl};
+ghost use Rattle.std.specs.Prelude.{◌≡◌, ◌≤◌, ◌+◌, ◌||◌, [], List, false, not, is_none, length, IsTrue, IsOk, IfOk, OnOk, OnErr, map, refl};
 ghost use Rattle.std.proofs.Common.{◌∙◌};
 ghost use Rattle.comemo_track.specs.Mapped.{Through};
 ghost use Rattle.comemo_track.specs.Sending.{Asks, sent_pairs, sent_writes};
@@ -110,15 +110,20 @@ impl<'a, S: Sink<Call = M::To, Answer = M::ToAnswer>, M: CallMap> Sink for Mappe
 
     ghost spoiled_holds = { maps_spoiled M.maps S.spoiled_holds };
 
+    ghost room = { λ s. S.room s.sink.now };
+
     fn emit(&mut self, call: M::From, answer: Option<M::FromAnswer>) -> Result<bool, AllocError>
         requires answered { is_none answer ≡ M.From.is_write call }
-        requires reads { M.From.is_write call ≡ false }
         ensures ok { OnOk result (MapsTook S.took M.maps M.maps_answer self.old self.new
             (sent_pairs call answer) (sent_writes call answer)) }
         ensures new { IfOk result
-            (λ new. new ≡ not (S.holds self.old.sink.now (M.maps self.old.map call))) }
+            (λ new. new ≡ (is_none answer
+            || not (S.holds self.old.sink.now (M.maps self.old.map call)))) }
         ensures err { OnErr result
             (MapsTook S.took M.maps M.maps_answer self.old self.new [] []) }
+        ensures succeeds { IsTrue (is_none answer) → 1 ≤ S.room self.old.sink.now → IsOk result }
+        ensures room { S.room self.old.sink.now
+            ≤ S.room self.new.sink.now + length (sent_writes call answer) }
     {
         let call = self.map.map(call);
         let answer = match answer {
@@ -126,6 +131,13 @@ impl<'a, S: Sink<Call = M::To, Answer = M::ToAnswer>, M: CallMap> Sink for Mappe
             None => None,
         };
         self.sink.emit(call, answer)
+    }
+
+    fn reserve(&mut self, writes: usize) -> Result<(), AllocError>
+        ensures ok { OnOk result (writes ≤ S.room self.new.sink.now) }
+        ensures same { MapsTook S.took M.maps M.maps_answer self.old self.new [] [] }
+    {
+        self.sink.reserve(writes)
     }
 
     fn spoil(&mut self) {

@@ -89,6 +89,10 @@ impl Input for Multi<()> {
     fn call(&mut self, _call: &()) -> Result<(), AllocError> {
         Ok(())
     }
+
+    fn call_mut(&mut self, _call: &()) -> Result<(), AllocError> {
+        Ok(())
+    }
 }
 
 /// Two inputs as one. It takes what its parts take: a key is refused where a part's is, an answer where its part's is.
@@ -136,6 +140,13 @@ impl<A: Input, B: Input> Input for Multi<(A, B)> {
         match call {
             MultiCall::A(call) => Ok(MultiAnswer::A(self.0.0.call(call)?)),
             MultiCall::B(call) => Ok(MultiAnswer::B(self.0.1.call(call)?)),
+        }
+    }
+
+    fn call_mut(&mut self, call: &MultiCall<A::Call, B::Call>) -> Result<(), AllocError> {
+        match call {
+            MultiCall::A(call) => self.0.0.call_mut(call),
+            MultiCall::B(call) => self.0.1.call_mut(call),
         }
     }
 }

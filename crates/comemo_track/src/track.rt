@@ -1,11 +1,13 @@
 //! Tracked values, the calls that they answer, and what takes note of the calls.
-ghost use Rattle.std.specs.Prelude.{◌≡◌, ◌⊎◌, [], ◌∷◌, ◌++◌, List, Bool, true, false, not, Some, is_none, IsTrue, IfOk, OnOk, OnErr, ⊤, refl};
+ghost use Rattle.std.specs.Prelude.{◌≡◌, ◌≤◌, ◌+◌, ◌^◌, ◌||◌, ◌⊎◌, ℕ, [], ◌∷◌, ◌++◌, List, Bool, true, false, not, length, Some, is_none, IsTrue, IsOk, IfOk, OnOk, OnErr, ⊤, refl};
 ghost use Rattle.std.proofs.Common.{◌∙◌, inl};
 ghost use Rattle.comemo_base.specs.Answers.{Respects};
 ghost use Rattle.comemo_base.specs.Sequence.{held};
-ghost use Rattle.comemo_track.specs.Sending.{sent_pairs, sent_writes, Asks, BreaksOff};
-ghost use Rattle.comemo_track.specs.Views.{value_of, sink_of};
+ghost use Rattle.comemo_track.specs.Sending.{sent_pairs, sent_writes, Asks, BreaksOff, SpoiledAfter};
+ghost use Rattle.comemo_track.specs.Views.{value_of, sink_of, place_of, place_in, writing_sink_of};
+ghost use Rattle.comemo_track.specs.Writing.{SameReads, Done};
 
+use crate::writing::{TrackedMut, TrackedMutWith};
 use std::alloc::{AllocError, Global};
 use std::fmt;
 use std::fmt::Debug;
@@ -65,18 +67,30 @@ pub trait Sink {
     // whether a read is held, so that it is not taken again
     ghost holds: { Self → Self.Call → Bool };
 
+    // how many writes it takes without being refused
+    ghost room: { Self → ℕ };
+
     /// Takes note of a call: a read with its answer, or a write with `None`.
     ///
-    /// It answers false for a read that is held already, which changes nothing, and else true. An error says that there
-    /// was no memory, and changes nothing; the call and its answer are gone then. For now a call has to be a read.
-    /// comemo's `Sink::emit`.
+    /// It answers false for a read that is held already, which changes nothing, and else true: a write is always added.
+    /// An error says that there was no memory, and changes nothing; the call and its answer are gone then. It never
+    /// comes for a write while there is room. comemo's `Sink::emit`.
     fn emit(&mut self, call: Self::Call, answer: Option<Self::Answer>) -> Result<bool, AllocError>
         requires answered { is_none answer ≡ Self.Call.is_write call }
-        requires reads { Self.Call.is_write call ≡ false }
         ensures ok { OnOk result
             (took self.old self.new (sent_pairs call answer) (sent_writes call answer)) }
-        ensures new { IfOk result (λ new. new ≡ not (holds self.old call)) }
-        ensures err { OnErr result (took self.old self.new [] []) };
+        ensures new { IfOk result (λ new. new ≡ (is_none answer || not (holds self.old call))) }
+        ensures err { OnErr result (took self.old self.new [] []) }
+        ensures succeeds { IsTrue (is_none answer) → 1 ≤ room self.old → IsOk result }
+        ensures room { room self.old ≤ room self.new + length (sent_writes call answer) };
+
+    /// Makes room for so many writes: emits of them succeed then. An error says that there was no memory for it. It
+    /// changes nothing else.
+    ///
+    /// This project's own.
+    fn reserve(&mut self, writes: usize) -> Result<(), AllocError>
+        ensures ok { OnOk result (writes ≤ room self.new) }
+        ensures same { took self.old self.new [] [] };
 
     /// Marks what the sink holds as incomplete, and changes nothing else: a recording that is spoiled is never stored.
     /// It takes no memory. This project's own.
@@ -117,10 +131,16 @@ pub trait Sink {
 pub trait Breaking: Sink {
     // t is s after it took a beginning of these pairs, and then was spoiled
     ghost breaks_off: { Self → Self → List (Self.Call × Self.Answer) → Type 0 };
+
+    // t is s after it took these pairs and these writes, and then was spoiled
+    ghost spoiled_after: { Self → Self
+        → List (Self.Call × Self.Answer) → List Self.Call → Type 0 };
 }
 
 impl<S: Sink> Breaking for S {
     ghost breaks_off = { BreaksOff S.took S.spoils };
+
+    ghost spoiled_after = { SpoiledAfter S.took S.spoils };
 }
 
 /// A sink by reference: what it is sent goes to the sink that it refers to. It takes no memory of its own.
@@ -149,17 +169,30 @@ impl<S: Sink> Sink for &mut S {
 
     ghost spoiled_holds = { λ s t call a. S.spoiled_holds s.now t.now call a.0 };
 
+    ghost room = { λ s. S.room s.now };
+
     fn emit(&mut self, call: S::Call, answer: Option<S::Answer>) -> Result<bool, AllocError>
         requires answered { is_none answer ≡ S.Call.is_write call }
-        requires reads { S.Call.is_write call ≡ false }
         ensures ok { OnOk result
             (S.took self.old.now self.new.now (sent_pairs call answer) (sent_writes call answer)
             × (self.new.ghost_name ≡ self.old.ghost_name)) }
-        ensures new { IfOk result (λ new. new ≡ not (S.holds self.old.now call)) }
+        ensures new { IfOk result
+            (λ new. new ≡ (is_none answer || not (S.holds self.old.now call))) }
         ensures err { OnErr result
             (S.took self.old.now self.new.now [] [] × (self.new.ghost_name ≡ self.old.ghost_name)) }
+        ensures succeeds { IsTrue (is_none answer) → 1 ≤ S.room self.old.now → IsOk result }
+        ensures room { S.room self.old.now
+            ≤ S.room self.new.now + length (sent_writes call answer) }
     {
         (**self).emit(call, answer)
+    }
+
+    fn reserve(&mut self, writes: usize) -> Result<(), AllocError>
+        ensures ok { OnOk result (writes ≤ S.room self.new.now) }
+        ensures same { S.took self.old.now self.new.now [] []
+            × (self.new.ghost_name ≡ self.old.ghost_name) }
+    {
+        (**self).reserve(writes)
     }
 
     fn spoil(&mut self) {
@@ -210,13 +243,19 @@ impl<C: Call, R: Clone + Ord> Sink for Top<C, R> {
 
     ghost spoiled_holds = { λ _ _ _ _. refl };
 
+    // more than can be asked for
+    ghost room = { λ _. 2 ^ 64 };
+
     fn emit(&mut self, call: C, answer: Option<R>) -> Result<bool, AllocError>
         requires answered { is_none answer ≡ C.is_write call }
-        requires reads { C.is_write call ≡ false }
         ensures { result ≡ Ok true }
     {
         let _ = (call, answer);
         Ok(true)
+    }
+
+    fn reserve(&mut self, _writes: usize) -> Result<(), AllocError> {
+        Ok(())
     }
 
     fn spoil(&mut self) {}
@@ -225,8 +264,9 @@ impl<C: Call, R: Clone + Ord> Sink for Top<C, R> {
 /// A value whose calls are tracked.
 ///
 /// An implementation says by `answers` what the value answers to each read; what that map gives for a write is never
-/// read. comemo's `Track`, with one answer type for all calls, and `ask` in the place of the methods that a macro
-/// makes.
+/// read. One that has writes says by `wrote` what each does, and does it in `call_mut`; one that has none says neither.
+/// comemo's `Track`, with one answer type for all calls, and `ask` and `call_mut` in the place of the methods that a
+/// macro makes.
 pub trait Track {
     /// What can be asked of the value.
     type Call: Call;
@@ -244,6 +284,24 @@ pub trait Track {
         requires { Self.Call.is_write call.now ≡ false }
         ensures { IfOk result
             (λ answer. IsTrue (Self.Answer.eq (answers self.now call.now) answer)) };
+
+    // what a write does: the value before it, the write, and the value after it
+    ghost wrote: { Self → Self.Call → Self → Type 0 } = { λ _ _ _. ⊤ };
+
+    /// Does a write, which changes no read's answer. An error says that it was refused, and then nothing changes. What it
+    /// does with a read is left open, but that it changes no read's answer either: it is handed none.
+    ///
+    /// A type without writes does not write this method. comemo's `Track::call_mut`, which can't be refused.
+    fn call_mut(&mut self, call: &Self::Call) -> Result<(), AllocError>
+        ensures ok { Self.Call.is_write call.now ≡ true
+            → OnOk result (wrote self.old call.now self.new) }
+        ensures reads { OnOk result
+            (SameReads Self.Call.is_write Self.Answer.eq (answers self.old) (answers self.new)) }
+        ensures err { OnErr result (self.new ≡ self.old) }
+    {
+        let _ = call;
+        Err(AllocError)
+    }
 
     /// A view of the value, through which its reads are recorded. It takes no memory today, and constant time.
     ///
@@ -276,11 +334,56 @@ pub trait Track {
         TrackedWith { value: self, sink }
     }
 
+    /// A view of the value that writes too. It takes no memory, and constant time.
+    ///
+    /// comemo's `track_mut`.
+    final fn track_mut(&mut self, alloc: Global) -> TrackedMut<'_, Self>
+    where
+        Self: Sized,
+        ensures value { (place_of result).now ≡ self.old }
+        ensures same { (place_of result).ghost_name ≡ self.entry.ghost_name }
+    {
+        let _ = alloc;
+        TrackedMut { value: self }
+    }
+
+    /// A view of the value that writes too, and sends its calls to a sink, which it holds as long as it lives. It takes
+    /// no memory, and constant time.
+    ///
+    /// comemo's `track_mut_with`, whose result is a `TrackedMut` too.
+    final fn track_mut_with<'a, S: Sink<Call = Self::Call, Answer = Self::Answer>>(
+        &'a mut self,
+        alloc: Global,
+        sink: &'a mut S,
+    ) -> TrackedMutWith<'a, Self, S>
+    where
+        Self: Sized,
+        ensures value { (place_in result).now ≡ self.old }
+        ensures same_value { (place_in result).ghost_name ≡ self.entry.ghost_name }
+        ensures sink { (writing_sink_of result).now ≡ sink.old }
+        ensures same_sink { (writing_sink_of result).ghost_name ≡ sink.entry.ghost_name }
+    {
+        let _ = alloc;
+        TrackedMutWith { value: self, sink }
+    }
+
     // equal calls have equal answers
     ghost alike: { (s : Self) → Respects Self.Call.eq Self.Answer.eq (answers s) };
 
     // a clone of an answer is equal
     ghost clones: { (x y : Self.Answer) → Self.Answer.is_clone x y → IsTrue (Self.Answer.eq x y) };
+}
+
+/// What writes do to a tracked value, for contracts to cite, as `⟦<T as Written>⟧.did`.
+///
+/// There is nothing to implement. This project's own.
+pub trait Written: Track {
+    // t is s after these writes, in order, of which none changed the answer of a read
+    ghost did: { Self → Self → List Self.Call → Type 0 };
+}
+
+impl<T: Track> Written for T {
+    ghost did = { Done T.wrote T.Call.is_write T.Answer.eq T.answers };
 }
 
 /// Nothing: what is tracked of a function that asks nothing. It takes no memory and refuses nothing.
@@ -380,8 +483,8 @@ impl<'a, T> Debug for Tracked<'a, T> {
 /// of what comemo's `track_with` gives.
 #[derive(Drop)]
 pub struct TrackedWith<'a, T, S> {
-    value: &'a T,
-    sink: &'a mut S,
+    pub(crate) value: &'a T,
+    pub(crate) sink: &'a mut S,
 }
 
 impl<'a, T: Track, S: Sink<Call = T::Call, Answer = T::Answer>> TrackedWith<'a, T, S> {

@@ -1,12 +1,12 @@
 use Rattle.std.proofs.Common.{rules, arith, refl, sym, subst, ◌<◌}
-use Rattle.comemo.proofs.Calls.{reply_by_hit, broke_at_begin}
+use Rattle.comemo.proofs.Calls.{reply_by_hit, broke_at_begin, of_memory, never_stops}
 use Rattle.comemo.proofs.KeyedViews.{keyed_calls, keyed_answers}
 use Rattle.calc_scripts.specs.Meaning.{Means, Deep, no_room}
 use Rattle.calc_scripts.proofs.Meanings.{deep_of_height}
 use Rattle.calc_files.specs.Files.{answers_of, with_key}
 use Rattle.calc_files.specs.Joined.{same_answer}
 use Rattle.calc_evaluation.specs.Evaluations.{At}
-use Rattle.calc_files.proofs.WhatReadsTell.{broke_after, broke_at_once}
+use Rattle.calc_files.proofs.WhatReadsTell.{files_respect, broke_after, broke_at_once}
 use Rattle.calc_files.proofs.JoinedCalls.{tests}
 use Rattle.calc_evaluation.proofs.evaluation.begin_script.Goals as goal
 
@@ -20,7 +20,9 @@ pub returns-in_default-clause-err : goal.returns-in_default-clause-err
 returns-in_default-clause-err g c = broke_at_once g.met.S.Sink.starts same_answer (with_key (answers_of c.args.files.now)) _ _ c.spoil-in_default.ensures
 
 pub returns-in_default-begin-clause-err : goal.returns-in_default-begin-clause-err
-returns-in_default-begin-clause-err g c = broke_at_begin (rw c.fork.ensures at c.in_default-begin.ensures.err).2
+returns-in_default-begin-clause-err g c =
+    let memory = of_memory c.in_default-begin.field-0 _ c.in_default-begin.ensures.err (λ write. never_stops (files_respect c.fork.result) (λ output writes d. d.0) write.1) in
+    broke_at_begin (rw c.fork.ensures at memory).2
 
 pub returns-then-outcome-limit-clause-err : goal.returns-then-outcome-limit-clause-err
 returns-then-outcome-limit-clause-err g c =

@@ -1,10 +1,11 @@
 use Rattle.std.proofs.Common.{rules, refl, ◌≡◌, ◌∙◌, sym, subst, length}
-use Rattle.comemo.proofs.Calls.{broke_at_begin, broke_at_end}
+use Rattle.comemo.specs.declared.pending.Fault.TheVariants as fault
+use Rattle.comemo.proofs.Calls.{broke_at_begin, broke_at_end, of_memory, fault_is, never_stops}
 use Rattle.comemo.proofs.KeyedViews.{keyed_calls, keyed_answers}
 use Rattle.calc_files.specs.Files.{text_at, answers_of, with_key}
 use Rattle.calc_files.specs.Joined.{same_answer}
 use Rattle.calc_files.specs.Size.{sizing}
-use Rattle.calc_files.proofs.WhatReadsTell.{broke_at_once, on_err}
+use Rattle.calc_files.proofs.WhatReadsTell.{files_respect, broke_at_once, on_err}
 use Rattle.calc_files.proofs.FileCalls.{key_bytes}
 use Rattle.calc_files.proofs.JoinedCalls.{tests}
 use Rattle.calc_files.proofs.Sizes.{mapped, mapped_err, size_fits, size_stands, size_read, size_by_hit, size_by_run}
@@ -15,8 +16,12 @@ returns-in_default-clause-err g c = (refl, broke_at_once g.met.S.Sink.starts sam
 
 pub returns-in_err-output-clause-err : goal.returns-in_err-output-clause-err
 returns-in_err-output-clause-err g c =
-    let (kept, unchanged, broken) = rw c.fork.ensures at c.in_err-output.ensures.err in
+    let memory = of_memory c.in_err-output.field-0.0 _ c.in_err-output.ensures.err (λ write. never_stops (files_respect c.fork.result) (λ output writes d. d.0) write.1) in
+    let (kept, unchanged, broken) = rw c.fork.ensures at memory in
     on_err c.from_residual.result (kept, broke_at_begin broken)
+
+pub returns-in_err-output-clause-fault : goal.returns-in_err-output-clause-fault
+returns-in_err-output-clause-fault g c = fault_is c.from_residual.result c.in_err-output.field-0.0 c.from_residual.ensures.1 _ c.in_err-output.ensures.err (λ f. f ≡ fault.Memory) (λ memory. refl) (λ write. absurd (never_stops (files_respect c.fork.result) (λ output writes d. d.0) write.1))
 
 pub returns-in-Hit-clause-output : goal.returns-in-Hit-clause-output
 returns-in-Hit-clause-output g c =

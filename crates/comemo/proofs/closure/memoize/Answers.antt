@@ -1,5 +1,5 @@
-use Rattle.std.proofs.Common.{Ok, [], refl}
-use Rattle.comemo.proofs.Calls.{run_seen}
+use Rattle.std.proofs.Common.{Ok, [], refl, inl, inr}
+use Rattle.comemo.proofs.Calls.{run_seen, fault_is, stopped_so}
 use Rattle.comemo.proofs.Closures.{mapped, ran_from, ended, failed, left_broken}
 use Rattle.comemo.proofs.Sendings.{breaks_at_once}
 use Rattle.comemo.proofs.closure.memoize.Goals as goal
@@ -22,9 +22,12 @@ returns-clause-run g c =
 pub returns-clause-fault : goal.returns-clause-fault
 returns-clause-fault g c =
     let run = rw c.in-Run.is at c.in_ok-output.ensures.run in
-    failed run.0 g.In.Input.did g.P.Record.recorded _ c.args.input c.into_constraint.result _ c.func-ran.result (ran_from run.0 g.In.Input.did g.P.Record.recorded _ c.args.input c.into_constraint.result c.func-ran.result run.1 c.empty-recording.ensures.pairs c.empty-recording.ensures.writes c.empty-recording.ensures.whole c.func-ran.ensures c.into_constraint.ensures) c.end.result c.end.ensures.incomplete c.end.ensures.fault
+    failed run.0 g.In.Input.did g.P.Record.recorded _ c.args.input c.into_constraint.result _ c.func-ran.result (ran_from run.0 g.In.Input.did g.P.Record.recorded _ c.args.input c.into_constraint.result c.func-ran.result run.1 c.empty-recording.ensures.pairs c.empty-recording.ensures.writes c.empty-recording.ensures.whole c.func-ran.ensures c.into_constraint.ensures) c.end.result c.end.ensures.incomplete c.end.ensures.write c.end.ensures.fault
 
 pub returns-clause-err : goal.returns-clause-err
 returns-clause-err g c =
     let run = rw c.in-Run.is at c.in_ok-output.ensures.run in
-    left_broken run.0 g.In.Input.did g.P.Record.recorded _ c.args.input c.into_constraint.result _ (breaks_at_once g.met.S.Sink.starts c.args.sink.now _ []) _ c.func-ran.result (ran_from run.0 g.In.Input.did g.P.Record.recorded _ c.args.input c.into_constraint.result c.func-ran.result run.1 c.empty-recording.ensures.pairs c.empty-recording.ensures.writes c.empty-recording.ensures.whole c.func-ran.ensures c.into_constraint.ensures) c.into_constraint.result.whole refl c.end.result (rw run.2 at c.end.ensures.fault) (rw run.2 at c.end.ensures.spoils) (rw run.3 at (rw run.2 at c.end.ensures.err))
+    left_broken run.0 g.In.Input.did g.P.Record.recorded _ c.args.input c.into_constraint.result _ _ (breaks_at_once g.met.S.Sink.starts c.args.sink.now _ []) _ c.func-ran.result (ran_from run.0 g.In.Input.did g.P.Record.recorded _ c.args.input c.into_constraint.result c.func-ran.result run.1 c.empty-recording.ensures.pairs c.empty-recording.ensures.writes c.empty-recording.ensures.whole c.func-ran.ensures c.into_constraint.ensures) c.into_constraint.result.whole refl c.end.result (rw run.2 at c.end.ensures.fault) (rw run.2 at c.end.ensures.spoils) (rw run.3 at (rw run.2 at c.end.ensures.err))
+
+pub returns-in_err-output-clause-fault : goal.returns-in_err-output-clause-fault
+returns-in_err-output-clause-fault g c = fault_is c.from_residual.result c.in_err-output.field-0.0 c.from_residual.ensures.1 _ c.in_err-output.ensures.err _ (λ memory. inl refl) (λ write. inr (inl (refl, c.begin.new.input, stopped_so write.1)))

@@ -2,7 +2,7 @@ use Rattle.std.proofs.Common.{◌∙◌, [], sym, subst, ap}
 use Rattle.comemo_base.specs.Answers.{Agrees}
 use Rattle.comemo.specs.Function.{Recorded}
 use Rattle.comemo.proofs.Sendings.{on_err, breaks_at_once}
-use Rattle.comemo.proofs.Calls.{run_seen, reply_by_hit, reply_by_run, broke_at_begin, broke_by_run}
+use Rattle.comemo.proofs.Calls.{run_seen, reply_by_hit, reply_by_run, broke_at_begin, broke_by_run, on_fault, never_stops}
 use Rattle.comemo.proofs.Closures.{mapped}
 use Rattle.comemo.proofs.function.memoized.Goals as goal
 
@@ -58,4 +58,4 @@ returns-clause-err g c =
 pub returns-in_err-output-clause-err : goal.returns-in_err-output-clause-err
 returns-in_err-output-clause-err g c =
     let err = c.in_err-output.ensures.err in
-    on_err c.from_residual.result (err.0, rw (← c.fork.ensures) (broke_at_begin err.2))
+    on_err c.from_residual.result (on_fault c.in_err-output.field-0.0 err (λ memory. (memory.0, rw (← c.fork.ensures) (broke_at_begin memory.2))) (λ write. absurd (never_stops (g.met.T.Track.alike c.fork.result) (λ output writes d. g.met.M.FunctionOf.reads c.args.key (g.T.Track.answers c.fork.result) output writes d) write.1)))

@@ -1,7 +1,9 @@
 use Rattle.std.proofs.Common.{◌≡◌, ◌∙◌, [], inl, inr, true, false, refl, sym, subst}
 use Rattle.comemo_base.proofs.Paths.{turned}
-use Rattle.comemo.specs.Meaning.{Meaning, run}
-use Rattle.comemo.proofs.Sendings.{on_err, breaks_at_once}
+use Rattle.comemo.specs.Meaning.{Meaning, run, invocation}
+use Rattle.comemo.specs.Cache.{Has, Stands}
+use Rattle.comemo.proofs.Calls.{fault_handed}
+use Rattle.comemo.proofs.Sendings.{breaks_at_once}
 use Rattle.comemo.proofs.Entries.{Has-alike, HasNone-alike, Agrees-found}
 use Rattle.comemo.proofs.pending.begin.Goals as goal
 use Rattle.comemo.proofs.pending.begin.Goals.{then-enabled+in-Ok-look+in_default-looked, else-enabled}
@@ -14,18 +16,19 @@ returns-in-Some-clause-hit g c =
     let found = rw c.in-Some.is at c.in-Ok-look.ensures.found in
     let stands = rw c.in-Some.is at c.in-Ok-look.ensures.stands in
     let respects = g.met.In.Input.alike c.args.input.now in
-    let ran = run c.in-Ok.key c.in-Some.found.pairs.items c.in-Some.found.output [] in
-    let agrees = Agrees-found M g.met.M.Call.Eq.laws g.met.M.Answer.Eq.laws m respects ran _ found in (
+    let ran = run c.in-Ok.key c.in-Some.found.pairs.items c.in-Some.found.output c.in-Some.found.writes.items in
+    let agrees = Agrees-found M g.met.M.Call.Eq.laws g.met.M.Answer.Eq.laws m respects ran _ found in
+    rw c.in_ok-output.ensures.output (
       record {
         pairs = c.in-Some.found.pairs.items;
-        writes = [];
+        writes = c.in-Some.found.writes.items;
         is_enabled = c.if-enabled.true;
         kept = Has-alike M g.met.M.Key.Eq.laws c.args.cache.now c.in-Ok.key _ alike m true true ran found;
         agrees = agrees;
-        stands = λ n r a. g.met.M.Memo.laws.keys c.in-Ok.key _ n c.in-Some.found.output [] r alike (stands n r a);
-        are_done = c.look.ensures.same;
-        are_sent = c.in_ok-give_pairs.ensures.ok;
-        right = g.met.M.Memo.laws.keys c.in-Ok.key _ m c.in-Some.found.output [] respects alike (stands m respects agrees);
+        stands = λ n r a. g.met.M.Memo.laws.keys c.in-Ok.key _ n c.in-Some.found.output c.in-Some.found.writes.items r alike (stands n r a);
+        are_done = g.met.In.Input.joins _ _ _ [] c.in-Some.found.writes.items c.look.ensures.same c.in_ok-output.ensures.done;
+        are_sent = c.in_ok-output.ensures.sent;
+        right = g.met.M.Memo.laws.keys c.in-Ok.key _ m c.in-Some.found.output c.in-Some.found.writes.items respects alike (stands m respects agrees);
       },
       record { same = refl },
     )
@@ -64,20 +67,42 @@ returns-in_default-clause-err g c = (refl, g.met.In.Input.starts _, record { pai
 pub returns-in_default-look-clause-err : goal.returns-in_default-look-clause-err
 returns-in_default-look-clause-err g c = (refl, c.look.ensures.same, record { pairs = []; found = inl refl; agrees = tt; is_broken = breaks_at_once g.met.S.Sink.starts _ _ [] c.spoil-in_default-look.ensures })
 
-pub returns-in_err-give_pairs-clause-err : goal.returns-in_err-give_pairs-clause-err
-returns-in_err-give_pairs-clause-err g c =
+pub returns-in_err-output-clause-err : goal.returns-in_err-output-clause-err
+returns-in_err-output-clause-err g c =
     let M : Meaning g.row.M-Key.Denot g.row.M-Call.Denot g.row.M-Answer.Denot g.row.M-Out.Denot = record { same_call = g.M.Call.PartialEq.eq; same_answer = g.M.Answer.PartialEq.eq; same_key = g.M.Key.PartialEq.eq; is_write = g.M.Call.Call.is_write; is_clone = g.M.Out.Clone.is_clone; def = g.M.Memo.def } in
     let m = g.In.Input.answers c.args.input.now in
     let alike = turned g.met.M.Key.Eq.laws _ _ c.in-Ok.ensures in
     let found = rw c.in-Some.is at c.in-Ok-look.ensures.found in
-    let ran = run c.in-Ok.key c.in-Some.found.pairs.items c.in-Some.found.output [] in
-    on_err c.from_residual.result (
+    let stands = rw c.in-Some.is at c.in-Ok-look.ensures.stands in
+    let ran = run c.in-Ok.key c.in-Some.found.pairs.items c.in-Some.found.output c.in-Some.found.writes.items in
+    let respects = g.met.In.Input.alike c.args.input.now in
+    let agrees = Agrees-found M g.met.M.Call.Eq.laws g.met.M.Answer.Eq.laws m respects ran _ found in
+    let same = c.look.ensures.same in
+    let key = g.In.Input.key_of c.args.input.now in
+    let pairs = c.in-Some.found.pairs.items in
+    let output = c.in-Some.found.output in
+    let kept : Has M c.args.cache.now (invocation key m c.args.enabled) (run key pairs output c.in-Some.found.writes.items) = Has-alike M g.met.M.Key.Eq.laws c.args.cache.now c.in-Ok.key key alike m true c.args.enabled ran found in
+    let right : Stands M (run key pairs output c.in-Some.found.writes.items) = λ n r a. g.met.M.Memo.laws.keys c.in-Ok.key key n output c.in-Some.found.writes.items r alike (stands n r a) in
+    fault_handed c.from_residual.result c.in_err-output.field-0.0 c.from_residual.ensures.1 _ _ _ _ c.in_err-output.ensures.err
+    (λ memory. (
       refl,
-      c.look.ensures.same,
+      g.met.In.Input.joins _ _ _ [] [] same memory.0,
+      record { pairs = pairs; found = inr (output, c.in-Some.found.writes.items, kept); agrees = agrees; is_broken = memory.1 },
+    ))
+    (λ stop. (
+      record { same = refl },
       record {
-        pairs = c.in-Some.found.pairs.items;
-        found = inr (c.in-Some.found.output, [], Has-alike M g.met.M.Key.Eq.laws c.args.cache.now c.in-Ok.key _ alike m true c.args.enabled ran found);
-        agrees = Agrees-found M g.met.M.Call.Eq.laws g.met.M.Answer.Eq.laws m (g.met.In.Input.alike c.args.input.now) ran _ found;
-        is_broken = c.in_err-give_pairs.ensures.err;
+        pairs = pairs;
+        output = output;
+        front = stop.0;
+        next = stop.1;
+        rest = stop.2;
+        is_refused = stop.6;
+        is_enabled = c.if-enabled.true;
+        kept = subst (λ ws. Has M c.args.cache.now (invocation key m c.args.enabled) (run key pairs output ws)) stop.3 kept;
+        agrees = agrees;
+        stands = subst (λ ws. Stands M (run key pairs output ws)) stop.3 right;
+        are_done = g.met.In.Input.joins _ _ _ [] stop.0 same stop.4;
+        is_spoiled = stop.5;
       },
-    )
+    ))

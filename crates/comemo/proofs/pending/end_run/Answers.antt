@@ -1,26 +1,26 @@
-use Rattle.std.proofs.Common.{[], refl}
+use Rattle.std.proofs.Common.{refl}
 use Rattle.comemo.proofs.Sendings.{on_err}
 use Rattle.comemo.proofs.Entries.{reads_same}
 use Rattle.comemo.proofs.Endings.{Ends-cloned, given, gives_itself, broken_itself}
 use Rattle.comemo.proofs.pending.end_run.Goals as goal
 
-pub returns-in_err-give_reads-clause-err : goal.returns-in_err-give_reads-clause-err
-returns-in_err-give_reads-clause-err g c = on_err c.from_residual.result (refl, broken_itself g.met.M.Call.Eq.laws g.met.M.Answer.Eq.laws c.args.reads.pairs c.in_err-give_reads.ensures.err)
+pub returns-in_err-give_recording-clause-err : goal.returns-in_err-give_recording-clause-err
+returns-in_err-give_recording-clause-err g c = on_err c.from_residual.result (refl, broken_itself g.met.M.Call.Eq.laws g.met.M.Answer.Eq.laws c.args.reads.pairs c.in_err-give_recording.ensures.err)
 
 pub returns-in_default-clause-gives : goal.returns-in_default-clause-gives
-returns-in_default-clause-gives g c = gives_itself g.met.M.Call.Eq.laws g.met.M.Answer.Eq.laws c.args.reads.pairs [] c.in_ok-give_reads.ensures.ok
+returns-in_default-clause-gives g c = gives_itself g.met.M.Call.Eq.laws g.met.M.Answer.Eq.laws c.args.reads.pairs c.args.writes.items c.in_ok-give_recording.ensures.ok
 
-pub give_pairs-requires : goal.give_pairs-requires
-give_pairs-requires g c = reads_same g.M.Call.PartialEq.eq g.M.Answer.PartialEq.eq g.M.Call.Call.is_write g.met.M.Call.Call.same_kind _ c.args.reads.pairs c.in-Ok.ensures.pairs c.requires.reads
+pub give_run-requires-clause-reads : goal.give_run-requires-clause-reads
+give_run-requires-clause-reads g c = reads_same g.M.Call.PartialEq.eq g.M.Answer.PartialEq.eq g.M.Call.Call.is_write g.met.M.Call.Call.same_kind _ c.args.reads.pairs c.in-Ok.ensures.pairs c.requires.reads
 
 pub keep-requires-clause-stands : goal.keep-requires-clause-stands
-keep-requires-clause-stands g c = λ m r a. g.met.M.Memo.laws.outputs c.args.key m c.args.output.now c.in-Ok.kept [] r c.in-Ok.ensures.output (c.requires.stands m r a)
+keep-requires-clause-stands g c = λ m r a. g.met.M.Memo.laws.writes c.args.key m c.in-Ok.kept c.args.writes.items c.in-Ok.copies.items r c.in-Ok.ensures.same (g.met.M.Memo.laws.outputs c.args.key m c.args.output.now c.in-Ok.kept c.args.writes.items r c.in-Ok.ensures.output (c.requires.stands m r a))
 
 pub returns-clause-ends : goal.returns-clause-ends
-returns-clause-ends g c = Ends-cloned (record { same_call = g.M.Call.PartialEq.eq; same_answer = g.M.Answer.PartialEq.eq; same_key = g.M.Key.PartialEq.eq; is_write = g.M.Call.Call.is_write; is_clone = g.M.Out.Clone.is_clone; def = g.M.Memo.def }) c.args.cache.now c.args.key c.args.reads.pairs [] c.args.output.now c.in-Ok.kept c.in-Ok.ensures.output c.keep.result c.keep.new.cache c.keep.ensures.ends
+returns-clause-ends g c = Ends-cloned (record { same_call = g.M.Call.PartialEq.eq; same_answer = g.M.Answer.PartialEq.eq; same_key = g.M.Key.PartialEq.eq; is_write = g.M.Call.Call.is_write; is_clone = g.M.Out.Clone.is_clone; def = g.M.Memo.def }) g.met.M.Call.Eq.laws c.args.cache.now c.args.key c.args.reads.pairs c.args.output.now c.in-Ok.kept c.in-Ok.ensures.output c.args.writes.items c.in-Ok.copies.items c.in-Ok.ensures.same c.keep.result c.keep.new.cache c.keep.ensures.ends
 
 pub returns-clause-gives : goal.returns-clause-gives
-returns-clause-gives g c = given g.met.M.Call.Eq.laws g.met.M.Answer.Eq.laws _ c.args.reads.pairs [] c.in-Ok.ensures.pairs c.in_ok-give_pairs.ensures.ok
+returns-clause-gives g c = given g.met.M.Call.Eq.laws g.met.M.Answer.Eq.laws _ c.args.reads.pairs c.args.writes.items c.in-Ok.ensures.pairs c.in_ok-give_run.ensures.ok
 
-pub returns-in_err-give_pairs-clause-err : goal.returns-in_err-give_pairs-clause-err
-returns-in_err-give_pairs-clause-err g c = on_err c.from_residual-in_err-give_pairs.result (refl, record { given = _; alike = c.in-Ok.ensures.pairs; is_broken = c.in_err-give_pairs.ensures.err })
+pub returns-in_err-give_run-clause-err : goal.returns-in_err-give_run-clause-err
+returns-in_err-give_run-clause-err g c = on_err c.from_residual-in_err-give_run.result (refl, record { given = _; alike = c.in-Ok.ensures.pairs; is_broken = c.in_err-give_run.ensures.err })

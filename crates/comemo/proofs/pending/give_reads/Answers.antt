@@ -2,13 +2,9 @@ use Rattle.std.proofs.Common.{sym}
 use Rattle.comemo.proofs.Sendings.{reads_left, head_read, takes_more, took_all, breaks}
 use Rattle.comemo.proofs.pending.give_reads.Goals as goal
 
-pub emit-requires-clause-answered : goal.emit-requires-clause-answered
-emit-requires-clause-answered g c =
-    sym (head_read g.S.Call.Call.is_write _ _ c.in-Some.read c.in-Some.ensures.pairs c.loop-read.invariant.reads)
-
-pub emit-requires-clause-reads : goal.emit-requires-clause-reads
-emit-requires-clause-reads g c =
-    head_read g.S.Call.Call.is_write _ _ c.in-Some.read c.in-Some.ensures.pairs c.loop-read.invariant.reads
+pub emit-requires : goal.emit-requires
+emit-requires g c =
+    record { answered = sym (head_read g.S.Call.Call.is_write _ _ c.in-Some.read c.in-Some.ensures.pairs c.loop-read.invariant.reads) }
 
 pub loop-read-preserved : goal.loop-read-preserved
 loop-read-preserved g c =

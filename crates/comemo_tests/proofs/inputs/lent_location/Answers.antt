@@ -1,5 +1,6 @@
-use Rattle.std.proofs.Common.{rules}
-use Rattle.comemo_tests.proofs.Failing.{given_up}
+use Rattle.std.proofs.Common.{rules, refl}
+use Rattle.comemo_tests.proofs.Failing.{given_up, on_err}
+use Rattle.comemo.proofs.Calls.{of_memory, never_refused}
 use Rattle.comemo_tests.proofs.inputs.lent_location.Goals as goal
 
 pub returns-in-Hit-clause-output : goal.returns-in-Hit-clause-output
@@ -11,3 +12,8 @@ pub returns-in_default-clause-err : goal.returns-in_default-clause-err
 returns-in_default-clause-err g c =
     let run = rw c.in-Run.is at c.in_ok-output.ensures.run in
     given_up g.met.S.Sink.starts run.3 _ _ (rw run.2 at c.give_up.ensures)
+
+pub returns-in_err-output-clause-err : goal.returns-in_err-output-clause-err
+returns-in_err-output-clause-err g c =
+    let memory = of_memory c.in_err-output.field-0.0 _ c.in_err-output.ensures.err (λ write. never_refused write.1 (λ c. refl)) in
+    on_err c.from_residual.result (memory.0, (memory.2.pairs, memory.2.is_broken))

@@ -1,9 +1,9 @@
-use Rattle.std.proofs.Common.{rules, ◌+◌, ◌%◌, ◌^◌, ap}
+use Rattle.std.proofs.Common.{rules, ◌+◌, ◌%◌, ◌^◌, ap, refl}
 use Rattle.comemo.proofs.Telling.{told_pairs}
-use Rattle.comemo.proofs.Calls.{reply_by_hit, reply_by_run}
+use Rattle.comemo.proofs.Calls.{reply_by_hit, reply_by_run, of_memory, never_refused}
 use Rattle.comemo_samples.specs.Contexts.{field}
 use Rattle.comemo_tests.proofs.Contexts.{same_calls, respects_field}
-use Rattle.comemo_tests.proofs.Failing.{given_up, on_reply}
+use Rattle.comemo_tests.proofs.Failing.{given_up, on_reply, on_err}
 use Rattle.comemo_tests.proofs.Places.{same_numbers}
 use Rattle.comemo_tests.proofs.nested.twice.Goals as goal
 
@@ -39,3 +39,8 @@ pub returns-in-Err-clause-err : goal.returns-in-Err-clause-err
 returns-in-Err-clause-err g c =
     let run = rw c.in-Run.is at c.in_ok-output.ensures.run in
     given_up g.met.S.Sink.starts run.3 _ _ (rw run.2 at c.give_up.ensures)
+
+pub returns-in_err-output-clause-err : goal.returns-in_err-output-clause-err
+returns-in_err-output-clause-err g c =
+    let memory = of_memory c.in_err-output.field-0.0 _ c.in_err-output.ensures.err (λ write. never_refused write.1 (λ c. refl)) in
+    on_err c.from_residual.result (memory.0, (memory.2.pairs, memory.2.is_broken))

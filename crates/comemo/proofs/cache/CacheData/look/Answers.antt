@@ -1,9 +1,11 @@
-use Rattle.std.proofs.Common.{◌∙◌, inr, sym, ap, subst}
+use Rattle.std.proofs.Common.{◌∙◌, inr, sym, subst}
 use Rattle.comemo_base.proofs.Under.{Any-from_under}
 use Rattle.comemo.specs.Meaning.{Meaning}
 use Rattle.comemo.specs.Cache.{Kept, IsLegal}
 use Rattle.comemo.proofs.Sendings.{on_err}
+use Rattle.comemo.specs.Meaning.{SameWrites}
 use Rattle.comemo.proofs.Entries.{reads_same, Stands-found}
+use Rattle.comemo.proofs.Writings.{SameWrites-cloned, written_same}
 use Rattle.comemo.proofs.cache.CacheData.look.Goals as goal
 
 pub find_agreeing-requires-clause-reads : goal.find_agreeing-requires-clause-reads
@@ -17,13 +19,18 @@ returns-in_err-output-clause-err g c =
     let h = rw (c.self.view_is, c.in-Some.is) at c.in_ok-found.ensures.found in
     on_err c.from_residual-in_err-output.result (inr (h.0, h.1, h.2, h.3, h.4.0))
 
+pub returns-in_err-writes-clause-err : goal.returns-in_err-writes-clause-err
+returns-in_err-writes-clause-err g c =
+    let h = rw (c.self.view_is, c.in-Some.is) at c.in_ok-found.ensures.found in
+    on_err c.from_residual-in_err-writes.result (inr (h.0, h.1, h.2, h.3, h.4.0))
+
 pub returns-clause-found : goal.returns-clause-found
 returns-clause-found g c =
     let h = rw (c.self.view_is, c.in-Some.is) at c.in_ok-found.ensures.found in
     let value = c.kept.view_is ∙ sym h.4.2 in
     let output = subst (λ (v : Kept _ _). g.M.Out.Clone.is_clone v.output c.in_ok-output.output) value c.in_ok-output.ensures.cases in
-    let writes = ap (λ (v : Kept _ _). v.writes) (sym value) in
-    (h.0, h.1, h.2, h.3, (h.4.0, h.4.1, output, rw writes tt))
+    let writes = subst (λ (v : Kept _ _). SameWrites g.M.Call.PartialEq.eq v.writes c.in_ok-writes.writes.items) value (SameWrites-cloned g.M.Call.PartialEq.eq g.M.Call.Clone.is_clone g.met.M.Call.Call.clones _ _ c.in_ok-writes.ensures.cases.0) in
+    (h.0, h.1, h.2, h.3, (h.4.0, h.4.1, output, writes))
 
 pub returns-clause-stands : goal.returns-clause-stands
 returns-clause-stands g c =
@@ -31,9 +38,9 @@ returns-clause-stands g c =
     let h = Any-from_under g.M.Key.PartialEq.eq _ c.args.key.now _ (rw c.in-Some.is at c.in_ok-found.ensures.found) in
     let value = c.kept.view_is ∙ sym h.4.1.2 in
     let output = subst (λ (v : Kept _ _). g.M.Out.Clone.is_clone v.output c.in_ok-output.output) value c.in_ok-output.ensures.cases in
-    let writes = ap (λ (v : Kept _ _). v.writes) (sym value) in
+    let writes = subst (λ (v : Kept _ _). SameWrites g.M.Call.PartialEq.eq v.writes c.in_ok-writes.writes.items) value (SameWrites-cloned g.M.Call.PartialEq.eq g.M.Call.Clone.is_clone g.met.M.Call.Call.clones _ _ c.in_ok-writes.ensures.cases.0) in
     let legal = subst (λ e. IsLegal M e) h.3 (c.self.invariant h.0 h.1 h.2) in
-    Stands-found M g.met.M.Call.Eq.laws g.met.M.Answer.Eq.laws g.met.M.Memo.laws.keys g.met.M.Memo.laws.outputs h.1 c.args.key.now c.in-Some.pairs.items c.in_ok-output.output legal h.4.0 h.4.1.1 output writes
+    Stands-found M g.met.M.Call.Eq.laws g.met.M.Answer.Eq.laws g.met.M.Memo.laws.keys g.met.M.Memo.laws.outputs g.met.M.Memo.laws.writes h.1 c.args.key.now c.in-Some.pairs.items c.in_ok-output.output c.in_ok-writes.writes.items legal h.4.0 h.4.1.1 output writes
 
 pub returns-clause-reads : goal.returns-clause-reads
 returns-clause-reads g c =
@@ -46,3 +53,12 @@ pub returns-in_default-clause-asked : goal.returns-in_default-clause-asked
 returns-in_default-clause-asked g c =
     let h = rw (c.self.view_is, c.in_default.is) at c.in_ok-found.ensures.asked in
     (h.0, (h.1, h.2))
+
+pub returns-clause-written : goal.returns-clause-written
+returns-clause-written g c =
+    let M : Meaning g.row.M-Key.Denot g.row.M-Call.Denot g.row.M-Answer.Denot g.row.M-Out.Denot = record { same_call = g.M.Call.PartialEq.eq; same_answer = g.M.Answer.PartialEq.eq; same_key = g.M.Key.PartialEq.eq; is_write = g.M.Call.Call.is_write; is_clone = g.M.Out.Clone.is_clone; def = g.M.Memo.def } in
+    let h = Any-from_under g.M.Key.PartialEq.eq _ c.args.key.now _ (rw c.in-Some.is at c.in_ok-found.ensures.found) in
+    let value = c.kept.view_is ∙ sym h.4.1.2 in
+    let writes = subst (λ (v : Kept _ _). SameWrites g.M.Call.PartialEq.eq v.writes c.in_ok-writes.writes.items) value (SameWrites-cloned g.M.Call.PartialEq.eq g.M.Call.Clone.is_clone g.met.M.Call.Call.clones _ _ c.in_ok-writes.ensures.cases.0) in
+    let legal = subst (λ e. IsLegal M e) h.3 (c.self.invariant h.0 h.1 h.2) in
+    written_same g.M.Call.PartialEq.eq g.M.Call.Call.is_write g.met.M.Call.Call.same_kind h.1.value.writes c.in_ok-writes.writes.items writes legal.written

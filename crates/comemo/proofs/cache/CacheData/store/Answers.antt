@@ -1,4 +1,3 @@
-use Rattle.std.proofs.Common.{[]}
 use Rattle.std.proofs.lemmas.List.Sorted.{All-permutation}
 use Rattle.comemo_base.specs.Lookup.{under}
 use Rattle.comemo_base.proofs.Paths.{turned}
@@ -15,9 +14,9 @@ invariant_of-self g c =
     let old = c.self.inside.tree in
     by_result c.insert.result c.insert.ensures.stored c.insert.ensures.err
     (λ h.
-    let legal = IsLegal-stored M g.met.M.Call.Eq.laws g.met.M.Answer.Eq.laws (under g.M.Key.PartialEq.eq old c.args.key) c.args.key h.own c.args.sequence.pairs h.path c.args.output g.met.M.Call.Call.same_kind (λ m r d. g.met.M.Memo.laws.keys c.args.key h.own m c.args.output [] r (turned g.met.M.Key.Eq.laws h.own c.args.key h.is_key) d) c.has_distinct_calls.ensures.distinct c.requires.reads c.requires.stands h.is_new in
+    let legal = IsLegal-stored M g.met.M.Call.Eq.laws g.met.M.Answer.Eq.laws (under g.M.Key.PartialEq.eq old c.args.key) c.args.key h.own c.args.sequence.pairs h.path c.args.output c.args.writes.items g.met.M.Call.Call.same_kind (λ m r d. g.met.M.Memo.laws.keys c.args.key h.own m c.args.output c.args.writes.items r (turned g.met.M.Key.Eq.laws h.own c.args.key h.is_key) d) c.has_distinct_calls.ensures.distinct c.requires.reads c.requires.written c.requires.stands h.is_new in
     All-permutation P _ c.insert.new.self h.entries (All-cons P _ old legal c.self.invariant))
     (λ e. rw e c.self.invariant)
 
 pub returns-clause-stored : goal.returns-clause-stored
-returns-clause-stored g c = rw (← c.self.view_is) (stores (record { same_call = g.M.Call.PartialEq.eq; same_answer = g.M.Answer.PartialEq.eq; same_key = g.M.Key.PartialEq.eq; is_write = g.M.Call.Call.is_write; is_clone = g.M.Out.Clone.is_clone; def = g.M.Memo.def }) c.self.inside.tree c.args.key c.args.sequence.pairs c.args.output c.insert.new.self c.insert.result c.insert.ensures.ok c.insert.ensures.stored)
+returns-clause-stored g c = rw (← c.self.view_is) (stores (record { same_call = g.M.Call.PartialEq.eq; same_answer = g.M.Answer.PartialEq.eq; same_key = g.M.Key.PartialEq.eq; is_write = g.M.Call.Call.is_write; is_clone = g.M.Out.Clone.is_clone; def = g.M.Memo.def }) g.met.M.Call.Eq.laws c.self.inside.tree c.args.key c.args.sequence.pairs c.args.output c.args.writes.items c.insert.new.self c.insert.result c.insert.ensures.ok c.insert.ensures.stored)

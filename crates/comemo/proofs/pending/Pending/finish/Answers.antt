@@ -1,30 +1,36 @@
-use Rattle.std.proofs.Common.{◌≡◌, ◌∙◌, [], true, false, refl, sym, ap}
+use Rattle.std.proofs.Common.{◌≡◌, ◌∙◌, true, false, refl, sym, ap}
 use Rattle.comemo.specs.Begin.{PendingRun}
 use Rattle.comemo.proofs.Sendings.{on_err, breaks_at_once}
 use Rattle.comemo.proofs.Endings.{gives_itself, broken_itself}
 use Rattle.comemo.proofs.pending.Pending.finish.Goals as goal
-use Rattle.comemo.proofs.pending.Pending.finish.Goals.{then-enabled+in_ok-how, else-enabled+in_ok-give_reads}
+use Rattle.comemo.proofs.pending.Pending.finish.Goals.{then-enabled+in_ok-how, else-enabled+in_ok-give_recording}
 
 pub returns-then-not-is_whole-clause-err : goal.returns-then-not-is_whole-clause-err
 returns-then-not-is_whole-clause-err g c = (refl, broken_itself g.met.M.Call.Eq.laws g.met.M.Answer.Eq.laws c.args.self.recording.pairs (breaks_at_once g.met.S.Sink.starts _ _ _ c.spoil.ensures))
 
 pub end_run-requires-clause-reads : goal.end_run-requires-clause-reads
-end_run-requires-clause-reads g c = rw c.into_reads-reads.ensures.pairs c.into_reads-reads.ensures.reads
+end_run-requires-clause-reads g c = rw c.into_parts-reads.ensures.pairs c.into_parts-reads.ensures.are_reads
 
 pub end_run-requires-clause-stands : goal.end_run-requires-clause-stands
 end_run-requires-clause-stands g c =
     let h = rw (← c.self.view_is) at c.requires in
     let whole = sym c.is_whole.ensures ∙ c.if-not-is_whole.false in
-    rw (c.into_reads-reads.ensures.pairs, ← c.into_reads-reads.ensures.writes) (h whole)
+    rw (c.into_parts-reads.ensures.pairs, c.into_parts-reads.ensures.writes) (h whole)
 
-pub give_reads-requires : goal.give_reads-requires
-give_reads-requires g c = rw c.into_reads-reads.ensures.pairs c.into_reads-reads.ensures.reads
+pub end_run-requires-clause-written : goal.end_run-requires-clause-written
+end_run-requires-clause-written g c = rw c.into_parts-reads.ensures.writes c.into_parts-reads.ensures.are_writes
 
-pub returns-in_err-give_reads-clause-err : goal.returns-in_err-give_reads-clause-err
-returns-in_err-give_reads-clause-err g c = on_err c.from_residual-in_err-give_reads.result (refl, rw (← c.self.view_is, ← c.into_reads-reads.ensures.pairs) (broken_itself g.met.M.Call.Eq.laws g.met.M.Answer.Eq.laws c.into_reads-reads.result.pairs c.in_err-give_reads.ensures.err))
+pub give_recording-requires-clause-reads : goal.give_recording-requires-clause-reads
+give_recording-requires-clause-reads g c = rw c.into_parts-reads.ensures.pairs c.into_parts-reads.ensures.are_reads
+
+pub give_recording-requires-clause-written : goal.give_recording-requires-clause-written
+give_recording-requires-clause-written g c = rw c.into_parts-reads.ensures.writes c.into_parts-reads.ensures.are_writes
+
+pub returns-in_err-give_recording-clause-err : goal.returns-in_err-give_recording-clause-err
+returns-in_err-give_recording-clause-err g c = on_err c.from_residual-in_err-give_recording.result (refl, rw (← c.self.view_is, ← c.into_parts-reads.ensures.pairs) (broken_itself g.met.M.Call.Eq.laws g.met.M.Answer.Eq.laws c.into_parts-reads.result.0.pairs c.in_err-give_recording.ensures.err))
 
 pub returns-in_err-how-clause-err : goal.returns-in_err-how-clause-err
-returns-in_err-how-clause-err g c = on_err c.from_residual.result (rw (← c.self.view_is, ← c.into_reads-reads.ensures.pairs) c.in_err-how.ensures.err)
+returns-in_err-how-clause-err g c = on_err c.from_residual.result (rw (← c.self.view_is, ← c.into_parts-reads.ensures.pairs) c.in_err-how.ensures.err)
 
 pub returns-clause-finished : goal.returns-clause-finished
 returns-clause-finished g c =
@@ -33,16 +39,16 @@ returns-clause-finished g c =
       whole = ap (λ (s : PendingRun _ _ _). s.recording.whole) (sym c.self.view_is) ∙ sym c.is_whole.ensures ∙ c.if-not-is_whole.false;
       same = refl;
       ends = elim c.if-enabled.branch [
-        | then-enabled+in_ok-how w ↦ rw (← c.self.view_is, ← c.into_reads-reads.ensures.pairs, c.into_reads-reads.ensures.writes, w.how-is, w.cache-is) w.in_ok-how.ensures.ends
-        | else-enabled+in_ok-give_reads w ↦ rw w.how-is w.cache-is
+        | then-enabled+in_ok-how w ↦ rw (← c.self.view_is, ← c.into_parts-reads.ensures.pairs, ← c.into_parts-reads.ensures.writes, w.how-is, w.cache-is) w.in_ok-how.ensures.ends
+        | else-enabled+in_ok-give_recording w ↦ rw w.how-is w.cache-is
       ];
       disabled = elim c.if-enabled.branch [
         | then-enabled+in_ok-how w ↦ (λ h. absurd (w.in_ok-how.ensures.enabled (sym w.how-is ∙ h)), λ h. let f : true ≡ false = sym w.if-enabled.true ∙ sym own ∙ h in cc)
-        | else-enabled+in_ok-give_reads w ↦ (λ h. own ∙ w.if-enabled.false, λ h. w.how-is)
+        | else-enabled+in_ok-give_recording w ↦ (λ h. own ∙ w.if-enabled.false, λ h. w.how-is)
       ];
       gives = elim c.if-enabled.branch [
-        | then-enabled+in_ok-how w ↦ rw (← c.self.view_is, ← c.into_reads-reads.ensures.pairs, c.into_reads-reads.ensures.writes, w.sink-is) w.in_ok-how.ensures.gives
-        | else-enabled+in_ok-give_reads w ↦
-            rw (← c.self.view_is, ← c.into_reads-reads.ensures.pairs, c.into_reads-reads.ensures.writes, w.sink-is) (gives_itself g.met.M.Call.Eq.laws g.met.M.Answer.Eq.laws c.into_reads-reads.result.pairs [] w.in_ok-give_reads.ensures.ok)
+        | then-enabled+in_ok-how w ↦ rw (← c.self.view_is, ← c.into_parts-reads.ensures.pairs, ← c.into_parts-reads.ensures.writes, w.sink-is) w.in_ok-how.ensures.gives
+        | else-enabled+in_ok-give_recording w ↦
+            rw (← c.self.view_is, ← c.into_parts-reads.ensures.pairs, ← c.into_parts-reads.ensures.writes, w.sink-is) (gives_itself g.met.M.Call.Eq.laws g.met.M.Answer.Eq.laws c.into_parts-reads.result.0.pairs c.into_parts-reads.result.1.items w.in_ok-give_recording.ensures.ok)
       ];
     }

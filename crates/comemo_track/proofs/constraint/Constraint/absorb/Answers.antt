@@ -1,13 +1,11 @@
+use Rattle.std.proofs.Common.{ap, refl}
 use Rattle.std.proofs.lemmas.Result.{on_ok_weaker}
-use Rattle.comemo_track.proofs.Absorbing.{pairs-absorbed, IsRecording-absorbed}
+use Rattle.comemo_track.specs.Recording.{Recording}
+use Rattle.comemo_track.proofs.Recordings.{spoiled_at}
+use Rattle.comemo_track.proofs.Sendings.{on_err}
 use Rattle.comemo_track.proofs.constraint.Constraint.absorb.Goals as goal
 
-pub invariant_of-self : goal.invariant_of-self
-invariant_of-self g c =
-    let a = c.absorb-absorbed in
-    IsRecording-absorbed g.met.C.Eq.laws g.C.Call.is_write c.self.inside.reads c.other.inside.reads a.new.self c.self.invariant a.result c.other.invariant a.ensures.pairs a.ensures.seen a.ensures.err
-
-pub returns-clause-pairs : goal.returns-clause-pairs
-returns-clause-pairs g c =
-    let a = c.absorb-absorbed in
-    rw (← c.self.view_is, ← c.other.view_is) (on_ok_weaker a.result (pairs-absorbed g.met.C.Eq.laws g.C.Call.is_write c.self.inside.reads c.other.inside.reads a.new.self c.self.invariant c.has_distinct_calls.ensures.distinct) a.ensures.pairs)
+pub returns-then-is_err-clause-err : goal.returns-then-is_err-clause-err
+returns-then-is_err-clause-err g c =
+    let r = c.absorb_parts-absorbed.result in
+    spoiled_at g.C.PartialEq.eq r c.args.self.now c.absorb_parts-absorbed.new.self _ c.absorb_parts-absorbed.ensures.err (ap (λ (s : Recording _ _). s.pairs) c.self.view_is) (ap (λ (s : Recording _ _). s.writes) c.self.view_is) (on_err r refl)

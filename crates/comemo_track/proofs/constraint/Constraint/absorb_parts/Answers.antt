@@ -1,0 +1,20 @@
+use Rattle.std.proofs.Common.{◌++◌, refl, ap, ◌∙◌}
+use Rattle.comemo_track.proofs.Absorbing.{pairs-absorbed, IsRecording-absorbed}
+use Rattle.comemo_track.proofs.Recordings.{took_none}
+use Rattle.comemo_track.proofs.Sendings.{on_err}
+use Rattle.comemo_track.proofs.constraint.Constraint.absorb_parts.Goals as goal
+
+pub returns-in_err-reserve-clause-err : goal.returns-in_err-reserve-clause-err
+returns-in_err-reserve-clause-err g c = rw (← c.self.view_is) (on_err c.from_residual.result (took_none g.C.PartialEq.eq _ _ refl c.reserve.ensures.items refl))
+
+pub invariant_of-self-2 : goal.invariant_of-self-2
+invariant_of-self-2 g c =
+    IsRecording-absorbed g.met.C.Eq.laws g.C.Call.is_write c.self.inside.reads c.args.reads c.absorb.new.self c.self.invariant c.args.writes.items c.append.new.self.items c.requires.reads c.requires.writes c.in_ok-absorb.ensures.pairs c.in_ok-absorb.ensures.seen (c.in-Ok.ensures.items ∙ ap (λ x. x ++ c.args.writes.items) c.reserve.ensures.items)
+
+pub returns-clause-ok : goal.returns-clause-ok
+returns-clause-ok g c =
+    rw (← c.self.view_is) (record {
+      pairs = pairs-absorbed g.met.C.Eq.laws g.C.Call.is_write c.self.inside.reads c.args.reads c.absorb.new.self c.self.invariant c.has_distinct_calls.ensures.distinct c.in_ok-absorb.ensures.pairs;
+      writes = c.in-Ok.ensures.items ∙ ap (λ x. x ++ c.args.writes.items) c.reserve.ensures.items;
+      whole = refl;
+    })

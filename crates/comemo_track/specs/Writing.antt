@@ -1,0 +1,17 @@
+-- What writes do to a value.
+use Rattle.std.specs.Prelude.{◌≡◌, Bool, false, List, [], ◌∷◌, IsTrue}
+
+-- no read has another answer
+abbrev pub SameReads : {C R : Type 0} → (C → Bool) → (R → R → Bool) → (C → R) → (C → R) → Type 0
+SameReads {C} w same m n = (call : C) → w call ≡ false → IsTrue (same (m call) (n call))
+
+module _ {S C R : Type 0} (wrote : S → C → S → Type 0) (w : C → Bool) (same : R → R → Bool) (answers : S → C → R) where
+  -- t is s after this write, which changed the answer of no read
+  pub record Writes (s : S) (call : C) (t : S) : Type 0 where
+    pub did : wrote s call t
+    pub reads : SameReads w same (answers s) (answers t)
+
+  -- t is s after these writes, in order
+  abbrev pub Done : S → S → List C → Type 0
+  Done s t [] = t ≡ s
+  Done s t (call ∷ calls) = (mid : S) × Writes s call mid × Done mid t calls

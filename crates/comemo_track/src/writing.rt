@@ -1,0 +1,211 @@
+//! Views that write.
+ghost use Rattle.std.specs.Prelude.{◌≡◌, [], ◌∷◌, true, false, Some, IsTrue, IfOk, OnOk, OnErr};
+ghost use Rattle.comemo_track.specs.Sending.{Asks};
+ghost use Rattle.comemo_track.specs.Views.{value_of, sink_of, place_of, place_in, writing_sink_of};
+
+use crate::track::{Sink, Track, Tracked, TrackedWith, Written};
+use std::alloc::{AllocError, Global};
+use std::fmt;
+use std::fmt::Debug;
+
+/// A view of a tracked value, which reads and writes. Contracts see the value that was lent to it as `place_of`.
+///
+/// comemo's `TrackedMut`. It does not lend its value.
+#[derive(Drop)]
+pub struct TrackedMut<'a, T> {
+    pub(crate) value: &'a mut T,
+}
+
+impl<'a, T: Track> TrackedMut<'a, T> {
+    /// Asks the value a read, and sends the call with its answer to a sink.
+    ///
+    /// It does what `ask` of `Tracked` does, and costs the same. An error changes neither the value nor the sink. It
+    /// stands in the place of the methods that comemo's macro `track` writes.
+    pub fn ask<S: Sink<Call = T::Call, Answer = T::Answer>>(
+        &mut self,
+        call: T::Call,
+        sink: &mut S,
+    ) -> Result<T::Answer, AllocError>
+        requires { T.Call.is_write call ≡ false }
+        ensures ok { IfOk result (λ answer.
+            Asks T.Answer.eq (T.answers (place_of self.old).now) call answer
+            (S.took sink.old sink.new)) }
+        ensures err { OnErr result (S.took sink.old sink.new [] []) }
+        ensures same { self.new ≡ self.old }
+    {
+        let mut view = Tracked {
+            value: &*self.value,
+        };
+        view.ask(call, sink)
+    }
+
+    /// Does a write on the value, and sends it to a sink.
+    ///
+    /// After `Ok` it was done and sent; after an error neither, and value and sink are as they were: the value refused
+    /// it, or there was no memory for it in the sink, which makes room first. It stands in the place of the methods
+    /// that comemo's macro `track` writes.
+    pub fn write<S: Sink<Call = T::Call, Answer = T::Answer>>(
+        &mut self,
+        call: T::Call,
+        sink: &mut S,
+    ) -> Result<(), AllocError>
+        requires { T.Call.is_write call ≡ true }
+        ensures did { OnOk result (⟦<T as Written>⟧.did
+            (place_of self.old).now (place_of self.new).now (call ∷ [])) }
+        ensures sent { OnOk result (S.took sink.old sink.new [] (call ∷ [])) }
+        ensures err { OnErr result (((place_of self.new).now ≡ (place_of self.old).now)
+            × S.took sink.old sink.new [] []) }
+        ensures same { (place_of self.new).ghost_name ≡ (place_of self.old).ghost_name }
+    {
+        sink.reserve(1)?;
+        self.value.call_mut(&call)?;
+        let Ok(_) = sink.emit(call, None) else {
+            unreachable!()
+        };
+        Ok(())
+    }
+
+    /// The answer to a read, with nothing sent: what an input that holds the view is asked by a look-up.
+    pub(crate) fn read(&self, call: &T::Call) -> Result<T::Answer, AllocError>
+        requires { T.Call.is_write call.now ≡ false }
+        ensures { IfOk result
+            (λ answer. IsTrue (T.Answer.eq (T.answers (place_of self.now).now call.now) answer)) }
+    {
+        self.value.ask(call)
+    }
+
+    /// A view that reads alone, in the place of this one. It takes no memory today, and constant time.
+    ///
+    /// comemo's `TrackedMut::downgrade`.
+    pub fn downgrade(this: Self, alloc: Global) -> Tracked<'a, T>
+        ensures { result ≡ (place_of this.entry).now }
+    {
+        let _ = alloc;
+        let TrackedMut { value } = this;
+        Tracked { value }
+    }
+
+    /// A view that reads alone, as long as it lives. It takes no memory today, and constant time.
+    ///
+    /// comemo's `TrackedMut::reborrow`.
+    pub fn reborrow<'b>(this: &'b Self, alloc: Global) -> Tracked<'b, T>
+        ensures { result ≡ (place_of this.now).now }
+    {
+        let _ = alloc;
+        Tracked {
+            value: &*this.value,
+        }
+    }
+}
+
+impl<'a, T: Track> TrackedMut<'a, T> {
+    ghost use Rattle.std.specs.Borrow.{sem, follows};
+    ghost use Rattle.comemo_track.specs.contracts.writing.TrackedMut.{the_row};
+    ghost use mir.Syntax.{named};
+
+    /// Another view of the same value that reads and writes, as long as it lives. It takes no memory, and constant
+    /// time.
+    ///
+    /// comemo's `TrackedMut::reborrow_mut`.
+    pub fn reborrow_mut(this: &mut Self) -> TrackedMut<'_, T>
+        ensures* writes_back { sem 𝓛 (follows (the_row (record { mir = named 1; lft = [] }) T.row) T.row this.entry.ghost_name (place_of result).ghost_name (λ w. record this.old { value = record this.old.value { now = w } })) }
+        ensures value { (place_of result).now ≡ (place_of this.old).now }
+    {
+        TrackedMut {
+            value: &mut *this.value,
+        }
+    }
+}
+
+/// It prints as `TrackedMut(..)`, whatever its value is.
+impl<'a, T> Debug for TrackedMut<'a, T> {
+    ghost use Rattle.comemo_track.specs.Views.{tracked_mut_text};
+
+    ghost debug_output = { λ _. Some tracked_mut_text };
+
+    fn fmt<W: fmt::Write>(&self, f: &mut fmt::Formatter<W>) -> fmt::Result {
+        f.pad("TrackedMut(..)")
+    }
+}
+
+/// A view that reads and writes, with the sink that its calls are sent to. Contracts see what was lent to it as
+/// `place_in` and `writing_sink_of`.
+///
+/// It does not lend its value, nor its sink, which is its caller's again when the view is gone. It stands in the place
+/// of what comemo's `track_mut_with` gives.
+#[derive(Drop)]
+pub struct TrackedMutWith<'a, T, S> {
+    pub(crate) value: &'a mut T,
+    pub(crate) sink: &'a mut S,
+}
+
+impl<'a, T: Track, S: Sink<Call = T::Call, Answer = T::Answer>> TrackedMutWith<'a, T, S> {
+    /// Asks the value a read, and sends the call with its answer to the view's sink.
+    ///
+    /// It costs what `ask` of `Tracked` costs. An error changes neither the value nor the sink. It stands in the place
+    /// of the methods that comemo's macro `track` writes.
+    pub fn ask(&mut self, call: T::Call) -> Result<T::Answer, AllocError>
+        requires { T.Call.is_write call ≡ false }
+        ensures ok { IfOk result (λ answer.
+            Asks T.Answer.eq (T.answers (place_in self.old).now) call answer
+            (S.took (writing_sink_of self.old).now (writing_sink_of self.new).now)) }
+        ensures err { OnErr result
+            (S.took (writing_sink_of self.old).now (writing_sink_of self.new).now [] []) }
+        ensures value { place_in self.new ≡ place_in self.old }
+        ensures same { (writing_sink_of self.new).ghost_name
+            ≡ (writing_sink_of self.old).ghost_name }
+    {
+        let mut view = Tracked {
+            value: &*self.value,
+        };
+        view.ask(call, self.sink)
+    }
+
+    /// Does a write on the value, and sends it to the view's sink.
+    ///
+    /// After `Ok` it was done and sent; after an error neither, and value and sink are as they were. It does what
+    /// `write` of `TrackedMut` does. It stands in the place of the methods that comemo's macro `track` writes.
+    pub fn write(&mut self, call: T::Call) -> Result<(), AllocError>
+        requires { T.Call.is_write call ≡ true }
+        ensures did { OnOk result (⟦<T as Written>⟧.did
+            (place_in self.old).now (place_in self.new).now (call ∷ [])) }
+        ensures sent { OnOk result (S.took
+            (writing_sink_of self.old).now (writing_sink_of self.new).now [] (call ∷ [])) }
+        ensures err { OnErr result (((place_in self.new).now ≡ (place_in self.old).now)
+            × S.took (writing_sink_of self.old).now (writing_sink_of self.new).now [] []) }
+        ensures same_value { (place_in self.new).ghost_name ≡ (place_in self.old).ghost_name }
+        ensures same_sink { (writing_sink_of self.new).ghost_name
+            ≡ (writing_sink_of self.old).ghost_name }
+    {
+        self.sink.reserve(1)?;
+        self.value.call_mut(&call)?;
+        let Ok(_) = self.sink.emit(call, None) else {
+            unreachable!()
+        };
+        Ok(())
+    }
+
+    /// A view that reads alone, in the place of this one, with its sink. It takes no memory today, and constant time.
+    ///
+    /// comemo's `TrackedMut::downgrade`.
+    pub fn downgrade(this: Self, alloc: Global) -> TrackedWith<'a, T, S>
+        ensures value { value_of result ≡ (place_in this.entry).now }
+        ensures sink { (sink_of result).now ≡ (writing_sink_of this.entry).now }
+        ensures same { (sink_of result).ghost_name ≡ (writing_sink_of this.entry).ghost_name }
+    {
+        let _ = alloc;
+        let TrackedMutWith { value, sink } = this;
+        TrackedWith { value, sink }
+    }
+}
+
+/// It prints as the writing view without the sink does.
+impl<'a, T, S> Debug for TrackedMutWith<'a, T, S> {
+    ghost use Rattle.comemo_track.specs.Views.{tracked_mut_text};
+
+    ghost debug_output = { λ _. Some tracked_mut_text };
+
+    fn fmt<W: fmt::Write>(&self, f: &mut fmt::Formatter<W>) -> fmt::Result {
+        f.pad("TrackedMut(..)")
+    }
+}
