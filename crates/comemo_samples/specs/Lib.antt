@@ -1,3 +1,4 @@
 pub mod Contexts
 pub mod Towns
 pub mod Cells
+pub mod Writers
