@@ -29,25 +29,32 @@ pub asked_agrees : {C R : Type 0} {eq : C → C → Bool} {same : R → R → Bo
 asked_agrees calls answers m respects s t before call (Ok answer) k e = still_agrees calls answers m respects ((call, k.noted) ∷ []) [] k.sent (k.alike, tt) before
 asked_agrees calls answers m respects s t before call (Err x) k e = still_agrees calls answers m respects [] [] e tt before
 
+module _ {V C R : Type 0} {did : V → V → List C → Type 0} where
+  -- first to a recorder, and then on to another
+  pub goes_both : {s t u : Recorded (MutBor V) C R} → Goes did s t → Goes did t u → Goes did s u
+  goes_both a b = record {
+    same_place = b.same_place ∙ a.same_place;
+    was_whole = λ w. a.was_whole (b.was_whole w);
+    done = λ w start d. b.done w start (a.done (b.was_whole w) start d);
+    reached = λ start r. b.reached start (a.reached start r);
+  }
+
 module _ {V C R : Type 0} {did : V → V → List C → Type 0} {s t : Recorded (MutBor V) C R} where
   -- where neither the value nor the writes changed
-  pub goes_nowhere : t.value ≡ s.value → t.recording.writes ≡ s.recording.writes → {X : Type 0} (r : Result X Fault) → Goes did s t r
-  goes_nowhere value writes (Ok x) = record {
+  pub goes_nowhere : t.value ≡ s.value → t.recording.writes ≡ s.recording.writes → (t.recording.whole ≡ true → s.recording.whole ≡ true) → Goes did s t
+  goes_nowhere value writes whole = record {
     same_place = ap (λ v. v.ghost_name) value;
-    done = λ start d. subst (λ v. did start v.now t.recording.writes) (sym value) (subst (λ ws. did start s.value.now ws) (sym writes) d);
-    reached = λ start r. subst (λ v. Reaches did start v.now) (sym value) r;
-  }
-  goes_nowhere value writes (Err f) = record {
-    same_place = ap (λ v. v.ghost_name) value;
-    done = tt;
+    was_whole = whole;
+    done = λ w start d. subst (λ v. did start v.now t.recording.writes) (sym value) (subst (λ ws. did start s.value.now ws) (sym writes) d);
     reached = λ start r. subst (λ v. Reaches did start v.now) (sym value) r;
   }
 
-  -- after one write
-  pub goes_on : ((i j k : V) (U W : List C) → did i j U → did j k W → did i k (U ++ W)) → t.value.ghost_name ≡ s.value.ghost_name → (W : List C) → t.recording.writes ≡ s.recording.writes ++ W → did s.value.now t.value.now W → {X : Type 0} (x : X) → Goes did s t (Ok x)
-  goes_on joins place W writes does x = record {
+  -- after some writes
+  pub goes_on : ((i j k : V) (U W : List C) → did i j U → did j k W → did i k (U ++ W)) → t.value.ghost_name ≡ s.value.ghost_name → (W : List C) → t.recording.writes ≡ s.recording.writes ++ W → t.recording.whole ≡ s.recording.whole → did s.value.now t.value.now W → Goes did s t
+  goes_on joins place W writes whole does = record {
     same_place = place;
-    done = λ start d. subst (λ ws. did start t.value.now ws) (sym writes) (joins start s.value.now t.value.now s.recording.writes W d does);
+    was_whole = λ w. sym whole ∙ w;
+    done = λ w start d. subst (λ ws. did start t.value.now ws) (sym writes) (joins start s.value.now t.value.now s.recording.writes W d does);
     reached = λ start r. (r.0 ++ W, joins start s.value.now t.value.now r.0 W r.1 does);
   }
 
@@ -56,13 +63,13 @@ module _ {V C R : Type 0} {did : V → V → List C → Type 0} {s t : Recorded 
     tells_answer_mut value call answer k =
         let told = tells_answer value calls answers m respects before call answer k in
         record {
-          goes = goes_nowhere value (k.sent.writes ∙ append-nil s.recording.writes) (Ok answer);
+          goes = goes_nowhere value (k.sent.writes ∙ append-nil s.recording.writes) (λ w. sym k.sent.whole ∙ w);
           before = told.before;
           told = told.told;
           fault = tt;
         }
 
-    pub tells_write : {X : Type 0} (x : X) → Goes did s t (Ok x) → (W : List C) → Took eq s.recording t.recording [] W → TellsMut did (Fits eq same) s t (Ok x) (λ _ _. ⊤)
+    pub tells_write : {X : Type 0} (x : X) → Goes did s t → (W : List C) → Took eq s.recording t.recording [] W → TellsMut did (Fits eq same) s t (Ok x) (λ _ _. ⊤)
     tells_write x goes W took = record {
       goes = goes;
       before = fitted calls answers m respects [] W took tt before;

@@ -1,5 +1,5 @@
 -- What a memoized function that writes means, and what its run does and is told.
-use Rattle.std.specs.Prelude.{◌≡◌, Bool, false, IsTrue, List, Result, IfOk, OnOk, IfErr}
+use Rattle.std.specs.Prelude.{◌≡◌, Bool, true, false, IsTrue, List, Result, IfOk, OnOk, IfErr}
 use Rattle.std.specs.Borrow.{MutBor}
 use Rattle.comemo_base.specs.Answers.{Respects}
 use Rattle.comemo_track.specs.Recording.{Recording}
@@ -20,18 +20,20 @@ abbrev pub Reaches : {V C : Type 0} → (V → V → List C → Type 0) → V �
 Reaches {V} {C} did i j = (writes : List C) × did i j writes
 
 module _ {V C R : Type 0} (did : V → V → List C → Type 0) where
-  -- what was done between s and t to the value that a recorder holds: it is the same place. Where it went well, what the writes that
-  -- were recorded led from leads to the present value by those that are recorded now; in any case writes alone changed it
-  pub record Goes {X : Type 0} (s t : Recorded (MutBor V) C R) (r : Result X Fault) : Type 0 where
+  -- what was done between s and t to the value that a recorder holds: it is the same place, and writes alone changed it. While
+  -- nothing is lost of the recording, the writes that were recorded, which led to the value as it was, are followed by those that
+  -- were recorded since, which lead to the value as it is
+  pub record Goes (s t : Recorded (MutBor V) C R) : Type 0 where
     pub same_place : t.value.ghost_name ≡ s.value.ghost_name
-    pub done : OnOk r ((start : V) → did start s.value.now s.recording.writes → did start t.value.now t.recording.writes)
+    pub was_whole : t.recording.whole ≡ true → s.recording.whole ≡ true
+    pub done : t.recording.whole ≡ true → (start : V) → did start s.value.now s.recording.writes → did start t.value.now t.recording.writes
     pub reached : (start : V) → Reaches did start s.value.now → Reaches did start t.value.now
 
   -- what a run is told by a question, a write or a call, which took its recorder from s to t: where it is answered, what fits the
   -- recording fitted it before, and P holds of the answer and of whatever fits; and it says that the recording is incomplete only
   -- where it is spoiled
   pub record TellsMut {X : Type 0} (fits : Recording C R → (C → R) → Type 0) (s t : Recorded (MutBor V) C R) (r : Result X Fault) (P : X → (C → R) → Type 0) : Type 0 where
-    pub goes : Goes s t r
+    pub goes : Goes s t
     pub before : OnOk r ((m : C → R) → fits t.recording m → fits s.recording m)
     pub told : IfOk r (λ answer. (m : C → R) → fits t.recording m → P answer m)
     pub fault : IfErr r (λ f. f ≡ fault.Incomplete → t.recording.whole ≡ false)

@@ -52,7 +52,7 @@ pub trait FunctionMut {
         needs: &mut Self::Needs,
     ) -> Result<Self::Out, Fault>
         requires { of.now.recording.writes ≡ [] }
-        ensures goes { Goes ⟦<Self::Of as Written>⟧.did of.old of.new result }
+        ensures goes { Goes ⟦<Self::Of as Written>⟧.did of.old of.new }
         ensures right { IfOk result (λ output. (m : Self.Of.Call → Self.Of.Answer)
             → ⟦<Self::Of as Told>⟧.fits of.new.recording m
             → means key.now m output of.new.recording.writes) }
@@ -176,7 +176,7 @@ pub trait FunctionMutOf<T: Track>: Memo<Call = T::Call, Answer = T::Answer> {
         needs: &mut Self::Needs,
     ) -> Result<Self::Out, Fault>
         requires { of.now.recording.writes ≡ [] }
-        ensures goes { Goes ⟦<T as Written>⟧.did of.old of.new result }
+        ensures goes { Goes ⟦<T as Written>⟧.did of.old of.new }
         ensures right { IfOk result (λ output. (m : T.Call → T.Answer)
             → ⟦<T as Told>⟧.fits of.new.recording m
             → Self.def key.now m output of.new.recording.writes) }

@@ -448,9 +448,8 @@ impl<'a, T: Track> Tracked<'a, T> {
 
     /// The answer to a read, with nothing sent: what an input that holds the view is asked by a look-up.
     pub(crate) fn read(&self, call: &T::Call) -> Result<T::Answer, AllocError>
-        requires { T.Call.is_write call.now ≡ false }
-        ensures { IfOk result
-            (λ answer. IsTrue (T.Answer.eq (T.answers self.now call.now) answer)) }
+        ensures { T.Call.is_write call.now ≡ false
+            → IfOk result (λ answer. IsTrue (T.Answer.eq (T.answers self.now call.now) answer)) }
     {
         self.value.ask(call)
     }
