@@ -10,7 +10,8 @@ use Rattle.comemo_track.specs.Recording.{Recording, Took}
 use Rattle.comemo_track.specs.Sending.{Asks}
 use Rattle.comemo_track.specs.Writing.{SameReads}
 use Rattle.comemo.specs.Function.{Recorded, Fits}
-use Rattle.comemo.specs.FunctionMut.{Reaches, Goes, TellsMut}
+use Rattle.comemo.specs.Begin.{Reaches}
+use Rattle.comemo.specs.FunctionMut.{Goes, TellsMut}
 use Rattle.comemo.specs.declared.pending.Fault.{Fault}
 use Rattle.comemo.specs.declared.pending.Fault.TheVariants as fault
 use Rattle.comemo.proofs.Recorders.{still_agrees, fitted, tells_answer}

@@ -5,6 +5,7 @@ use Rattle.comemo_base.specs.Answers.{Respects}
 use Rattle.comemo_track.specs.Recording.{Recording}
 use Rattle.comemo.specs.Function.{Recorded}
 use Rattle.comemo.specs.Meaning.{SameWrites}
+use Rattle.comemo.specs.Begin.{Reaches}
 use Rattle.comemo.specs.declared.pending.Fault.{Fault}
 use Rattle.comemo.specs.declared.pending.Fault.TheVariants as fault
 
@@ -14,10 +15,6 @@ pub record LawsMut {C R K O : Type 0} (eq : C → C → Bool) (same : R → R �
   pub keys : (j k : K) (m : C → R) (output : O) (writes : List C) → Respects eq same m → IsTrue (eqk j k) → means j m output writes → means k m output writes
   pub writes : (key : K) (m : C → R) (output : O) (V W : List C) → Respects eq same m → SameWrites eq V W → means key m output V → means key m output W
   pub clones : (x y : K) → key_clone x y → IsTrue (eqk x y)
-
--- some writes lead from a value to another
-abbrev pub Reaches : {V C : Type 0} → (V → V → List C → Type 0) → V → V → Type 0
-Reaches {V} {C} did i j = (writes : List C) × did i j writes
 
 module _ {V C R : Type 0} (did : V → V → List C → Type 0) where
   -- what was done between s and t to the value that a recorder holds: it is the same place, and writes alone changed it. While

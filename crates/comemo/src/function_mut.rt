@@ -3,9 +3,9 @@ ghost use Rattle.std.specs.Prelude.{◌≡◌, ◌⊎◌, [], ◌∷◌, ◌++�
 ghost use Rattle.comemo.specs.Meaning.{invocation};
 ghost use Rattle.comemo.specs.Called.{IsReply};
 ghost use Rattle.comemo.specs.Cache.{Touches};
-ghost use Rattle.comemo.specs.Begin.{IsStopped};
+ghost use Rattle.comemo.specs.Begin.{Reaches, IsStopped};
 ghost use Rattle.comemo.specs.Finish.{BrokeOff};
-ghost use Rattle.comemo.specs.FunctionMut.{Reaches, Goes, TellsMut, LawsMut};
+ghost use Rattle.comemo.specs.FunctionMut.{Goes, TellsMut, LawsMut};
 ghost use Rattle.comemo_track.specs.Sending.{Asks};
 
 use crate::cache::{CacheData, Meant, Memo};
@@ -232,13 +232,14 @@ pub fn memoized_mut<M: FunctionMutOf<T>, T: Track, S: Sink<Call = T::Call, Answe
         (⟦<S as Breaking>⟧.spoiled_after sink.old sink.new))) }
 {
     let mut input = KeyedMut { key, value: of };
-    match begin(alloc, cache, &mut input, sink, enabled)? {
+    let begun = begin(alloc, cache, &mut input, sink, enabled);
+    let KeyedMut { key, value } = input;
+    match begun? {
         Begun::Hit(output) => Ok(Reply {
             output,
             how: How::Hit,
         }),
         Begun::Run(mut pending) => {
-            let KeyedMut { key, value } = input;
             let mut recorder = RecorderMut {
                 alloc,
                 value,
@@ -247,7 +248,7 @@ pub fn memoized_mut<M: FunctionMutOf<T>, T: Track, S: Sink<Call = T::Call, Answe
             let ran = M::run(&key, &mut recorder, needs);
             let RecorderMut {
                 alloc: _,
-                value: _,
+                value: _value,
                 recording,
             } = recorder;
             recording.has_reads_and_writes();

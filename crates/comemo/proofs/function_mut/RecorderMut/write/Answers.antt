@@ -9,7 +9,7 @@ returns-clause-tells g c =
     let i = c.self.inside in
     let did = rw c.track_mut-view.ensures.value at c.in_ok-write.ensures.did in
     let sent = c.in_ok-write.ensures.sent in
-    rw (← c.self.view_is) (tells_write g.met.T.Call.Eq.laws g.met.T.Answer.Eq.laws (g.T.Track.answers i.value.now) (g.met.T.Track.alike i.value.now) c.self.invariant tt (goes_on (done_both g.T.Track.wrote g.T.Call.Call.is_write g.T.Answer.PartialEq.eq g.T.Track.answers) refl (c.args.call ∷ []) sent.writes did tt) (c.args.call ∷ []) sent)
+    rw (← c.self.view_is) (tells_write g.met.T.Call.Eq.laws g.met.T.Answer.Eq.laws (g.T.Track.answers i.value.now) (g.met.T.Track.alike i.value.now) c.self.invariant tt (goes_on (done_both g.T.Track.wrote g.T.Call.Call.is_write g.T.Answer.PartialEq.eq g.T.Track.answers) refl (c.args.call ∷ []) sent.writes sent.whole did) (c.args.call ∷ []) sent)
 
 pub invariant_of-self-2 : goal.invariant_of-self-2
 invariant_of-self-2 g c =
