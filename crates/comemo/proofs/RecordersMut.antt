@@ -1,6 +1,6 @@
 -- What a recorder of a value that is written knows of its recording.
 use Rattle.std.specs.Prelude.{⊤}
-use Rattle.std.proofs.Common.{◌≡◌, ◌∙◌, ℕ, suc, Bool, true, false, List, [], ◌∷◌, ◌++◌, IsTrue, Result, Ok, Err, IfOk, OnErr, IsErrAnd, arith, refl, sym, ap, subst, append-nil}
+use Rattle.std.proofs.Common.{◌≡◌, ◌∙◌, ℕ, zero, suc, Bool, true, false, List, [], ◌∷◌, ◌++◌, IsTrue, Result, Ok, Err, IfOk, OnErr, IsErrAnd, arith, refl, sym, ap, subst, append-nil}
 use Rattle.std.specs.List.{All}
 use Rattle.std.specs.Borrow.{MutBor}
 use Rattle.std.specs.Cmp.{IsEquivalence}
@@ -9,12 +9,12 @@ use Rattle.comemo_base.proofs.Paths.{turned, joined}
 use Rattle.comemo_track.specs.Recording.{Recording, Took}
 use Rattle.comemo_track.specs.Sending.{Asks}
 use Rattle.comemo_track.specs.Writing.{SameReads}
-use Rattle.comemo.specs.Function.{Recorded, Fits}
+use Rattle.comemo.specs.Function.{Fits}
 use Rattle.comemo.specs.Begin.{Reaches}
-use Rattle.comemo.specs.FunctionMut.{Goes, TellsMut}
+use Rattle.comemo.specs.FunctionMut.{Lent, Goes, TellsMut}
 use Rattle.comemo.specs.declared.pending.Fault.{Fault}
 use Rattle.comemo.specs.declared.pending.Fault.TheVariants as fault
-use Rattle.comemo.proofs.Recorders.{still_agrees, fitted, tells_answer}
+use Rattle.comemo.proofs.Recorders.{still_agrees, fitted, fits_taken}
 
 module _ {C R : Type 0} {w : C → Bool} {same : R → R → Bool} (answers : IsEquivalence same) (m n : C → R) where
   -- answers of which no read's differs agree with the same reads
@@ -30,47 +30,59 @@ pub asked_agrees : {C R : Type 0} {eq : C → C → Bool} {same : R → R → Bo
 asked_agrees calls answers m respects s t before call (Ok answer) k e = still_agrees calls answers m respects ((call, k.noted) ∷ []) [] k.sent (k.alike, tt) before
 asked_agrees calls answers m respects s t before call (Err x) k e = still_agrees calls answers m respects [] [] e tt before
 
+-- agreement, pair by pair
+module _ {C R : Type 0} (same : R → R → Bool) (m : C → R) where
+  pub agrees_with_all : (ps : List (C × R)) → All (λ p. IsTrue (same (m p.0) p.1)) ps → Agrees same m ps
+  agrees_with_all [] h = tt
+  agrees_with_all (p ∷ ps) h = (h 0 p (omega arith), agrees_with_all ps (λ k d l. h (suc k) d (omega arith)))
+
+  pub all_agree : (ps : List (C × R)) → Agrees same m ps → All (λ p. IsTrue (same (m p.0) p.1)) ps
+  all_agree [] a k d l = absurd (omega arith)
+  all_agree (p ∷ ps) a zero d l = a.0
+  all_agree (p ∷ ps) a (suc k) d l = all_agree ps a.1 k d (omega arith)
+
 module _ {V C R : Type 0} {did : V → V → List C → Type 0} where
   -- first to a recorder, and then on to another
-  pub goes_both : {s t u : Recorded (MutBor V) C R} → Goes did s t → Goes did t u → Goes did s u
+  pub goes_both : {s t u : Lent V C R} → Goes did s t → Goes did t u → Goes did s u
   goes_both a b = record {
-    same_place = b.same_place ∙ a.same_place;
+    same_value = b.same_value ∙ a.same_value;
+    same_recording = b.same_recording ∙ a.same_recording;
     was_whole = λ w. a.was_whole (b.was_whole w);
     done = λ w start d. b.done w start (a.done (b.was_whole w) start d);
     reached = λ start r. b.reached start (a.reached start r);
   }
 
-module _ {V C R : Type 0} {did : V → V → List C → Type 0} {s t : Recorded (MutBor V) C R} where
+module _ {V C R : Type 0} {did : V → V → List C → Type 0} {s t : Lent V C R} (same_recording : t.recording.ghost_name ≡ s.recording.ghost_name) where
   -- where neither the value nor the writes changed
-  pub goes_nowhere : t.value ≡ s.value → t.recording.writes ≡ s.recording.writes → (t.recording.whole ≡ true → s.recording.whole ≡ true) → Goes did s t
+  pub goes_nowhere : t.value ≡ s.value → t.recording.now.writes ≡ s.recording.now.writes → (t.recording.now.whole ≡ true → s.recording.now.whole ≡ true) → Goes did s t
   goes_nowhere value writes whole = record {
-    same_place = ap (λ v. v.ghost_name) value;
+    same_value = ap (λ v. v.ghost_name) value;
+    same_recording = same_recording;
     was_whole = whole;
-    done = λ w start d. subst (λ v. did start v.now t.recording.writes) (sym value) (subst (λ ws. did start s.value.now ws) (sym writes) d);
+    done = λ w start d. subst (λ v. did start v.now t.recording.now.writes) (sym value) (subst (λ ws. did start s.value.now ws) (sym writes) d);
     reached = λ start r. subst (λ v. Reaches did start v.now) (sym value) r;
   }
 
   -- after some writes
-  pub goes_on : ((i j k : V) (U W : List C) → did i j U → did j k W → did i k (U ++ W)) → t.value.ghost_name ≡ s.value.ghost_name → (W : List C) → t.recording.writes ≡ s.recording.writes ++ W → t.recording.whole ≡ s.recording.whole → did s.value.now t.value.now W → Goes did s t
+  pub goes_on : ((i j k : V) (U W : List C) → did i j U → did j k W → did i k (U ++ W)) → t.value.ghost_name ≡ s.value.ghost_name → (W : List C) → t.recording.now.writes ≡ s.recording.now.writes ++ W → t.recording.now.whole ≡ s.recording.now.whole → did s.value.now t.value.now W → Goes did s t
   goes_on joins place W writes whole does = record {
-    same_place = place;
+    same_value = place;
+    same_recording = same_recording;
     was_whole = λ w. sym whole ∙ w;
-    done = λ w start d. subst (λ ws. did start t.value.now ws) (sym writes) (joins start s.value.now t.value.now s.recording.writes W d does);
+    done = λ w start d. subst (λ ws. did start t.value.now ws) (sym writes) (joins start s.value.now t.value.now s.recording.now.writes W d does);
     reached = λ start r. (r.0 ++ W, joins start s.value.now t.value.now r.0 W r.1 does);
   }
 
-  module _ {eq : C → C → Bool} {same : R → R → Bool} (calls : IsEquivalence eq) (answers : IsEquivalence same) (m : C → R) (respects : Respects eq same m) (before : s.recording.whole ≡ true → Agrees same m s.recording.pairs) where
-    pub tells_answer_mut : t.value ≡ s.value → (call : C) (answer : R) → Asks same m call answer (Took eq s.recording t.recording) → TellsMut did (Fits eq same) s t (Ok answer) (λ answer n. IsTrue (same (n call) answer))
-    tells_answer_mut value call answer k =
-        let told = tells_answer value calls answers m respects before call answer k in
-        record {
-          goes = goes_nowhere value (k.sent.writes ∙ append-nil s.recording.writes) (λ w. sym k.sent.whole ∙ w);
-          before = told.before;
-          told = told.told;
-          fault = tt;
-        }
+  module _ {eq : C → C → Bool} {same : R → R → Bool} (calls : IsEquivalence eq) (answers : IsEquivalence same) (m : C → R) (respects : Respects eq same m) (before : s.recording.now.whole ≡ true → Agrees same m s.recording.now.pairs) where
+    pub tells_answer_mut : t.value ≡ s.value → (call : C) (answer : R) → Asks same m call answer (Took eq s.recording.now t.recording.now) → TellsMut did (Fits eq same) s t (Ok answer) (λ answer n. IsTrue (same (n call) answer))
+    tells_answer_mut value call answer k = record {
+      goes = goes_nowhere value (k.sent.writes ∙ append-nil s.recording.now.writes) (λ w. sym k.sent.whole ∙ w);
+      before = fitted calls answers m respects ((call, k.noted) ∷ []) [] k.sent (k.alike, tt) before;
+      told = λ n f. joined answers (n call) k.noted answer (fits_taken calls answers m respects ((call, k.noted) ∷ []) [] k.sent (k.alike, tt) before n f).0 (joined answers k.noted (m call) answer (turned answers (m call) k.noted k.alike) k.gives);
+      fault = tt;
+    }
 
-    pub tells_write : {X : Type 0} (x : X) → Goes did s t → (W : List C) → Took eq s.recording t.recording [] W → TellsMut did (Fits eq same) s t (Ok x) (λ _ _. ⊤)
+    pub tells_write : {X : Type 0} (x : X) → Goes did s t → (W : List C) → Took eq s.recording.now t.recording.now [] W → TellsMut did (Fits eq same) s t (Ok x) (λ _ _. ⊤)
     tells_write x goes W took = record {
       goes = goes;
       before = fitted calls answers m respects [] W took tt before;

@@ -3,7 +3,6 @@ use Rattle.std.specs.Prelude.{◌≡◌, Bool, true, false, IsTrue, List, Result
 use Rattle.std.specs.Borrow.{MutBor}
 use Rattle.comemo_base.specs.Answers.{Respects}
 use Rattle.comemo_track.specs.Recording.{Recording}
-use Rattle.comemo.specs.Function.{Recorded}
 use Rattle.comemo.specs.Meaning.{SameWrites}
 use Rattle.comemo.specs.Begin.{Reaches}
 use Rattle.comemo.specs.declared.pending.Fault.{Fault}
@@ -16,21 +15,31 @@ pub record LawsMut {C R K O : Type 0} (eq : C → C → Bool) (same : R → R �
   pub writes : (key : K) (m : C → R) (output : O) (V W : List C) → Respects eq same m → SameWrites eq V W → means key m output V → means key m output W
   pub clones : (x y : K) → key_clone x y → IsTrue (eqk x y)
 
+-- what a recorder that writes was lent: the value, and the recording of what it was asked and of what was written to it
+pub record Lent (V C R : Type 0) : Type 0 where
+  pub value : MutBor V
+  pub recording : MutBor (Recording C R)
+
+-- that record
+abbrev pub lent : {V C R : Type 0} → MutBor V → MutBor (Recording C R) → Lent V C R
+lent value recording = record { value = value; recording = recording }
+
 module _ {V C R : Type 0} (did : V → V → List C → Type 0) where
-  -- what was done between s and t to the value that a recorder holds: it is the same place, and writes alone changed it. While
-  -- nothing is lost of the recording, the writes that were recorded, which led to the value as it was, are followed by those that
-  -- were recorded since, which lead to the value as it is
-  pub record Goes (s t : Recorded (MutBor V) C R) : Type 0 where
-    pub same_place : t.value.ghost_name ≡ s.value.ghost_name
-    pub was_whole : t.recording.whole ≡ true → s.recording.whole ≡ true
-    pub done : t.recording.whole ≡ true → (start : V) → did start s.value.now s.recording.writes → did start t.value.now t.recording.writes
+  -- what became of what a recorder was lent, from s to t: both are in their places, and writes alone changed the value. While nothing
+  -- is lost of the recording, the writes that were recorded, which led to the value as it was, are followed by those that were
+  -- recorded since, which lead to the value as it is
+  pub record Goes (s t : Lent V C R) : Type 0 where
+    pub same_value : t.value.ghost_name ≡ s.value.ghost_name
+    pub same_recording : t.recording.ghost_name ≡ s.recording.ghost_name
+    pub was_whole : t.recording.now.whole ≡ true → s.recording.now.whole ≡ true
+    pub done : t.recording.now.whole ≡ true → (start : V) → did start s.value.now s.recording.now.writes → did start t.value.now t.recording.now.writes
     pub reached : (start : V) → Reaches did start s.value.now → Reaches did start t.value.now
 
-  -- what a run is told by a question, a write or a call, which took its recorder from s to t: where it is answered, what fits the
-  -- recording fitted it before, and P holds of the answer and of whatever fits; and it says that the recording is incomplete only
-  -- where it is spoiled
-  pub record TellsMut {X : Type 0} (fits : Recording C R → (C → R) → Type 0) (s t : Recorded (MutBor V) C R) (r : Result X Fault) (P : X → (C → R) → Type 0) : Type 0 where
+  -- what a run is told by a question, a write or a call, which took what its recorder was lent from s to t: where it is answered,
+  -- what fits the recording fitted it before, and P holds of the answer and of whatever fits; and it says that the recording is
+  -- incomplete only where it is spoiled
+  pub record TellsMut {X : Type 0} (fits : Recording C R → (C → R) → Type 0) (s t : Lent V C R) (r : Result X Fault) (P : X → (C → R) → Type 0) : Type 0 where
     pub goes : Goes s t
-    pub before : OnOk r ((m : C → R) → fits t.recording m → fits s.recording m)
-    pub told : IfOk r (λ answer. (m : C → R) → fits t.recording m → P answer m)
-    pub fault : IfErr r (λ f. f ≡ fault.Incomplete → t.recording.whole ≡ false)
+    pub before : OnOk r ((m : C → R) → fits t.recording.now m → fits s.recording.now m)
+    pub told : IfOk r (λ answer. (m : C → R) → fits t.recording.now m → P answer m)
+    pub fault : IfErr r (λ f. f ≡ fault.Incomplete → t.recording.now.whole ≡ false)

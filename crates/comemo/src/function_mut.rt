@@ -1,11 +1,12 @@
 //! The front door of functions that write: a memoized function of a key and a tracked value that its run writes to.
+ghost use Rattle.std.specs.List.{All};
 ghost use Rattle.std.specs.Prelude.{◌≡◌, ◌⊎◌, [], ◌∷◌, ◌++◌, List, true, false, IsTrue, IfOk, IfErr, OnOk, OnErr, ⊤};
 ghost use Rattle.comemo.specs.Meaning.{invocation};
 ghost use Rattle.comemo.specs.Called.{IsReply};
 ghost use Rattle.comemo.specs.Cache.{Touches};
 ghost use Rattle.comemo.specs.Begin.{Reaches, IsStopped};
 ghost use Rattle.comemo.specs.Finish.{BrokeOff};
-ghost use Rattle.comemo.specs.FunctionMut.{Goes, TellsMut, LawsMut};
+ghost use Rattle.comemo.specs.FunctionMut.{lent, Goes, TellsMut, LawsMut};
 ghost use Rattle.comemo_track.specs.Sending.{Asks};
 
 use crate::cache::{CacheData, Meant, Memo};
@@ -16,7 +17,7 @@ use comemo_track::input::KeyedMut;
 use comemo_track::track::{Breaking, Call, Sink, Track, Written};
 use std::alloc::Global;
 use std::hash::Hash;
-use std::marker::{Model, PhantomData};
+use std::marker::PhantomData;
 
 /// A memoized function of a key and a tracked value, which it reads and writes.
 ///
@@ -48,16 +49,17 @@ pub trait FunctionMut {
     /// the run; the writes that it did stay done, and what it did to its needs stays.
     fn run(
         key: &Self::Key,
-        of: &mut RecorderMut<'_, Self::Of>,
+        of: &mut RecorderMut<'_, '_, Self::Of>,
         needs: &mut Self::Needs,
     ) -> Result<Self::Out, Fault>
-        requires { of.now.recording.writes ≡ [] }
-        ensures goes { Goes ⟦<Self::Of as Written>⟧.did of.old of.new }
+        requires { of.now.recording.now.writes ≡ [] }
+        ensures goes { Goes ⟦<Self::Of as Written>⟧.did
+            (lent of.old.value of.old.recording) (lent of.new.value of.new.recording) }
         ensures right { IfOk result (λ output. (m : Self.Of.Call → Self.Of.Answer)
-            → ⟦<Self::Of as Told>⟧.fits of.new.recording m
-            → means key.now m output of.new.recording.writes) }
+            → ⟦<Self::Of as Told>⟧.fits of.new.recording.now m
+            → means key.now m output of.new.recording.now.writes) }
         ensures fault { IfErr result
-            (λ fault. fault ≡ Fault.Incomplete → of.new.recording.whole ≡ false) };
+            (λ fault. fault ≡ Fault.Incomplete → of.new.recording.now.whole ≡ false) };
 
     // clones of keys are equal, and the meaning tells apart neither equal keys nor equal writes, nor an output from its clone
     ghost laws: { LawsMut Self.Of.Call.eq Self.Of.Answer.eq Self.Key.eq Self.Key.is_clone
@@ -66,47 +68,35 @@ pub trait FunctionMut {
 
 /// A tracked value that is lent to a run, which records what it asks and what it writes. A run is handed one.
 ///
-/// This project's own.
+/// A run that reached past it, to the value or to the recording, would not be proved. This project's own.
 #[derive(Drop)]
-pub struct RecorderMut<'a, T: Track> {
+pub struct RecorderMut<'a, 'b, T: Track> {
     pub(crate) alloc: Global,
-    pub(crate) value: &'a mut T,
-    pub(crate) recording: Constraint<T::Call, T::Answer>,
+    /// What is asked and written.
+    pub value: &'a mut T,
+    /// What it was asked, and what was written to it.
+    pub recording: &'b mut Constraint<T::Call, T::Answer>,
+    // while nothing is lost of the recording, the value's answers agree with it
+    pub ghost agrees: { recording.now.whole ≡ true → All
+        (λ p. IsTrue (T.Answer.eq (T.answers value.now p.0) p.1)) recording.now.pairs },
 }
 
-impl<'a, T: Track> Model for RecorderMut<'a, T> {
-    ghost use Rattle.std.specs.Prelude.{◌≡◌, true};
-    ghost use Rattle.std.specs.Borrow.{MutBor};
-    ghost use denote.Ref.{mut_coded};
-    ghost use Rattle.comemo_base.specs.Answers.{Agrees};
-    ghost use Rattle.comemo.specs.Function.{Recorded, recorded_code};
-
-    ghost Value = { Recorded (MutBor T) T.Call T.Answer };
-
-    ghost coded = { recorded_code (mut_coded T.code) T.Call.code T.Answer.code };
-
-    ghost view = { λ s. record { value = s.value; recording = s.recording } };
-
-    // while nothing is lost, the value's answers agree with what was recorded
-    ghost invariant = { λ s. s.recording.whole ≡ true
-        → Agrees T.Answer.eq (T.answers s.value.now) s.recording.pairs };
-}
-
-impl<'a, T: Track> RecorderMut<'a, T> {
+impl<'a, 'b, T: Track> RecorderMut<'a, 'b, T> {
     /// Asks the value a read, and records the call with its answer.
     ///
     /// It does what `ask` of `Recorder` does, and costs the same. It stands in the place of the methods that comemo's
     /// macro `track` writes.
     pub fn ask(&mut self, call: T::Call) -> Result<T::Answer, Fault>
         requires { T.Call.is_write call ≡ false }
-        ensures tells { TellsMut ⟦<T as Written>⟧.did ⟦<T as Told>⟧.fits self.old self.new result
+        ensures tells { TellsMut ⟦<T as Written>⟧.did ⟦<T as Told>⟧.fits
+            (lent self.old.value self.old.recording) (lent self.new.value self.new.recording) result
             (λ answer m. IsTrue (T.Answer.eq (m call) answer)) }
-        ensures writes { self.new.recording.writes ≡ self.old.recording.writes }
+        ensures writes { self.new.recording.now.writes ≡ self.old.recording.now.writes }
         ensures value { self.new.value ≡ self.old.value }
-        ensures err { IfErr result (λ fault. fault ≡ Fault.Memory) }
+        ensures fault { IfErr result (λ fault. fault ≡ Fault.Memory) }
     {
         let mut view = self.value.track(self.alloc);
-        Ok(view.ask(call, &mut self.recording)?)
+        Ok(view.ask(call, self.recording)?)
     }
 
     /// Does a write on the value, and records it.
@@ -116,19 +106,20 @@ impl<'a, T: Track> RecorderMut<'a, T> {
     /// the methods that comemo's macro `track` writes.
     pub fn write(&mut self, call: T::Call) -> Result<(), Fault>
         requires { T.Call.is_write call ≡ true }
-        ensures tells { TellsMut ⟦<T as Written>⟧.did ⟦<T as Told>⟧.fits self.old self.new result
+        ensures tells { TellsMut ⟦<T as Written>⟧.did ⟦<T as Told>⟧.fits
+            (lent self.old.value self.old.recording) (lent self.new.value self.new.recording) result
             (λ _ _. ⊤) }
         ensures writes { OnOk result
-            (self.new.recording.writes ≡ self.old.recording.writes ++ call ∷ []) }
+            (self.new.recording.now.writes ≡ self.old.recording.now.writes ++ call ∷ []) }
         ensures did { OnOk result (⟦<T as Written>⟧.did
             self.old.value.now self.new.value.now (call ∷ [])) }
-        ensures err { OnErr result ((self.new.value ≡ self.old.value)
-            × (self.new.recording.writes ≡ self.old.recording.writes)) }
+        ensures err { OnErr result ((self.new.value.now ≡ self.old.value.now)
+            × (self.new.recording.now.writes ≡ self.old.recording.now.writes)) }
         ensures fault { IfErr result (λ fault. fault ≡ Fault.Memory) }
     {
         self.recording.has_reads_and_writes();
         let mut view = self.value.track_mut(self.alloc);
-        view.write(call, &mut self.recording)?;
+        view.write(call, self.recording)?;
         Ok(())
     }
 }
@@ -172,16 +163,17 @@ pub trait FunctionMutOf<T: Track>: Memo<Call = T::Call, Answer = T::Answer> {
     /// Does the function, as `FunctionMut::run` does, and with the same said of its output, its writes and its faults.
     fn run(
         key: &Self::Key,
-        of: &mut RecorderMut<'_, T>,
+        of: &mut RecorderMut<'_, '_, T>,
         needs: &mut Self::Needs,
     ) -> Result<Self::Out, Fault>
-        requires { of.now.recording.writes ≡ [] }
-        ensures goes { Goes ⟦<T as Written>⟧.did of.old of.new }
+        requires { of.now.recording.now.writes ≡ [] }
+        ensures goes { Goes ⟦<T as Written>⟧.did
+            (lent of.old.value of.old.recording) (lent of.new.value of.new.recording) }
         ensures right { IfOk result (λ output. (m : T.Call → T.Answer)
-            → ⟦<T as Told>⟧.fits of.new.recording m
-            → Self.def key.now m output of.new.recording.writes) }
+            → ⟦<T as Told>⟧.fits of.new.recording.now m
+            → Self.def key.now m output of.new.recording.now.writes) }
         ensures fault { IfErr result
-            (λ fault. fault ≡ Fault.Incomplete → of.new.recording.whole ≡ false) };
+            (λ fault. fault ≡ Fault.Incomplete → of.new.recording.now.whole ≡ false) };
 }
 
 impl<F: FunctionMut> FunctionMutOf<F::Of> for MemoOfMut<F> {
@@ -189,7 +181,7 @@ impl<F: FunctionMut> FunctionMutOf<F::Of> for MemoOfMut<F> {
 
     fn run(
         key: &F::Key,
-        of: &mut RecorderMut<'_, F::Of>,
+        of: &mut RecorderMut<'_, '_, F::Of>,
         needs: &mut F::Needs,
     ) -> Result<F::Out, Fault> {
         F::run(key, of, needs)
@@ -240,17 +232,13 @@ pub fn memoized_mut<M: FunctionMutOf<T>, T: Track, S: Sink<Call = T::Call, Answe
             how: How::Hit,
         }),
         Begun::Run(mut pending) => {
+            let mut recording = Constraint::new(alloc);
             let mut recorder = RecorderMut {
                 alloc,
                 value,
-                recording: Constraint::new(alloc),
+                recording: &mut recording,
             };
             let ran = M::run(&key, &mut recorder, needs);
-            let RecorderMut {
-                alloc: _,
-                value: _value,
-                recording,
-            } = recorder;
             recording.has_reads_and_writes();
             pending.recording = recording;
             pending.end(cache, sink, ran)
