@@ -30,17 +30,6 @@ pub asked_agrees : {C R : Type 0} {eq : C → C → Bool} {same : R → R → Bo
 asked_agrees calls answers m respects s t before call (Ok answer) k e = still_agrees calls answers m respects ((call, k.noted) ∷ []) [] k.sent (k.alike, tt) before
 asked_agrees calls answers m respects s t before call (Err x) k e = still_agrees calls answers m respects [] [] e tt before
 
--- agreement, pair by pair
-module _ {C R : Type 0} (same : R → R → Bool) (m : C → R) where
-  pub agrees_with_all : (ps : List (C × R)) → All (λ p. IsTrue (same (m p.0) p.1)) ps → Agrees same m ps
-  agrees_with_all [] h = tt
-  agrees_with_all (p ∷ ps) h = (h 0 p (omega arith), agrees_with_all ps (λ k d l. h (suc k) d (omega arith)))
-
-  pub all_agree : (ps : List (C × R)) → Agrees same m ps → All (λ p. IsTrue (same (m p.0) p.1)) ps
-  all_agree [] a k d l = absurd (omega arith)
-  all_agree (p ∷ ps) a zero d l = a.0
-  all_agree (p ∷ ps) a (suc k) d l = all_agree ps a.1 k d (omega arith)
-
 module _ {V C R : Type 0} {did : V → V → List C → Type 0} where
   -- first to a recorder, and then on to another
   pub goes_both : {s t u : Lent V C R} → Goes did s t → Goes did t u → Goes did s u

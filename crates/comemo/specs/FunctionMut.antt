@@ -1,7 +1,7 @@
 -- What a memoized function that writes means, and what its run does and is told.
 use Rattle.std.specs.Prelude.{◌≡◌, Bool, true, false, IsTrue, List, Result, IfOk, OnOk, IfErr}
 use Rattle.std.specs.Borrow.{MutBor}
-use Rattle.comemo_base.specs.Answers.{Respects}
+use Rattle.comemo_base.specs.Answers.{Respects, Agrees}
 use Rattle.comemo_track.specs.Recording.{Recording}
 use Rattle.comemo.specs.Meaning.{SameWrites}
 use Rattle.comemo.specs.Begin.{Reaches}
@@ -23,6 +23,10 @@ pub record Lent (V C R : Type 0) : Type 0 where
 -- that record
 abbrev pub lent : {V C R : Type 0} → MutBor V → MutBor (Recording C R) → Lent V C R
 lent value recording = record { value = value; recording = recording }
+
+-- while nothing is lost of the recording, the value's answers agree with it
+abbrev pub AgreesNow : {V C R : Type 0} → (R → R → Bool) → (V → C → R) → Lent V C R → Type 0
+AgreesNow same answers s = s.recording.now.whole ≡ true → Agrees same (answers s.value.now) s.recording.now.pairs
 
 module _ {V C R : Type 0} (did : V → V → List C → Type 0) where
   -- what became of what a recorder was lent, from s to t: both are in their places, and writes alone changed the value. While nothing

@@ -1,13 +1,12 @@
 //! The front door of functions that write: a memoized function of a key and a tracked value that its run writes to.
-ghost use Rattle.std.specs.List.{All};
 ghost use Rattle.std.specs.Prelude.{◌≡◌, ◌⊎◌, [], ◌∷◌, ◌++◌, List, true, false, IsTrue, IfOk, IfErr, OnOk, OnErr, ⊤};
 ghost use Rattle.comemo.specs.Meaning.{invocation};
 ghost use Rattle.comemo.specs.Called.{IsReply};
 ghost use Rattle.comemo.specs.Cache.{Touches};
 ghost use Rattle.comemo.specs.Begin.{Reaches, IsStopped};
 ghost use Rattle.comemo.specs.Finish.{BrokeOff};
-ghost use Rattle.comemo.specs.FunctionMut.{lent, Goes, TellsMut, LawsMut};
-ghost use Rattle.comemo_track.specs.Sending.{Asks};
+ghost use Rattle.comemo.specs.FunctionMut.{Lent, lent, AgreesNow, Goes, TellsMut, LawsMut};
+ghost use Rattle.comemo_base.specs.Answers.{Agrees};
 
 use crate::cache::{CacheData, Meant, Memo};
 use crate::function::Told;
@@ -18,6 +17,18 @@ use comemo_track::track::{Breaking, Call, Sink, Track, Written};
 use std::alloc::Global;
 use std::hash::Hash;
 use std::marker::PhantomData;
+
+/// What a recorder that writes knows of its recording, for contracts to cite, as `⟦<T as ToldMut>⟧.agrees`.
+///
+/// There is nothing to implement. This project's own.
+pub trait ToldMut: Track {
+    // while nothing is lost of the recording, the value's answers agree with it
+    ghost agrees: { Lent Self Self.Call Self.Answer → Type 0 };
+}
+
+impl<T: Track> ToldMut for T {
+    ghost agrees = { AgreesNow T.Answer.eq T.answers };
+}
 
 /// A memoized function of a key and a tracked value, which it reads and writes.
 ///
@@ -52,7 +63,9 @@ pub trait FunctionMut {
         of: &mut RecorderMut<'_, '_, Self::Of>,
         needs: &mut Self::Needs,
     ) -> Result<Self::Out, Fault>
-        requires { of.now.recording.now.writes ≡ [] }
+        requires begins { of.now.recording.now.writes ≡ [] }
+        requires agrees { ⟦<Self::Of as ToldMut>⟧.agrees (lent of.now.value of.now.recording) }
+        ensures agrees { ⟦<Self::Of as ToldMut>⟧.agrees (lent of.new.value of.new.recording) }
         ensures goes { Goes ⟦<Self::Of as Written>⟧.did
             (lent of.old.value of.old.recording) (lent of.new.value of.new.recording) }
         ensures right { IfOk result (λ output. (m : Self.Of.Call → Self.Of.Answer)
@@ -76,9 +89,6 @@ pub struct RecorderMut<'a, 'b, T: Track> {
     pub value: &'a mut T,
     /// What it was asked, and what was written to it.
     pub recording: &'b mut Constraint<T::Call, T::Answer>,
-    // while nothing is lost of the recording, the value's answers agree with it
-    pub ghost agrees: { recording.now.whole ≡ true → All
-        (λ p. IsTrue (T.Answer.eq (T.answers value.now p.0) p.1)) recording.now.pairs },
 }
 
 impl<'a, 'b, T: Track> RecorderMut<'a, 'b, T> {
@@ -87,7 +97,9 @@ impl<'a, 'b, T: Track> RecorderMut<'a, 'b, T> {
     /// It does what `ask` of `Recorder` does, and costs the same. It stands in the place of the methods that comemo's
     /// macro `track` writes.
     pub fn ask(&mut self, call: T::Call) -> Result<T::Answer, Fault>
-        requires { T.Call.is_write call ≡ false }
+        requires agrees { ⟦<T as ToldMut>⟧.agrees (lent self.old.value self.old.recording) }
+        requires read { T.Call.is_write call ≡ false }
+        ensures agrees { ⟦<T as ToldMut>⟧.agrees (lent self.new.value self.new.recording) }
         ensures tells { TellsMut ⟦<T as Written>⟧.did ⟦<T as Told>⟧.fits
             (lent self.old.value self.old.recording) (lent self.new.value self.new.recording) result
             (λ answer m. IsTrue (T.Answer.eq (m call) answer)) }
@@ -105,7 +117,9 @@ impl<'a, 'b, T: Track> RecorderMut<'a, 'b, T> {
     /// refused it, or there was no memory for it in the recording, which makes room first. It stands in the place of
     /// the methods that comemo's macro `track` writes.
     pub fn write(&mut self, call: T::Call) -> Result<(), Fault>
-        requires { T.Call.is_write call ≡ true }
+        requires agrees { ⟦<T as ToldMut>⟧.agrees (lent self.old.value self.old.recording) }
+        requires write { T.Call.is_write call ≡ true }
+        ensures agrees { ⟦<T as ToldMut>⟧.agrees (lent self.new.value self.new.recording) }
         ensures tells { TellsMut ⟦<T as Written>⟧.did ⟦<T as Told>⟧.fits
             (lent self.old.value self.old.recording) (lent self.new.value self.new.recording) result
             (λ _ _. ⊤) }
@@ -166,7 +180,9 @@ pub trait FunctionMutOf<T: Track>: Memo<Call = T::Call, Answer = T::Answer> {
         of: &mut RecorderMut<'_, '_, T>,
         needs: &mut Self::Needs,
     ) -> Result<Self::Out, Fault>
-        requires { of.now.recording.now.writes ≡ [] }
+        requires begins { of.now.recording.now.writes ≡ [] }
+        requires agrees { ⟦<T as ToldMut>⟧.agrees (lent of.now.value of.now.recording) }
+        ensures agrees { ⟦<T as ToldMut>⟧.agrees (lent of.new.value of.new.recording) }
         ensures goes { Goes ⟦<T as Written>⟧.did
             (lent of.old.value of.old.recording) (lent of.new.value of.new.recording) }
         ensures right { IfOk result (λ output. (m : T.Call → T.Answer)
@@ -186,6 +202,34 @@ impl<F: FunctionMut> FunctionMutOf<F::Of> for MemoOfMut<F> {
     ) -> Result<F::Out, Fault> {
         F::run(key, of, needs)
     }
+}
+
+/// Does a function's run on a value, with a recording of its own. It gives what the run came to, and the recording.
+fn run_recorded<M: FunctionMutOf<T>, T: Track>(
+    alloc: Global,
+    key: &M::Key,
+    of: &mut T,
+    needs: &mut M::Needs,
+) -> (Result<M::Out, Fault>, Constraint<T::Call, T::Answer>)
+    ensures right { IfOk result.0 (λ output. (m : T.Call → T.Answer)
+        → ⟦<T as Told>⟧.fits result.1 m → M.def key.now m output result.1.writes) }
+    ensures fault { IfErr result.0
+        (λ fault. fault ≡ Fault.Incomplete → result.1.whole ≡ false) }
+    ensures done { result.1.whole ≡ true
+        → ⟦<T as Written>⟧.did of.old of.new result.1.writes }
+    ensures agrees { result.1.whole ≡ true
+        → Agrees T.Answer.eq (T.answers of.old) result.1.pairs }
+    ensures reached { Reaches ⟦<T as Written>⟧.did of.old of.new }
+{
+    let mut recording = Constraint::new(alloc);
+    let mut recorder = RecorderMut {
+        alloc,
+        value: of,
+        recording: &mut recording,
+    };
+    let ran = M::run(key, &mut recorder, needs);
+    recording.has_reads_and_writes();
+    (ran, recording)
 }
 
 /// Calls a memoized function that writes: gives the output that its cache keeps where an entry agrees, and does its
@@ -232,14 +276,7 @@ pub fn memoized_mut<M: FunctionMutOf<T>, T: Track, S: Sink<Call = T::Call, Answe
             how: How::Hit,
         }),
         Begun::Run(mut pending) => {
-            let mut recording = Constraint::new(alloc);
-            let mut recorder = RecorderMut {
-                alloc,
-                value,
-                recording: &mut recording,
-            };
-            let ran = M::run(&key, &mut recorder, needs);
-            recording.has_reads_and_writes();
+            let (ran, recording) = run_recorded::<M, T>(alloc, &key, value, needs);
             pending.recording = recording;
             pending.end(cache, sink, ran)
         }

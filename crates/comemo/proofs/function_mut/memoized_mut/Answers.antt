@@ -11,9 +11,6 @@ returns-in-Hit-clause-right g c = ?
 pub returns-in-Hit-clause-reply : goal.returns-in-Hit-clause-reply
 returns-in-Hit-clause-reply g c = ?
 
-pub returns-in-Hit-clause-reached : goal.returns-in-Hit-clause-reached
-returns-in-Hit-clause-reached g c = search rules
-
 pub returns-clause-right : goal.returns-clause-right
 returns-clause-right g c = ?
 
@@ -28,6 +25,3 @@ returns-clause-err g c = ?
 
 pub returns-in_err-output-clause-err : goal.returns-in_err-output-clause-err
 returns-in_err-output-clause-err g c = ?
-
-pub returns-in_err-output-clause-reached : goal.returns-in_err-output-clause-reached
-returns-in_err-output-clause-reached g c = c.in_err-output.of-1-own.given.1
