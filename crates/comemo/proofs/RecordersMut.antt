@@ -8,7 +8,8 @@ use Rattle.comemo_base.specs.Answers.{Respects, Agrees}
 use Rattle.comemo_base.proofs.Paths.{turned, joined}
 use Rattle.comemo_track.specs.Recording.{Recording, Took}
 use Rattle.comemo_track.specs.Sending.{Asks}
-use Rattle.comemo_track.specs.Writing.{SameReads}
+use Rattle.comemo_track.specs.Writing.{SameReads, Done}
+use Rattle.comemo_track.specs.WritingLaws.{done_keeps}
 use Rattle.comemo.specs.Function.{Fits}
 use Rattle.comemo.specs.Begin.{Reaches}
 use Rattle.comemo.specs.FunctionMut.{Lent, Goes, TellsMut}
@@ -24,6 +25,12 @@ module _ {C R : Type 0} {w : C → Bool} {same : R → R → Bool} (answers : Is
 
   pub turned_reads : SameReads w same m n → SameReads w same n m
   turned_reads reads call read = turned answers (m call) (n call) (reads call read)
+
+-- what the answers agree with after some writes they agreed with before these
+pub agreed_before : {S C R : Type 0} (wrote : S → C → S → Type 0) (w : C → Bool) (same : R → R → Bool) (answers : S → C → R) → IsEquivalence same → (i j : S) → Reaches (Done wrote w same answers) i j → (t : Recording C R) → (t.whole ≡ true → Agrees same (answers j) t.pairs) → (pairs : List (C × R)) (whole : Bool) → pairs ≡ t.pairs → whole ≡ t.whole → All (λ p. w p.0 ≡ false) pairs → whole ≡ true → Agrees same (answers i) pairs
+agreed_before wrote w same answers laws i j r t agrees pairs whole e b reads is =
+    let now = subst (λ ps. Agrees same (answers j) ps) (sym e) (agrees (sym b ∙ is)) in
+    agrees_alike laws (answers j) (answers i) (turned_reads laws (answers i) (answers j) (done_keeps wrote w same answers laws i j r.0 r.1)) pairs reads now
 
 -- after a read, and after one that was refused, the answers agree with what is recorded
 pub asked_agrees : {C R : Type 0} {eq : C → C → Bool} {same : R → R → Bool} → IsEquivalence eq → IsEquivalence same → (m : C → R) → Respects eq same m → (s t : Recording C R) → (s.whole ≡ true → Agrees same m s.pairs) → {E : Type 0} (call : C) (r : Result R E) → IfOk r (λ answer. Asks same m call answer (Took eq s t)) → OnErr r (Took eq s t [] []) → t.whole ≡ true → Agrees same m t.pairs
