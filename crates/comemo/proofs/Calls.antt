@@ -113,6 +113,21 @@ module _ {K C R O : Type 0} {M : Meaning K C R O} {es : Entries K C R O} {call :
     came = is.came;
   }
 
+  -- the writes that a reply rests on were done too
+  pub also_done : {mid es' : Entries K C R O} {sent : List (C × R) → List C → Type 0} {reply : Reply O} {did : List C → Type 0} → (is : IsReply M call es mid sent reply es') → did is.writes → IsReply M call es mid (λ P W. sent P W × did W) reply es'
+  also_done is done = record {
+    pairs = is.pairs;
+    writes = is.writes;
+    agrees = is.agrees;
+    stands = is.stands;
+    gives = record { given = is.gives.given; alike = is.gives.alike; agreeing = is.gives.agreeing; are_sent = (is.gives.are_sent, done) };
+    came = is.came;
+  }
+
+  -- a hit that stopped, of which the writes before were done so
+  pub stopped_as : {done so : List C → Type 0} {spoiled : List (C × R) → List C → Type 0} → (is : IsStopped M es call done spoiled) → so is.front → IsStopped M es call so spoiled
+  stopped_as is did = record { pairs = is.pairs; output = is.output; front = is.front; next = is.next; rest = is.rest; is_refused = is.is_refused; is_enabled = is.is_enabled; kept = is.kept; agrees = is.agrees; stands = is.stands; are_done = did; is_spoiled = is.is_spoiled }
+
   -- a hit that stopped, whatever became of its sink
   pub stopped_so : {done : List C → Type 0} {spoiled : List (C × R) → List C → Type 0} → IsStopped M es call done spoiled → IsStopped M es call done (λ _ _. ⊤)
   stopped_so is = record { pairs = is.pairs; output = is.output; front = is.front; next = is.next; rest = is.rest; is_refused = is.is_refused; is_enabled = is.is_enabled; kept = is.kept; agrees = is.agrees; stands = is.stands; are_done = is.are_done; is_spoiled = tt }
