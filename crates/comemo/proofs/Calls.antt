@@ -102,6 +102,27 @@ module _ {K C R O : Type 0} {M : Meaning K C R O} {es : Entries K C R O} {call :
     });
   }
 
+  -- the writes that a reply rests on were done too, and led to whatever is the same
+  also_done : {mid es' : Entries K C R O} {sent : List (C × R) → List C → Type 0} {reply : Reply O} {V : Type 0} (did : V → V → List C → Type 0) (i j k : V) → k ≡ j → (is : IsReply M call es mid sent reply es') → did i j is.writes → IsReply M call es mid (λ P W. sent P W × did i k W) reply es'
+  also_done did i j k e is done = record {
+    pairs = is.pairs;
+    writes = is.writes;
+    agrees = is.agrees;
+    stands = is.stands;
+    gives = record { given = is.gives.given; alike = is.gives.alike; agreeing = is.gives.agreeing; are_sent = (is.gives.are_sent, subst (λ v. did i v is.writes) (sym e) done) };
+    came = is.came;
+  }
+
+  -- a hit of which the writes were done too
+  pub reply_by_done_hit : IsEquivalence M.same_call → IsEquivalence M.same_answer → {done : List C → Type 0} {sent : List (C × R) → List C → Type 0} {output : O} (mid es' : Entries K C R O) (hit : IsHit M es call done sent output) → Touches es es' → {V : Type 0} (did : V → V → List C → Type 0) (i j k : V) → k ≡ j → did i j hit.writes → IsReply M call es mid (λ P W. sent P W × did i k W) (record { output = output; how = how.Hit }) es'
+  unfolding reply_by_hit
+  reply_by_done_hit calls answers mid es' hit touched did i j k e d = also_done did i j k e (reply_by_hit calls answers mid es' hit touched) d
+
+  -- a run of which the writes were done too
+  pub reply_by_done_run : {begun : PendingRun K C R} (t : Recording C R) → IsRun M es call begun → Agrees M.same_answer call.answers t.pairs → {mid es' : Entries K C R O} {sent : List (C × R) → List C → Type 0} {output : O} {reply : Reply O} → Stands M (came_to (recorded begun t) output) → Finished M mid (recorded begun t) sent output reply es' → {V : Type 0} (did : V → V → List C → Type 0) (i j k : V) → k ≡ j → did i j t.writes → IsReply M call es mid (λ P W. sent P W × did i k W) reply es'
+  unfolding reply_by_run
+  reply_by_done_run t is agrees stands done did i j k e d = also_done did i j k e (reply_by_run {t = t} is agrees stands done) d
+
   -- what went to a sink so went there otherwise
   pub resent : {mid es' : Entries K C R O} {sent sends : List (C × R) → List C → Type 0} {reply : Reply O} → ((P : List (C × R)) (W : List C) → sent P W → sends P W) → IsReply M call es mid sent reply es' → IsReply M call es mid sends reply es'
   resent f is = record {
@@ -110,17 +131,6 @@ module _ {K C R O : Type 0} {M : Meaning K C R O} {es : Entries K C R O} {call :
     agrees = is.agrees;
     stands = is.stands;
     gives = record { given = is.gives.given; alike = is.gives.alike; agreeing = is.gives.agreeing; are_sent = f is.gives.given is.writes is.gives.are_sent };
-    came = is.came;
-  }
-
-  -- the writes that a reply rests on were done too
-  pub also_done : {mid es' : Entries K C R O} {sent : List (C × R) → List C → Type 0} {reply : Reply O} {did : List C → Type 0} → (is : IsReply M call es mid sent reply es') → did is.writes → IsReply M call es mid (λ P W. sent P W × did W) reply es'
-  also_done is done = record {
-    pairs = is.pairs;
-    writes = is.writes;
-    agrees = is.agrees;
-    stands = is.stands;
-    gives = record { given = is.gives.given; alike = is.gives.alike; agreeing = is.gives.agreeing; are_sent = (is.gives.are_sent, done) };
     came = is.came;
   }
 

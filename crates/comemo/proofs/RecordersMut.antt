@@ -26,6 +26,10 @@ module _ {C R : Type 0} {w : C → Bool} {same : R → R → Bool} (answers : Is
   pub turned_reads : SameReads w same m n → SameReads w same n m
   turned_reads reads call read = turned answers (m call) (n call) (reads call read)
 
+-- what was done led to whatever is the same
+pub done_at : {S C : Type 0} (did : S → S → List C → Type 0) (i j k : S) (W : List C) → k ≡ j → did i j W → did i k W
+done_at did i j k W e d = subst (λ v. did i v W) (sym e) d
+
 -- what the answers agree with after some writes they agreed with before these
 pub agreed_before : {S C R : Type 0} (wrote : S → C → S → Type 0) (w : C → Bool) (same : R → R → Bool) (answers : S → C → R) → IsEquivalence same → (i j : S) → Reaches (Done wrote w same answers) i j → (t : Recording C R) → (t.whole ≡ true → Agrees same (answers j) t.pairs) → (pairs : List (C × R)) (whole : Bool) → pairs ≡ t.pairs → whole ≡ t.whole → All (λ p. w p.0 ≡ false) pairs → whole ≡ true → Agrees same (answers i) pairs
 agreed_before wrote w same answers laws i j r t agrees pairs whole e b reads is =

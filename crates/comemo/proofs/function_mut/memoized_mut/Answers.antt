@@ -2,7 +2,8 @@ use Rattle.std.proofs.Common.{rules, ◌∙◌, [], inl, inr, sym, subst}
 use Rattle.comemo_base.specs.Answers.{Agrees}
 use Rattle.comemo_track.specs.Writing.{Done}
 use Rattle.comemo.proofs.Sendings.{on_err, breaks_at_once}
-use Rattle.comemo.proofs.Calls.{run_seen, reply_by_hit, reply_by_run, also_done, stopped_as, broke_at_begin, broke_by_run, on_fault}
+use Rattle.comemo.proofs.Calls.{run_seen, reply_by_done_hit, reply_by_done_run, stopped_as, broke_at_begin, broke_by_run, on_fault}
+use Rattle.comemo.proofs.RecordersMut.{done_at}
 use Rattle.comemo.proofs.Closures.{mapped, mapped_err}
 use Rattle.comemo.proofs.function_mut.memoized_mut.Goals as goal
 
@@ -17,12 +18,12 @@ end-requires g c =
 pub returns-in-Hit-clause-right : goal.returns-in-Hit-clause-right
 returns-in-Hit-clause-right g c =
     let hit = (rw c.in-Hit.is at c.in_ok-output.ensures.hit).0 in
-    (hit.writes, hit.right, search (rules, hit.are_done.0))
+    (hit.writes, hit.right, done_at (Done g.T.Track.wrote g.T.Call.Call.is_write g.T.Answer.PartialEq.eq g.T.Track.answers) c.args.of.now c.begin-begun.new.input.value.now _ hit.writes (search rules) hit.are_done.0)
 
 pub returns-in-Hit-clause-reply : goal.returns-in-Hit-clause-reply
 returns-in-Hit-clause-reply g c =
     let hit = rw c.in-Hit.is at c.in_ok-output.ensures.hit in
-    also_done (reply_by_hit g.met.T.Call.Eq.laws g.met.T.Answer.Eq.laws c.args.cache.now c.begin-begun.new.cache hit.0 hit.1) (search (rules, hit.0.are_done.0))
+    reply_by_done_hit g.met.T.Call.Eq.laws g.met.T.Answer.Eq.laws c.args.cache.now c.begin-begun.new.cache hit.0 hit.1 (Done g.T.Track.wrote g.T.Call.Call.is_write g.T.Answer.PartialEq.eq g.T.Track.answers) c.args.of.now c.begin-begun.new.input.value.now _ (search rules) hit.0.are_done.0
 
 pub returns-clause-right : goal.returns-clause-right
 returns-clause-right g c =
@@ -44,18 +45,18 @@ returns-clause-reply g c =
     mapped (λ reply done.
     let whole = done.2.whole in
     let did = subst (λ v. Done g.T.Track.wrote g.T.Call.Call.is_write g.T.Answer.PartialEq.eq g.T.Track.answers v c.run_recorded-ran.new.of t.writes) run.1.0 (c.run_recorded-ran.ensures.done whole) in
-    also_done (reply_by_run is
+    reply_by_done_run t is
     (subst (λ v. Agrees g.T.Answer.PartialEq.eq (g.T.Track.answers v) t.pairs) run.1.0 (c.run_recorded-ran.ensures.agrees whole))
     (λ m r a.
     let right = (rw done.1 at c.run_recorded-ran.ensures.right) m (record { whole = whole; respects = r; agrees = a }) in
     g.met.M.Memo.laws.keys c.args.key c.pending.inside.key m done.0 t.writes r is.has_key (subst (λ k. g.M.Memo.def k m done.0 t.writes) run.1.2 right))
-    done.2) (search (rules, did))) c.end.result (rw run.3 at (rw run.2 at c.end.ensures.finished))
+    done.2 (Done g.T.Track.wrote g.T.Call.Call.is_write g.T.Answer.PartialEq.eq g.T.Track.answers) c.args.of.now c.run_recorded-ran.new.of _ (search rules) did) c.end.result (rw run.3 at (rw run.2 at c.end.ensures.finished))
 
 pub returns-clause-reached : goal.returns-clause-reached
 returns-clause-reached g c =
     let run = rw c.in-Run.is at c.in_ok-output.ensures.run in
     let reached = rw run.1.0 at c.run_recorded-ran.ensures.reached in
-    (reached.0, search (rules, reached.1))
+    (reached.0, done_at (Done g.T.Track.wrote g.T.Call.Call.is_write g.T.Answer.PartialEq.eq g.T.Track.answers) c.args.of.now c.run_recorded-ran.new.of _ reached.0 (search rules) reached.1)
 
 pub returns-clause-err : goal.returns-clause-err
 returns-clause-err g c =
