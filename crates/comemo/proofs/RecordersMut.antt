@@ -1,6 +1,6 @@
 -- What a recorder of a value that is written knows of its recording.
 use Rattle.std.specs.Prelude.{⊤}
-use Rattle.std.proofs.Common.{◌≡◌, ◌∙◌, ℕ, zero, suc, Bool, true, false, List, [], ◌∷◌, ◌++◌, IsTrue, Result, Ok, Err, IfOk, OnErr, IsErrAnd, arith, refl, sym, ap, subst, append-nil}
+use Rattle.std.proofs.Common.{◌≡◌, ◌∙◌, ℕ, zero, suc, Bool, true, false, List, [], ◌∷◌, ◌++◌, IsTrue, Result, Ok, Err, IfOk, OnErr, IsErr, IsErrAnd, arith, refl, sym, ap, subst, append-nil}
 use Rattle.std.specs.List.{All}
 use Rattle.std.specs.Borrow.{MutBor}
 use Rattle.std.specs.Cmp.{IsEquivalence}
@@ -11,6 +11,10 @@ use Rattle.comemo_track.specs.Sending.{Asks}
 use Rattle.comemo_track.specs.Writing.{SameReads, Done}
 use Rattle.comemo_track.specs.WritingLaws.{done_keeps}
 use Rattle.comemo.specs.Function.{Fits}
+use Rattle.comemo.specs.Meaning.{Meaning, Invocation}
+use Rattle.comemo.specs.Cache.{Entries}
+use Rattle.comemo.specs.Called.{IsReply}
+use Rattle.comemo.specs.declared.pending.Reply.{Reply}
 use Rattle.comemo.specs.Begin.{Reaches}
 use Rattle.comemo.specs.FunctionMut.{Lent, Goes, TellsMut}
 use Rattle.comemo.specs.declared.pending.Fault.{Fault}
@@ -89,3 +93,32 @@ module _ {V C R : Type 0} {did : V → V → List C → Type 0} {s t : Lent V C 
       told = λ n f. tt;
       fault = tt;
     }
+
+module _ {V K C R O : Type 0} {M : Meaning K C R O} {es mid es' : Entries K C R O} {call : Invocation K C R} {did : V → V → List C → Type 0} {s t : Lent V C R} (same_value : t.value.ghost_name ≡ s.value.ghost_name) (same_recording : t.recording.ghost_name ≡ s.recording.ghost_name) (joins : (i j k : V) (U W : List C) → did i j U → did j k W → did i k (U ++ W)) where
+  -- after a call of a function that writes
+  pub tells_called : IsEquivalence M.same_call → IsEquivalence M.same_answer → Respects M.same_call M.same_answer call.answers → (s.recording.now.whole ≡ true → Agrees M.same_answer call.answers s.recording.now.pairs) → (reply : Reply O) → IsReply M call es mid (λ P W. Took M.same_call s.recording.now t.recording.now P W × did s.value.now t.value.now W) reply es' → TellsMut did (Fits M.same_call M.same_answer) s t (Ok reply.output) (λ output n. (writes : List C) × (t.recording.now.writes ≡ s.recording.now.writes ++ writes) × M.def call.key n output writes)
+  tells_called calls answers respects before reply k =
+      let took = k.gives.are_sent.0 in
+      let agrees = (k.gives.agreeing call.answers respects).1 k.agrees in
+      record {
+        goes = goes_on same_recording joins same_value k.writes took.writes took.whole k.gives.are_sent.1;
+        before = fitted calls answers call.answers respects k.gives.given k.writes took agrees before;
+        told = λ n f. (k.writes, took.writes, k.stands n f.respects ((k.gives.agreeing n f.respects).0 (fits_taken calls answers call.answers respects k.gives.given k.writes took agrees before n f)));
+        fault = tt;
+      }
+
+  -- after a fault, by which the recording is spoiled
+  pub tells_failed : Reaches did s.value.now t.value.now → t.recording.now.whole ≡ false → {fits : Recording C R → (C → R) → Type 0} {X : Type 0} {P : X → (C → R) → Type 0} (r : Result X Fault) → IsErr r → TellsMut did fits s t r P
+  tells_failed reached broken (Ok x) h = let no : false ≡ true = h in cc
+  tells_failed reached broken (Err f) h = record {
+    goes = record {
+      same_value = same_value;
+      same_recording = same_recording;
+      was_whole = λ w. let e : true ≡ false = sym w ∙ broken in cc;
+      done = λ w. let e : true ≡ false = sym w ∙ broken in cc;
+      reached = λ start r. (r.0 ++ reached.0, joins start s.value.now t.value.now r.0 reached.0 r.1 reached.1);
+    };
+    before = tt;
+    told = tt;
+    fault = λ e. broken;
+  }

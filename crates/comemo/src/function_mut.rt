@@ -7,6 +7,7 @@ ghost use Rattle.comemo.specs.Begin.{Reaches, IsStopped};
 ghost use Rattle.comemo.specs.Finish.{BrokeOff};
 ghost use Rattle.comemo.specs.FunctionMut.{Lent, lent, AgreesNow, Goes, TellsMut, LawsMut};
 ghost use Rattle.comemo_base.specs.Answers.{Agrees};
+ghost use Rattle.comemo_track.specs.Recording.{Took};
 
 use crate::cache::{CacheData, Meant, Memo};
 use crate::function::Told;
@@ -135,6 +136,45 @@ impl<'a, 'b, T: Track> RecorderMut<'a, 'b, T> {
         let mut view = self.value.track_mut(self.alloc);
         view.write(call, self.recording)?;
         Ok(())
+    }
+
+    /// Calls another memoized function of the same value, which writes, and records what it asked and wrote.
+    ///
+    /// A fault spoils the recording: the run that is recorded can't be finished. The writes that were done before it stay
+    /// done. It costs what `memoized_mut` costs, with the recording as its sink. This project's own: in comemo it is a
+    /// call like any.
+    pub fn call<G: FunctionMutOf<T>>(
+        &mut self,
+        cache: &mut CacheData<G>,
+        needs: &mut G::Needs,
+        key: G::Key,
+    ) -> Result<G::Out, Fault>
+        requires agrees { ⟦<T as ToldMut>⟧.agrees (lent self.old.value self.old.recording) }
+        ensures agrees { ⟦<T as ToldMut>⟧.agrees (lent self.new.value self.new.recording) }
+        ensures tells { TellsMut ⟦<T as Written>⟧.did ⟦<T as Told>⟧.fits
+            (lent self.old.value self.old.recording) (lent self.new.value self.new.recording) result
+            (λ output m. (writes : List T.Call)
+            × (self.new.recording.now.writes ≡ self.old.recording.now.writes ++ writes)
+            × G.def key m output writes) }
+        ensures reply { IfOk result (λ output. (reply : Reply G.Out) × (reply.output ≡ output)
+            × IsReply ⟦<G as Meant>⟧.meaning (invocation key (T.answers self.old.value.now) true)
+            cache.old cache.old
+            (λ P W. Took T.Call.eq self.old.recording.now self.new.recording.now P W
+            × ⟦<T as Written>⟧.did self.old.value.now self.new.value.now W)
+            reply cache.new) }
+        ensures err { OnErr result (self.new.recording.now.whole ≡ false) }
+    {
+        let reply = memoized_mut(
+            self.alloc,
+            cache,
+            needs,
+            key,
+            self.value,
+            self.recording,
+            true,
+        )?;
+        self.recording.has_reads_and_writes();
+        Ok(reply.output)
     }
 }
 
