@@ -35,7 +35,6 @@
 pub mod cache;
 pub mod closure;
 pub mod function;
-pub mod function_mut;
 pub mod parts;
 pub mod pending;
 
@@ -49,5 +48,4 @@ pub use comemo_track::{
 };
 pub use comemo_tree::CallTree;
 pub use function::{Function, FunctionOf, MemoOf, Recorder, Told, memoized};
-pub use function_mut::{FunctionMut, FunctionMutOf, MemoOfMut, RecorderMut, memoized_mut};
 pub use pending::{Begun, Fault, How, Invoked, Pending, Reply, begin};
