@@ -1,22 +1,22 @@
 -- What a recorder of a value that is written knows of its recording.
 use Rattle.std.specs.Prelude.{⊤}
-use Rattle.std.proofs.Common.{◌≡◌, ◌∙◌, ℕ, zero, suc, Bool, true, false, List, [], ◌∷◌, ◌++◌, IsTrue, Result, Ok, Err, IfOk, OnErr, IsErr, IsErrAnd, arith, refl, sym, ap, subst, append-nil}
+use Rattle.std.proofs.Common.{◌≡◌, ◌∙◌, ℕ, zero, suc, Bool, true, false, List, [], ◌∷◌, ◌++◌, IsTrue, Result, Ok, Err, IfOk, OnErr, IsErr, IsErrAnd, arith, refl, sym, ap, subst, append-nil, inl, inr}
 use Rattle.std.specs.List.{All}
 use Rattle.std.specs.Borrow.{MutBor}
 use Rattle.std.specs.Cmp.{IsEquivalence}
 use Rattle.comemo_base.specs.Answers.{Respects, Agrees}
 use Rattle.comemo_base.proofs.Paths.{turned, joined}
-use Rattle.comemo_track.specs.Recording.{Recording, Took}
-use Rattle.comemo_track.specs.Sending.{Asks}
+use Rattle.comemo_track.specs.Recording.{Recording, Took, Spoiled}
+use Rattle.comemo_track.specs.Sending.{Asks, BreaksOff, SpoiledAfter}
 use Rattle.comemo_track.specs.Writing.{SameReads, Done}
 use Rattle.comemo_track.specs.WritingLaws.{done_keeps}
 use Rattle.comemo.specs.Function.{Fits}
-use Rattle.comemo.specs.Meaning.{Meaning, Invocation}
+use Rattle.comemo.specs.Meaning.{Meaning, Invocation, invocation}
 use Rattle.comemo.specs.Cache.{Entries}
 use Rattle.comemo.specs.Called.{IsReply}
 use Rattle.comemo.specs.declared.pending.Reply.{Reply}
 use Rattle.comemo.specs.Begin.{Reaches}
-use Rattle.comemo.specs.FunctionMut.{Lent, Goes, TellsMut}
+use Rattle.comemo.specs.FunctionMut.{Lent, Goes, TellsMut, IsFailed}
 use Rattle.comemo.specs.declared.pending.Fault.{Fault}
 use Rattle.comemo.specs.declared.pending.Fault.TheVariants as fault
 use Rattle.comemo.proofs.Recorders.{still_agrees, fitted, fits_taken}
@@ -107,18 +107,56 @@ module _ {V K C R O : Type 0} {M : Meaning K C R O} {es mid es' : Entries K C R 
         fault = tt;
       }
 
-  -- after a fault, by which the recording is spoiled
-  pub tells_failed : Reaches did s.value.now t.value.now → t.recording.now.whole ≡ false → {fits : Recording C R → (C → R) → Type 0} {X : Type 0} {P : X → (C → R) → Type 0} (r : Result X Fault) → IsErr r → TellsMut did fits s t r P
-  tells_failed reached broken (Ok x) h = let no : false ≡ true = h in cc
-  tells_failed reached broken (Err f) h = record {
-    goes = record {
-      same_value = same_value;
-      same_recording = same_recording;
-      was_whole = λ w. let e : true ≡ false = sym w ∙ broken in cc;
-      done = λ w. let e : true ≡ false = sym w ∙ broken in cc;
-      reached = λ start r. (r.0 ++ reached.0, joins start s.value.now t.value.now r.0 reached.0 r.1 reached.1);
-    };
-    before = tt;
-    told = tt;
-    fault = λ e. broken;
-  }
+-- after a call of a function that writes, the answers agree with what is recorded
+pub called_agrees : {V K C R O : Type 0} {M : Meaning K C R O} {es mid es' : Entries K C R O} (wrote : V → C → V → Type 0) (w : C → Bool) (answers : V → C → R) → IsEquivalence M.same_call → IsEquivalence M.same_answer → (i j : V) → Respects M.same_call M.same_answer (answers i) → (s t : Recording C R) → (s.whole ≡ true → Agrees M.same_answer (answers i) s.pairs) → {key : K} (reply : Reply O) → IsReply M (invocation key (answers i) true) es mid (λ P W. Took M.same_call s t P W × Done wrote w M.same_answer answers i j W) reply es' → All (λ p. w p.0 ≡ false) t.pairs → t.whole ≡ true → Agrees M.same_answer (answers j) t.pairs
+called_agrees {M = M} wrote w answers calls laws i j respects s t before reply k reads whole =
+    let agrees = (k.gives.agreeing (answers i) respects).1 k.agrees in
+    let still = still_agrees calls laws (answers i) respects k.gives.given k.writes k.gives.are_sent.0 agrees before whole in
+    agrees_alike laws (answers i) (answers j) (done_keeps wrote w M.same_answer answers laws i j k.writes k.gives.are_sent.1) t.pairs reads still
+
+-- after a call of a function that reads, the answers, which are the same, agree with what is recorded
+pub read_agrees : {K C R O : Type 0} {M : Meaning K C R O} {es mid es' : Entries K C R O} → IsEquivalence M.same_call → IsEquivalence M.same_answer → {call : Invocation K C R} → Respects M.same_call M.same_answer call.answers → (s t : Recording C R) → (s.whole ≡ true → Agrees M.same_answer call.answers s.pairs) → (reply : Reply O) → IsReply M call es mid (Took M.same_call s t) reply es' → t.whole ≡ true → Agrees M.same_answer call.answers t.pairs
+read_agrees calls laws {call} respects s t before reply k whole =
+    still_agrees calls laws call.answers respects k.gives.given k.writes k.gives.are_sent ((k.gives.agreeing call.answers respects).1 k.agrees) before whole
+
+-- what is spoiled is not whole
+pub spoiled_any : {C R : Type 0} {t : Recording C R} {X : Type 0} → t.whole ≡ false → t.whole ≡ true → X
+spoiled_any broken whole = let e : true ≡ false = sym whole ∙ broken in cc
+
+-- after a fault of a call, the recording is spoiled
+pub failed_spoils : {K C R O : Type 0} {M : Meaning K C R O} {es es' : Entries K C R O} {call : Invocation K C R} {done : List C → Type 0} {s t : Recording C R} → IsFailed M es call done (BreaksOff (Took M.same_call) Spoiled s t) (SpoiledAfter (Took M.same_call) Spoiled s t) es' → t.whole ≡ false
+failed_spoils (inl a) = a.1.is_broken.spoiled.whole
+failed_spoils (inr b) = b.1.is_spoiled.spoiled.whole
+
+module _ {V K C R O : Type 0} {M : Meaning K C R O} {es mid es' : Entries K C R O} {call : Invocation K C R} {did : V → V → List C → Type 0} {s t : Lent V C R} (same_recording : t.recording.ghost_name ≡ s.recording.ghost_name) where
+  -- the writes are those that were, after a call of a function that reads
+  pub read_writes : (reply : Reply O) (k : IsReply M call es mid (Took M.same_call s.recording.now t.recording.now) reply es') → k.writes ≡ [] → t.recording.now.writes ≡ s.recording.now.writes
+  read_writes reply k none = append-nil s.recording.now.writes ∙ (ap (λ W. s.recording.now.writes ++ W) none ∙ k.gives.are_sent.writes)
+
+  -- after a call of a function that reads
+  pub tells_read : IsEquivalence M.same_call → IsEquivalence M.same_answer → Respects M.same_call M.same_answer call.answers → t.value ≡ s.value → (s.recording.now.whole ≡ true → Agrees M.same_answer call.answers s.recording.now.pairs) → (reply : Reply O) (k : IsReply M call es mid (Took M.same_call s.recording.now t.recording.now) reply es') → k.writes ≡ [] → TellsMut did (Fits M.same_call M.same_answer) s t (Ok reply.output) (λ output n. M.def call.key n output [])
+  tells_read calls answers respects value before reply k none =
+      let took = k.gives.are_sent in
+      let agrees = (k.gives.agreeing call.answers respects).1 k.agrees in
+      record {
+        goes = goes_nowhere same_recording value (read_writes reply k none) (λ w. sym took.whole ∙ w);
+        before = fitted calls answers call.answers respects k.gives.given k.writes took agrees before;
+        told = λ n f. subst (λ W. M.def call.key n reply.output W) none (k.stands n f.respects ((k.gives.agreeing n f.respects).0 (fits_taken calls answers call.answers respects k.gives.given k.writes took agrees before n f)));
+        fault = tt;
+      }
+
+-- after a fault, by which the recording is spoiled
+pub tells_failed : {V C R : Type 0} {did : V → V → List C → Type 0} {s t : Lent V C R} → t.value.ghost_name ≡ s.value.ghost_name → t.recording.ghost_name ≡ s.recording.ghost_name → ((i j k : V) (U W : List C) → did i j U → did j k W → did i k (U ++ W)) → Reaches did s.value.now t.value.now → t.recording.now.whole ≡ false → {fits : Recording C R → (C → R) → Type 0} {X : Type 0} {P : X → (C → R) → Type 0} (r : Result X Fault) → IsErr r → TellsMut did fits s t r P
+tells_failed same_value same_recording joins reached broken (Ok x) h = let no : false ≡ true = h in cc
+tells_failed {s = s} {t} same_value same_recording joins reached broken (Err f) h = record {
+  goes = record {
+    same_value = same_value;
+    same_recording = same_recording;
+    was_whole = λ w. let e : true ≡ false = sym w ∙ broken in cc;
+    done = λ w. let e : true ≡ false = sym w ∙ broken in cc;
+    reached = λ start r. (r.0 ++ reached.0, joins start s.value.now t.value.now r.0 reached.0 r.1 reached.1);
+  };
+  before = tt;
+  told = tt;
+  fault = λ e. broken;
+}

@@ -1,10 +1,12 @@
 -- What a memoized function that writes means, and what its run does and is told.
-use Rattle.std.specs.Prelude.{◌≡◌, Bool, true, false, IsTrue, List, Result, IfOk, OnOk, IfErr}
+use Rattle.std.specs.Prelude.{◌≡◌, ◌⊎◌, Bool, true, false, IsTrue, List, Result, IfOk, OnOk, IfErr}
 use Rattle.std.specs.Borrow.{MutBor}
 use Rattle.comemo_base.specs.Answers.{Respects, Agrees}
 use Rattle.comemo_track.specs.Recording.{Recording}
-use Rattle.comemo.specs.Meaning.{SameWrites}
-use Rattle.comemo.specs.Begin.{Reaches}
+use Rattle.comemo.specs.Meaning.{Meaning, Invocation, SameWrites}
+use Rattle.comemo.specs.Cache.{Entries, Touches}
+use Rattle.comemo.specs.Begin.{Reaches, IsStopped}
+use Rattle.comemo.specs.Finish.{BrokeOff}
 use Rattle.comemo.specs.declared.pending.Fault.{Fault}
 use Rattle.comemo.specs.declared.pending.Fault.TheVariants as fault
 
@@ -47,3 +49,8 @@ module _ {V C R : Type 0} (did : V → V → List C → Type 0) where
     pub before : OnOk r ((m : C → R) → fits t.recording.now m → fits s.recording.now m)
     pub told : IfOk r (λ answer. (m : C → R) → fits t.recording.now m → P answer m)
     pub fault : IfErr r (λ f. f ≡ fault.Incomplete → t.recording.now.whole ≡ false)
+
+-- what stands after a fault of a call of a function that writes: the entries are as they were and the sink was broken off, or a hit
+-- was stopped at a write that was refused
+abbrev pub IsFailed : {K C R O : Type 0} → Meaning K C R O → Entries K C R O → Invocation K C R → (List C → Type 0) → (List (C × R) → Type 0) → (List (C × R) → List C → Type 0) → Entries K C R O → Type 0
+IsFailed M es call done broken spoiled es' = ((es' ≡ es) × BrokeOff M.same_answer call.answers broken) ⊎ (Touches es es' × IsStopped M es call done spoiled)

@@ -1,16 +1,16 @@
 //! The front door of functions that write: a memoized function of a key and a tracked value that its run writes to.
-ghost use Rattle.std.specs.Prelude.{◌≡◌, ◌⊎◌, [], ◌∷◌, ◌++◌, List, true, false, IsTrue, IfOk, IfErr, OnOk, OnErr, ⊤};
+ghost use Rattle.std.specs.Prelude.{◌≡◌, [], ◌∷◌, ◌++◌, List, true, false, IsTrue, IfOk, IfErr, OnOk, OnErr, ⊤};
 ghost use Rattle.comemo.specs.Meaning.{invocation};
 ghost use Rattle.comemo.specs.Called.{IsReply};
-ghost use Rattle.comemo.specs.Cache.{Touches};
-ghost use Rattle.comemo.specs.Begin.{Reaches, IsStopped};
+ghost use Rattle.comemo.specs.Begin.{Reaches};
 ghost use Rattle.comemo.specs.Finish.{BrokeOff};
-ghost use Rattle.comemo.specs.FunctionMut.{Lent, lent, AgreesNow, Goes, TellsMut, LawsMut};
+ghost use Rattle.comemo.specs.FunctionMut.{Lent, lent, AgreesNow, Goes, TellsMut, LawsMut, IsFailed};
 ghost use Rattle.comemo_base.specs.Answers.{Agrees};
-ghost use Rattle.comemo_track.specs.Recording.{Took};
+ghost use Rattle.comemo_track.specs.Recording.{Took, Spoiled};
+ghost use Rattle.comemo_track.specs.Sending.{BreaksOff, SpoiledAfter};
 
 use crate::cache::{CacheData, Meant, Memo};
-use crate::function::Told;
+use crate::function::{FunctionOf, Told, memoized};
 use crate::pending::{Begun, Fault, How, Reply, begin};
 use comemo_track::constraint::Constraint;
 use comemo_track::input::KeyedMut;
@@ -138,12 +138,44 @@ impl<'a, 'b, T: Track> RecorderMut<'a, 'b, T> {
         Ok(())
     }
 
+    /// Calls another memoized function of the same value, which reads alone, and records what it asked.
+    ///
+    /// A fault leaves the other's cache as it was, and the recording is spoiled: the run that is recorded can't be
+    /// finished. It costs what `memoized` costs, with the recording as its sink. This project's own: in comemo it is a
+    /// call like any.
+    pub fn call<G: FunctionOf<T>>(
+        &mut self,
+        cache: &mut CacheData<G>,
+        needs: &mut G::Needs,
+        key: G::Key,
+    ) -> Result<G::Out, Fault>
+        requires agrees { ⟦<T as ToldMut>⟧.agrees (lent self.old.value self.old.recording) }
+        ensures agrees { ⟦<T as ToldMut>⟧.agrees (lent self.new.value self.new.recording) }
+        ensures tells { TellsMut ⟦<T as Written>⟧.did ⟦<T as Told>⟧.fits
+            (lent self.old.value self.old.recording) (lent self.new.value self.new.recording) result
+            (λ output m. G.def key m output []) }
+        ensures writes { OnOk result
+            (self.new.recording.now.writes ≡ self.old.recording.now.writes) }
+        ensures value { self.new.value ≡ self.old.value }
+        ensures reply { IfOk result (λ output. (reply : Reply G.Out) × (reply.output ≡ output)
+            × IsReply ⟦<G as Meant>⟧.meaning (invocation key (T.answers self.old.value.now) true)
+            cache.old cache.old
+            (Took T.Call.eq self.old.recording.now self.new.recording.now) reply cache.new) }
+        ensures err { OnErr result ((cache.new ≡ cache.old)
+            × BrokeOff T.Answer.eq (T.answers self.old.value.now)
+            (BreaksOff (Took T.Call.eq) Spoiled self.old.recording.now self.new.recording.now)) }
+    {
+        let view = self.value.track(self.alloc);
+        let reply = memoized(self.alloc, cache, needs, key, &view, self.recording, true)?;
+        Ok(reply.output)
+    }
+
     /// Calls another memoized function of the same value, which writes, and records what it asked and wrote.
     ///
     /// A fault spoils the recording: the run that is recorded can't be finished. The writes that were done before it stay
     /// done. It costs what `memoized_mut` costs, with the recording as its sink. This project's own: in comemo it is a
     /// call like any.
-    pub fn call<G: FunctionMutOf<T>>(
+    pub fn call_mut<G: FunctionMutOf<T>>(
         &mut self,
         cache: &mut CacheData<G>,
         needs: &mut G::Needs,
@@ -162,7 +194,12 @@ impl<'a, 'b, T: Track> RecorderMut<'a, 'b, T> {
             (λ P W. Took T.Call.eq self.old.recording.now self.new.recording.now P W
             × ⟦<T as Written>⟧.did self.old.value.now self.new.value.now W)
             reply cache.new) }
-        ensures err { OnErr result (self.new.recording.now.whole ≡ false) }
+        ensures err { OnErr result (IsFailed ⟦<G as Meant>⟧.meaning cache.old
+            (invocation key (T.answers self.old.value.now) true)
+            (⟦<T as Written>⟧.did self.old.value.now self.new.value.now)
+            (BreaksOff (Took T.Call.eq) Spoiled self.old.recording.now self.new.recording.now)
+            (SpoiledAfter (Took T.Call.eq) Spoiled self.old.recording.now self.new.recording.now)
+            cache.new) }
     {
         let reply = memoized_mut(
             self.alloc,
@@ -298,14 +335,11 @@ pub fn memoized_mut<M: FunctionMutOf<T>, T: Track, S: Sink<Call = T::Call, Answe
         (λ P W. S.took sink.old sink.new P W × ⟦<T as Written>⟧.did of.old of.new W)
         reply cache.new) }
     ensures reached { Reaches ⟦<T as Written>⟧.did of.old of.new }
-    ensures err { OnErr result (((cache.new ≡ cache.old)
-        × BrokeOff T.Answer.eq (T.answers of.old)
-        (⟦<S as Breaking>⟧.breaks_off sink.old sink.new))
-        ⊎ (Touches cache.old cache.new
-        × IsStopped ⟦<M as Meant>⟧.meaning cache.old
+    ensures err { OnErr result (IsFailed ⟦<M as Meant>⟧.meaning cache.old
         (invocation key (T.answers of.old) enabled)
         (⟦<T as Written>⟧.did of.old of.new)
-        (⟦<S as Breaking>⟧.spoiled_after sink.old sink.new))) }
+        (⟦<S as Breaking>⟧.breaks_off sink.old sink.new)
+        (⟦<S as Breaking>⟧.spoiled_after sink.old sink.new) cache.new) }
 {
     let mut input = KeyedMut { key, value: of };
     let begun = begin(alloc, cache, &mut input, sink, enabled);
