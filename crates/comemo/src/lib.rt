@@ -37,6 +37,7 @@ pub mod closure;
 pub mod function;
 pub mod function_mut;
 pub mod parts;
+pub mod parts_mut;
 pub mod pending;
 
 pub use cache::{CacheData, Found, Meant, Memo};
@@ -49,5 +50,7 @@ pub use comemo_track::{
 };
 pub use comemo_tree::CallTree;
 pub use function::{Function, FunctionOf, MemoOf, Recorder, Told, memoized};
-pub use function_mut::{FunctionMut, FunctionMutOf, MemoOfMut, RecorderMut, memoized_mut};
+pub use function_mut::{
+    FunctionMut, FunctionMutOf, MemoOfMut, RecorderMut, ToldMut, memoized_mut,
+};
 pub use pending::{Begun, Fault, How, Invoked, Pending, Reply, begin};
