@@ -37,7 +37,6 @@ pub mod closure;
 pub mod function;
 pub mod function_mut;
 pub mod parts;
-pub mod parts_mut;
 pub mod pending;
 
 pub use cache::{CacheData, Found, Meant, Memo};

@@ -37,8 +37,10 @@ impl<'a> FunctionMutOf<BothMut<'a, Town, Counter>> for Tally {
         both: &mut RecorderMut<'_, '_, BothMut<'a, Town, Counter>>,
         _: &mut (),
     ) -> Result<u64, Fault> {
-        let degrees = both.ask_first(TownCall::Degrees)?;
-        both.write_second(CounterCall::Add(degrees))?;
+        let MultiAnswer::A(degrees) = both.ask(MultiCall::A(TownCall::Degrees))? else {
+            unreachable!()
+        };
+        both.write(MultiCall::B(CounterCall::Add(degrees)))?;
         Ok(degrees)
     }
 }

@@ -1,11 +1,12 @@
 //! A tracked value that is read and written: an owner, and lines that come to an end.
-ghost use Rattle.std.specs.Prelude.{◌≡◌, ◌++◌};
+ghost use Rattle.std.specs.Prelude.{◌≡◌, ◌++◌, []};
 ghost use Rattle.std.proofs.Common.{rules};
-ghost use Rattle.comemo_samples.specs.Writers.{is_note};
+ghost use Rattle.comemo_samples.specs.Notebooks.{is_note};
 
 use comemo::{Call, Track};
 use std::alloc::{AllocError, Global};
 use std::hash::Hash;
+use std::marker::Model;
 
 /// A call to a notebook.
 #[derive(Clone, Copy, Drop, Debug, PartialEq, Eq, Hash)]
@@ -37,18 +38,26 @@ impl Call for NotebookCall {
 /// where the notebook is full, or there is no memory for the line, and then nothing was written. This project's own.
 #[derive(Drop)]
 pub struct Notebook {
-    /// Whose it is.
-    pub owner: u64,
-    /// What was noted.
-    pub lines: Vec<u64>,
-    /// How many lines it has in all.
-    pub room: usize,
+    owner: u64,
+    lines: Vec<u64>,
+    room: usize,
+}
+
+impl Model for Notebook {
+    ghost use Rattle.comemo_samples.specs.Notebooks.{Noted, noted_code};
+
+    ghost Value = { Noted };
+
+    ghost coded = { noted_code };
+
+    ghost view = { λ s. record { owner = s.owner; lines = s.lines.items; room = s.room } };
 }
 
 impl Notebook {
     /// An empty notebook of so many lines. It takes no memory.
     pub fn new(alloc: Global, owner: u64, room: usize) -> Self
         ensures owner { result.owner ≡ owner }
+        ensures lines { result.lines ≡ [] }
         ensures room { result.room ≡ room }
     {
         Notebook {
@@ -57,6 +66,13 @@ impl Notebook {
             room,
         }
     }
+
+    /// What was noted, in order. It takes constant time and no memory.
+    pub fn lines(&self) -> &[u64]
+        ensures { result.now ≡ self.now.lines }
+    {
+        self.lines.as_slice()
+    }
 }
 
 impl Track for Notebook {
@@ -64,12 +80,12 @@ impl Track for Notebook {
 
     type Answer = u64;
 
-    ghost use Rattle.comemo_samples.specs.Writers.{noted};
+    ghost use Rattle.comemo_samples.specs.Notebooks.{noted};
 
     ghost answers = { λ s _. s.owner };
 
     ghost wrote = { λ s call t. (t.owner ≡ s.owner)
-        × (t.lines.items ≡ s.lines.items ++ noted call) };
+        × (t.lines ≡ s.lines ++ noted call) };
 
     ghost alike = { λ s x y h. Prim.search rules };
 
@@ -86,7 +102,7 @@ impl Track for Notebook {
                 if self.lines.len() >= self.room {
                     return Err(AllocError);
                 }
-                self.lines.push(*number)
+                Ok(self.lines.push(*number)?)
             }
         }
     }

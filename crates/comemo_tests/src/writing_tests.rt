@@ -34,7 +34,7 @@ fn a_write_is_done_and_recorded(rt: HostRuntime) -> Result<(), Fail> {
     view.write(NotebookCall::Note(5), &mut recording)?;
     assert_eq!(rt; view.ask(NotebookCall::Owner, &mut recording)?, 7);
     view.write(NotebookCall::Note(6), &mut recording)?;
-    assert_eq!(rt; book.lines.as_slice(), [5, 6].as_slice());
+    assert_eq!(rt; book.lines(), [5, 6].as_slice());
     assert!(rt; recording.is_whole());
     expect_recorded(&rt, recording, Some(7), [5, 6].as_slice());
     Ok(())
@@ -48,7 +48,7 @@ fn a_refused_write_is_neither_done_nor_recorded(rt: HostRuntime) -> Result<(), F
     let mut view = book.track_mut(alloc);
     view.write(NotebookCall::Note(5), &mut recording)?;
     assert!(rt; view.write(NotebookCall::Note(6), &mut recording).is_err());
-    assert_eq!(rt; book.lines.as_slice(), [5].as_slice());
+    assert_eq!(rt; book.lines(), [5].as_slice());
     assert!(rt; recording.is_whole());
     expect_recorded(&rt, recording, None, [5].as_slice());
     Ok(())
@@ -64,7 +64,7 @@ fn a_view_with_a_sink_sends_what_it_asks_and_writes(rt: HostRuntime) -> Result<(
     assert_eq!(rt; view.ask(NotebookCall::Owner)?, 7);
     assert_eq!(rt; format!(in alloc; "{view:?}")?.as_str(), "TrackedMut(..)");
     drop(view);
-    assert_eq!(rt; book.lines.as_slice(), [5].as_slice());
+    assert_eq!(rt; book.lines(), [5].as_slice());
     expect_recorded(&rt, recording, Some(7), [5].as_slice());
     Ok(())
 }
@@ -88,7 +88,7 @@ fn views_of_views_are_of_the_same_value(rt: HostRuntime) -> Result<(), Fail> {
     );
     let mut reading = TrackedMut::downgrade(view, alloc);
     assert_eq!(rt; reading.ask(NotebookCall::Owner, &mut Top::new())?, 7);
-    assert_eq!(rt; book.lines.as_slice(), [5, 6].as_slice());
+    assert_eq!(rt; book.lines(), [5, 6].as_slice());
     Ok(())
 }
 
@@ -147,7 +147,7 @@ fn a_hit_writes_again_in_order(rt: HostRuntime) -> Result<(), Fail> {
         let reply = note(alloc, &mut cache, number, &mut book, &mut recording, true)?;
         assert_eq!(rt; (reply.output, reply.how), (owner, how));
         let lines = [number, owner, number];
-        assert_eq!(rt; book.lines.as_slice(), lines.as_slice());
+        assert_eq!(rt; book.lines(), lines.as_slice());
         assert!(rt; recording.is_whole());
         expect_recorded(&rt, recording, Some(owner), lines.as_slice());
     }
@@ -169,7 +169,7 @@ fn a_call_that_is_not_enabled_writes_and_keeps_nothing(rt: HostRuntime) -> Resul
         let reply = note(alloc, &mut cache, 3, &mut book, &mut Top::new(), enabled)?;
         assert_eq!(rt; (reply.output, reply.how), (7, how));
     }
-    assert_eq!(rt; book.lines.as_slice(), [3, 7, 3, 3, 7, 3, 3, 7, 3].as_slice());
+    assert_eq!(rt; book.lines(), [3, 7, 3, 3, 7, 3, 3, 7, 3].as_slice());
     assert_eq!(rt; cache.len(), 1);
     Ok(())
 }
@@ -186,13 +186,13 @@ fn a_hit_stops_at_a_refused_write(rt: HostRuntime) -> Result<(), Fail> {
         let mut recording = Constraint::new(alloc);
         let stopped = note(alloc, &mut cache, 3, &mut short, &mut recording, true);
         assert!(rt; matches!(stopped, Err(Fault::Write)));
-        assert_eq!(rt; short.lines.as_slice(), &[3, 7, 3][..room]);
+        assert_eq!(rt; short.lines(), &[3, 7, 3][..room]);
         assert!(rt; !recording.is_whole());
         expect_recorded(&rt, recording, Some(7), &[3, 7, 3][..room]);
     }
     let again = note(alloc, &mut cache, 3, &mut ample, &mut Top::new(), true)?;
     assert_eq!(rt; (again.output, again.how), (7, How::Hit));
-    assert_eq!(rt; ample.lines.as_slice(), [3, 7, 3, 3, 7, 3].as_slice());
+    assert_eq!(rt; ample.lines(), [3, 7, 3, 3, 7, 3].as_slice());
     Ok(())
 }
 
@@ -205,7 +205,7 @@ fn a_run_that_is_refused_a_write_keeps_nothing(rt: HostRuntime) -> Result<(), Fa
         let mut recording = Constraint::new(alloc);
         let refused = note(alloc, &mut cache, 3, &mut short, &mut recording, true);
         assert!(rt; matches!(refused, Err(Fault::Memory)));
-        assert_eq!(rt; short.lines.as_slice(), &[3, 7, 3][..room]);
+        assert_eq!(rt; short.lines(), &[3, 7, 3][..room]);
         assert!(rt; !recording.is_whole());
         assert_eq!(rt; cache.len(), 0);
     }
