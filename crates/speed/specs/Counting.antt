@@ -1,5 +1,5 @@
 -- What the memoized function that writes gives, and what it adds.
-use Rattle.std.specs.Prelude.{ℕ, zero, suc, ◌+◌, List, [], ◌∷◌}
+use Rattle.std.specs.Prelude.{◌≡◌, ℕ, zero, suc, ◌+◌, ◌%◌, ◌^◌, List, [], ◌∷◌, ◌++◌}
 use Rattle.comemo_samples.specs.declared.counter.CounterCall.{CounterCall}
 use Rattle.comemo_samples.specs.Writers.{added}
 
@@ -12,3 +12,7 @@ amount (call ∷ calls) = added call + amount calls
 abbrev pub sum_from : ℕ → ℕ → ℕ
 sum_from first zero = 0
 sum_from first (suc n) = first + sum_from (first + 1) n
+
+-- after some writes come others, which add so much, in 64 bits
+abbrev pub Adds : List CounterCall → List CounterCall → ℕ → Type 0
+Adds before after sum = (more : List CounterCall) × (after ≡ before ++ more) × (amount more % 2 ^ 64 ≡ sum)

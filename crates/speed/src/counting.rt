@@ -1,6 +1,8 @@
 //! A memoized function that writes: it adds numbers to a counter, each at a level of its own.
-ghost use Rattle.std.specs.Prelude.{◌≡◌, ◌+◌, ◌%◌, ◌^◌, IfOk, OnErr};
-ghost use Rattle.speed.specs.Counting.{amount, sum_from};
+ghost use Rattle.std.specs.Prelude.{◌≡◌, ◌+◌, ◌%◌, ◌^◌, IfOk};
+ghost use Rattle.std.proofs.Common.{rules, subst};
+ghost use Rattle.speed.specs.Counting.{Adds, amount, sum_from};
+ghost use Rattle.speed.specs.CountingLaws.{same_amount};
 
 use comemo::{
     Begun, CacheData, Constraint, Fault, How, KeyedMut, Memo, Reply, Sink, Top, Track, begin,
@@ -33,7 +35,14 @@ impl Memo for CountMemo {
     ghost def = { λ key _ out writes. (out ≡ sum_from key.first key.count % 2 ^ 64)
         × (amount writes % 2 ^ 64 ≡ out) };
 
-    ghost laws = { Prim.search rules };
+    ghost laws = { record {
+      outputs = Prim.search rules;
+      keys = Prim.search rules;
+      writes = λ key m output V W r same h.
+          (h.0, subst (λ n. n % 2 ^ 64 ≡ output) (same_amount V W same) h.1);
+      key_clones = Prim.search rules;
+      answer_clones = Prim.search rules;
+    } };
 }
 
 /// Adds the first number to a counter, and has the others added one level below.
@@ -44,7 +53,14 @@ fn add_each(
     numbers: Numbers,
     counter: &mut Counter,
     recording: &mut Constraint<CounterCall, ()>,
-) -> Result<u64, Fault> {
+) -> Result<u64, Fault>
+    ensures output { IfOk result (λ sum.
+        sum ≡ sum_from numbers.first numbers.count % 2 ^ 64) }
+    ensures added { IfOk result (λ sum.
+        counter.new.number % 2 ^ 64 ≡ (counter.old.number + sum) % 2 ^ 64) }
+    ensures recorded { IfOk result (λ sum.
+        Adds recording.old.writes recording.new.writes sum) }
+{
     if numbers.count == 0 {
         return Ok(0);
     }
@@ -70,7 +86,14 @@ fn count_within(
     numbers: Numbers,
     counter: &mut Counter,
     recording: &mut Constraint<CounterCall, ()>,
-) -> Result<Reply<u64>, Fault> {
+) -> Result<Reply<u64>, Fault>
+    ensures output { IfOk result (λ reply.
+        reply.output ≡ sum_from numbers.first numbers.count % 2 ^ 64) }
+    ensures added { IfOk result (λ reply.
+        counter.new.number % 2 ^ 64 ≡ (counter.old.number + reply.output) % 2 ^ 64) }
+    ensures recorded { IfOk result (λ reply.
+        Adds recording.old.writes recording.new.writes reply.output) }
+{
     let mut input = KeyedMut {
         key: numbers,
         value: counter,
@@ -100,7 +123,7 @@ pub fn count_up(
     ensures output { IfOk result (λ reply.
         reply.output ≡ sum_from numbers.first numbers.count % 2 ^ 64) }
     ensures added { IfOk result (λ reply.
-        counter.new.number ≡ (counter.old.number + reply.output) % 2 ^ 64) }
+        counter.new.number % 2 ^ 64 ≡ (counter.old.number + reply.output) % 2 ^ 64) }
 {
     let mut sink = Top::new();
     let mut input = KeyedMut {
