@@ -1,5 +1,5 @@
 -- What writes add to a counter, and the sum of numbers that follow each other.
-use Rattle.std.proofs.Common.{◌≡◌, ◌+◌, ◌%◌, ◌^◌, ◌<◌, ◌++◌, ℕ, zero, suc, Bool, List, [], ◌∷◌, arith, ap, refl}
+use Rattle.std.proofs.Common.{◌≡◌, ◌+◌, ◌%◌, ◌^◌, ℕ, zero, suc, Bool, List, [], ◌∷◌, arith, ap, refl}
 use Rattle.comemo.specs.Writing.{Done}
 use Rattle.comemo_samples.specs.Writers.{added}
 use Rattle.comemo_samples.specs.declared.counter.Counter.{Counter}

@@ -1,5 +1,5 @@
 -- That equal writes add the same, which the trait asks. It says nothing that a reader must believe.
-use Rattle.std.proofs.Common.{◌≡◌, ◌+◌, ◌∙◌, List, [], ◌∷◌, IsTrue, ℕ, ap, refl, rules}
+use Rattle.std.proofs.Common.{◌≡◌, ◌+◌, ◌∙◌, List, [], ◌∷◌, IsTrue, ap, refl, rules}
 use Rattle.comemo.specs.Meaning.{SameWrites}
 use Rattle.comemo_samples.specs.Writers.{added}
 use Rattle.comemo_samples.specs.declared.counter.CounterCall.{CounterCall}
