@@ -161,11 +161,7 @@ fn a_call_that_is_not_enabled_writes_and_keeps_nothing(rt: HostRuntime) -> Resul
     let mut cache = CacheData::new(alloc);
     let mut book = Notebook::new(alloc, 7, 9);
     for enabled in [false, true, false] {
-        let how = if enabled {
-            How::Stored
-        } else {
-            How::Disabled
-        };
+        let how = if enabled { How::Stored } else { How::Disabled };
         let reply = note(alloc, &mut cache, 3, &mut book, &mut Top::new(), enabled)?;
         assert_eq!(rt; (reply.output, reply.how), (7, how));
     }
