@@ -21,8 +21,6 @@ mod fault_tests;
 #[cfg(test)]
 mod faults;
 #[cfg(test)]
-mod fibonacci;
-#[cfg(test)]
 mod functions;
 #[cfg(test)]
 mod inputs;
