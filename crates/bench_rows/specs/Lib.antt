@@ -1,3 +1,3 @@
 pub mod Fibonacci
 pub mod Started
-pub mod Places
+pub mod PlaceAnswers

@@ -29,7 +29,7 @@ mod hashes;
 mod numbers;
 mod orders;
 mod outcome;
-mod output;
+mod place;
 mod places;
 mod program;
 mod recordings;

@@ -2,19 +2,19 @@
 ghost use Rattle.std.proofs.Common.{rules};
 
 use crate::broken::Broken;
+use crate::place::{Place, PlaceAnswer, PlaceCall};
 use comemo::{Begun, CacheData, Constraint, Fault, How, Memo, Reply, Top, Track, begin};
-use comemo_samples::{Context, ContextCall};
 use std::alloc::{AllocError, Global};
 
-/// A function of which any text is right, so that its runs may ask what they like.
+/// A function of a place of which any text is right, so that its runs may ask what they like.
 struct AnyText;
 
 impl Memo for AnyText {
-    type Call = ContextCall;
+    type Call = PlaceCall;
 
     type Key = ();
 
-    type Answer = u64;
+    type Answer = PlaceAnswer;
 
     type Out = String;
 
@@ -23,18 +23,26 @@ impl Memo for AnyText {
     ghost laws = { Prim.search rules };
 }
 
-/// The text of a context, by these reads in their order.
-fn ask_all(
+/// What is said of a place after these reads, in their order: where it is, if that was asked, and then how it is set.
+fn said_after(
     alloc: Global,
-    context: &Context,
-    calls: &[ContextCall],
-    recording: &mut Constraint<ContextCall, u64>,
+    place: &Place,
+    reads: &[PlaceCall],
+    recording: &mut Constraint<PlaceCall, PlaceAnswer>,
 ) -> Result<String, AllocError> {
-    let mut view = context.track(alloc);
-    for call in calls {
-        let _ = view.ask(*call, recording)?;
+    let mut view = place.track(alloc);
+    let mut location = None;
+    let mut styles = None;
+    for read in reads {
+        match view.ask(*read, recording)? {
+            PlaceAnswer::At(number) => location = Some(number),
+            PlaceAnswer::Set(text) => styles = Some(text),
+        }
     }
-    format!(in alloc; "Some({}) styles", context.location)
+    match styles {
+        Some(text) => format!(in alloc; "{location:?} {text}"),
+        None => format!(in alloc; "{location:?}"),
+    }
 }
 
 /// Calls the function at a location, to ask these reads where it runs.
@@ -42,25 +50,16 @@ fn text_at(
     alloc: Global,
     cache: &mut CacheData<AnyText>,
     location: u64,
-    calls: &[ContextCall],
+    reads: &[PlaceCall],
 ) -> Result<Reply<String>, Fault> {
-    let context = Context {
-        location,
-        styles: 40,
-    };
-    match begin(
-        alloc,
-        cache,
-        &mut context.track(alloc),
-        &mut Top::new(),
-        true,
-    )? {
+    let place = Place::at(alloc, location)?;
+    match begin(alloc, cache, &mut place.track(alloc), &mut Top::new(), true)? {
         Begun::Hit(output) => Ok(Reply {
             output,
             how: How::Hit,
         }),
         Begun::Run(mut pending) => {
-            let Ok(text) = ask_all(alloc, &context, calls, pending.recording()) else {
+            let Ok(text) = said_after(alloc, &place, reads, pending.recording()) else {
                 pending.give_up(&mut Top::new());
                 return Err(Fault::Memory);
             };
@@ -69,37 +68,38 @@ fn text_at(
     }
 }
 
-/// Whether calls at these locations, which ask these reads, give these texts, and this becomes of them.
-fn texts_are(
-    alloc: Global,
-    calls: &[(u64, &[ContextCall], &str, How)],
-    kept: usize,
-) -> Result<bool, Fault> {
+/// A call of the function: the location, the reads of a run, and then its text, what becomes of the call, and how many
+/// entries are kept.
+type Call<'a> = (u64, &'a [PlaceCall], &'a str, How, usize);
+
+/// Whether calls in a new cache give what they are to give.
+fn hold(alloc: Global, calls: &[Call<'_>]) -> Result<bool, Fault> {
     let mut cache = CacheData::new(alloc);
-    for (location, reads, text, how) in calls {
+    for (location, reads, text, how, kept) in calls {
         let reply = text_at(alloc, &mut cache, *location, *reads)?;
-        if reply.output.as_str() != *text || reply.how != *how {
+        let is_given = reply.output.as_str() == *text && reply.how == *how;
+        if !is_given || cache.len() != *kept {
             return Ok(false);
         }
     }
-    Ok(cache.len() == kept)
+    Ok(true)
 }
 
 /// Whether a run that lacks a stored read is not kept, and one that asks in another order takes the same path.
 pub(crate) fn runs_in_another_order(alloc: Global) -> Result<bool, Broken> {
-    let location = [ContextCall::Location];
-    let styles = [ContextCall::Styles];
-    let lacking: [(u64, &[ContextCall], &str, How); 2] = [
-        (0, &location, "Some(0) styles", How::Stored),
-        (1, &styles, "Some(1) styles", How::MissingCall),
+    let location = [PlaceCall::Location];
+    let styles = [PlaceCall::Styles];
+    let in_order = [PlaceCall::Location, PlaceCall::Styles];
+    let turned = [PlaceCall::Styles, PlaceCall::Location];
+    let lacking: [Call<'_>; 2] = [
+        (0, &location, "Some(0)", How::Stored, 1),
+        (1, &styles, "None styles", How::MissingCall, 1),
     ];
-    let in_order = [ContextCall::Location, ContextCall::Styles];
-    let turned = [ContextCall::Styles, ContextCall::Location];
-    let ordered: [(u64, &[ContextCall], &str, How); 4] = [
-        (0, &in_order, "Some(0) styles", How::Stored),
-        (0, &turned, "Some(0) styles", How::Hit),
-        (1, &turned, "Some(1) styles", How::Stored),
-        (1, &turned, "Some(1) styles", How::Hit),
+    let ordered: [Call<'_>; 4] = [
+        (0, &in_order, "Some(0) styles", How::Stored, 1),
+        (0, &turned, "Some(0) styles", How::Hit, 1),
+        (1, &turned, "Some(1) styles", How::Stored, 2),
+        (1, &turned, "Some(1) styles", How::Hit, 2),
     ];
-    Ok(texts_are(alloc, &lacking, 1)? && texts_are(alloc, &ordered, 2)?)
+    Ok(hold(alloc, &lacking)? && hold(alloc, &ordered)?)
 }

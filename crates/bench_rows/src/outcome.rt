@@ -4,7 +4,7 @@ ghost use Rattle.bench_rows.specs.Started.{verdict, status_of};
 ghost use Rattle.calc_lines.specs.Started.{WritesFront};
 
 use crate::broken::Broken;
-use crate::output::put_message;
+use calc_lines::put_message;
 use std::io::Write;
 use std::marker::Model;
 

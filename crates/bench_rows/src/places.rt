@@ -1,72 +1,10 @@
 //! The row of a function at many places, under one key.
-ghost use Rattle.std.specs.Prelude.{false, refl};
 ghost use Rattle.std.proofs.Common.{rules};
 
 use crate::broken::Broken;
-use comemo::{Begun, CacheData, Call, Constraint, Fault, How, Memo, Reply, Top, Track, begin};
+use crate::place::{Place, PlaceAnswer, PlaceCall};
+use comemo::{Begun, CacheData, Constraint, Fault, How, Memo, Reply, Top, Track, begin};
 use std::alloc::{AllocError, Global};
-use std::cell::Cell;
-use std::hash::Hash;
-
-/// A read of a place.
-#[derive(Clone, Copy, Drop, Debug, PartialEq, Eq, Hash)]
-enum PlaceCall {
-    /// Where it is.
-    Location,
-    /// How it is set.
-    Styles,
-}
-
-impl Call for PlaceCall {
-    ghost is_write = { λ _. false };
-
-    ghost same_kind = { λ x y h. refl };
-
-    ghost clones = { λ x y h. Prim.search rules };
-
-    fn is_mutable(&self) -> bool {
-        false
-    }
-}
-
-/// What a place answers.
-#[derive(Clone, Drop, Debug, PartialEq, Eq, PartialOrd, Ord)]
-enum PlaceAnswer {
-    /// To where it is.
-    At(u64),
-    /// To how it is set.
-    Set(String),
-}
-
-/// A place, which counts how often it is asked.
-#[derive(Drop)]
-struct Place {
-    location: u64,
-    styles: String,
-    asked: Cell<u64>,
-}
-
-impl Track for Place {
-    type Call = PlaceCall;
-
-    type Answer = PlaceAnswer;
-
-    ghost use Rattle.bench_rows.specs.Places.{place_answer};
-
-    ghost answers = { λ s call. place_answer s.location s.styles call };
-
-    ghost alike = { λ s x y h. Prim.search rules };
-
-    ghost clones = { λ x y h. Prim.search rules };
-
-    fn ask(&self, call: &PlaceCall) -> Result<PlaceAnswer, AllocError> {
-        self.asked.set(self.asked.get().wrapping_add(1));
-        match call {
-            PlaceCall::Location => Ok(PlaceAnswer::At(self.location)),
-            PlaceCall::Styles => Ok(PlaceAnswer::Set(self.styles.clone()?)),
-        }
-    }
-}
 
 /// A function of a place of which any text is right.
 struct AnySaid;
@@ -110,9 +48,9 @@ fn contextual(
     cache: &mut CacheData<AnySaid>,
     place: &Place,
 ) -> Result<(Reply<String>, u64), Fault> {
-    let before = place.asked.get();
+    let before = place.asked();
     let begun = begin(alloc, cache, &mut place.track(alloc), &mut Top::new(), true)?;
-    let asked = place.asked.get().wrapping_sub(before);
+    let asked = place.asked().wrapping_sub(before);
     match begun {
         Begun::Hit(output) => {
             let how = How::Hit;
@@ -129,15 +67,6 @@ fn contextual(
     }
 }
 
-/// The place at a location.
-fn place_at(alloc: Global, location: u64) -> Result<Place, AllocError> {
-    Ok(Place {
-        location,
-        styles: String::from_str(alloc, "styles")?,
-        asked: Cell::new(0),
-    })
-}
-
 /// What the function gives at a location.
 fn expected_at(alloc: Global, location: u64) -> Result<String, AllocError> {
     if location == 5 {
@@ -152,14 +81,14 @@ pub(crate) fn a_thousand_places_are_kept(alloc: Global) -> Result<bool, Broken> 
     let mut cache = CacheData::new(alloc);
     let mut in_vain: u64 = 0;
     for location in 0..1000_u64 {
-        let (reply, asked) = contextual(alloc, &mut cache, &place_at(alloc, location)?)?;
+        let (reply, asked) = contextual(alloc, &mut cache, &Place::at(alloc, location)?)?;
         in_vain = in_vain.saturating_add(asked);
         if reply.output != expected_at(alloc, location)? || reply.how != How::Stored {
             return Ok(false);
         }
     }
     for location in 0..1000_u64 {
-        let (reply, asked) = contextual(alloc, &mut cache, &place_at(alloc, location)?)?;
+        let (reply, asked) = contextual(alloc, &mut cache, &Place::at(alloc, location)?)?;
         let wanted = if location == 5 { 2 } else { 1 };
         let is_as_before = reply.output == expected_at(alloc, location)?;
         if !is_as_before || reply.how != How::Hit || asked != wanted {

@@ -1,10 +1,10 @@
 //! The program: words in, a verdict out.
-ghost use Rattle.std.specs.Prelude.{◌≡◌, ℕ, List, Option, true, false};
-ghost use Rattle.bench_rows.specs.Started.{asks_for_rows, status_of, usage, verdict};
+ghost use Rattle.std.specs.Prelude.{◌≡◌, true, false};
+ghost use Rattle.bench_rows.specs.Started.{asks_for_rows, RanRows, usage};
 ghost use Rattle.calc_lines.specs.Started.{WritesFront};
 
-use crate::output::put_message;
 use crate::table::run_rows;
+use calc_lines::put_message;
 use std::alloc::Global;
 use std::io::Write;
 
@@ -30,9 +30,8 @@ pub fn start<W: Write, E: Write>(
     writer: &mut W,
     errors: &mut E,
 ) -> u8
-    ensures rows { asks_for_rows words.now ≡ true → (failed : Option (List ℕ))
-        × (result ≡ status_of failed)
-        × WritesFront (W.contents writer.old) (W.contents writer.new) (verdict failed) }
+    ensures rows { asks_for_rows words.now ≡ true
+        → RanRows (W.contents writer.old) (W.contents writer.new) result }
     ensures rows_keep_errors { asks_for_rows words.now ≡ true → errors.new ≡ errors.old }
     ensures usage { asks_for_rows words.now ≡ false → result ≡ 2 }
     ensures usage_written { asks_for_rows words.now ≡ false
