@@ -1,5 +1,5 @@
 //! What became of rows: the first that failed.
-ghost use Rattle.std.specs.Prelude.{◌≡◌, true, None, Some, Ok};
+ghost use Rattle.std.specs.Prelude.{◌≡◌, ◌≢◌, true, None, Some, Ok, IsSome};
 ghost use Rattle.bench_rows.specs.Started.{verdict, status_of};
 ghost use Rattle.calc_lines.specs.Started.{WritesFront};
 
@@ -36,8 +36,8 @@ impl Outcome {
     /// other counts. It takes no memory and refuses nothing.
     pub fn row(&mut self, number: &'static str, came_to: Result<bool, Broken>)
         ensures held { came_to ≡ Ok true → self.new ≡ self.old }
-        ensures earlier { (self.old ≡ None → ⊥) → self.new ≡ self.old }
-        ensures failed { self.old ≡ None → (came_to ≡ Ok true → ⊥) → self.new ≡ Some number.now }
+        ensures earlier { IsSome self.old → self.new ≡ self.old }
+        ensures failed { self.old ≡ None → came_to ≢ Ok true → self.new ≡ Some number.now }
     {
         if let Ok(true) = came_to {
             return;
