@@ -1,4 +1,6 @@
 //! The rows by their numbers.
+ghost use Rattle.std.specs.Prelude.{IfSome, Contains};
+ghost use Rattle.bench_rows.specs.Started.{row_numbers};
 
 use crate::chains::chains_share_what_is_kept;
 use crate::hashes::{a_kept_hash_follows_its_item, two_pieces_hash_as_the_whole};
@@ -24,7 +26,9 @@ use std::alloc::Global;
 ///
 /// The longest, of a thousand places, calls a function two thousand times; each of the others makes some dozen calls.
 /// A row for which there is no memory fails. This project's own.
-pub fn run_rows(alloc: Global) -> Outcome {
+pub fn run_rows(alloc: Global) -> Outcome
+    ensures { IfSome result (Contains row_numbers) }
+{
     let mut rows = Outcome::new();
     rows.row("1", paths_that_part(alloc));
     rows.row("2", a_path_follows_the_stored_ones(alloc));
