@@ -120,26 +120,26 @@ read_agrees calls laws {call} respects s t before reply k whole =
     still_agrees calls laws call.answers respects k.gives.given k.writes k.gives.are_sent ((k.gives.agreeing call.answers respects).1 k.agrees) before whole
 
 -- what is spoiled is not whole
-pub spoiled_any : {C R : Type 0} {t : Recording C R} {X : Type 0} → t.whole ≡ false → t.whole ≡ true → X
-spoiled_any broken whole = let e : true ≡ false = sym whole ∙ broken in cc
+pub spoiled_any : (b : Bool) {X : Type 0} → b ≡ false → b ≡ true → X
+spoiled_any b broken whole = let e : true ≡ false = sym whole ∙ broken in cc
 
 -- after a fault of a call, the recording is spoiled
 pub failed_spoils : {K C R O : Type 0} {M : Meaning K C R O} {es es' : Entries K C R O} {call : Invocation K C R} {done : List C → Type 0} {s t : Recording C R} → IsFailed M es call done (BreaksOff (Took M.same_call) Spoiled s t) (SpoiledAfter (Took M.same_call) Spoiled s t) es' → t.whole ≡ false
 failed_spoils (inl a) = a.1.is_broken.spoiled.whole
 failed_spoils (inr b) = b.1.is_spoiled.spoiled.whole
 
-module _ {V K C R O : Type 0} {M : Meaning K C R O} {es mid es' : Entries K C R O} {call : Invocation K C R} {did : V → V → List C → Type 0} {s t : Lent V C R} (same_recording : t.recording.ghost_name ≡ s.recording.ghost_name) where
-  -- the writes are those that were, after a call of a function that reads
-  pub read_writes : (reply : Reply O) (k : IsReply M call es mid (Took M.same_call s.recording.now t.recording.now) reply es') → k.writes ≡ [] → t.recording.now.writes ≡ s.recording.now.writes
-  read_writes reply k none = append-nil s.recording.now.writes ∙ (ap (λ W. s.recording.now.writes ++ W) none ∙ k.gives.are_sent.writes)
+-- the writes are those that were, after a call of a function that reads
+pub read_writes : {K C R O : Type 0} {M : Meaning K C R O} {es mid es' : Entries K C R O} {call : Invocation K C R} (s t : Recording C R) (reply : Reply O) (k : IsReply M call es mid (Took M.same_call s t) reply es') → k.writes ≡ [] → t.writes ≡ s.writes
+read_writes s t reply k none = k.gives.are_sent.writes ∙ (ap (λ W. s.writes ++ W) none ∙ append-nil s.writes)
 
+module _ {V K C R O : Type 0} {M : Meaning K C R O} {es mid es' : Entries K C R O} {call : Invocation K C R} {did : V → V → List C → Type 0} {s t : Lent V C R} (same_recording : t.recording.ghost_name ≡ s.recording.ghost_name) where
   -- after a call of a function that reads
   pub tells_read : IsEquivalence M.same_call → IsEquivalence M.same_answer → Respects M.same_call M.same_answer call.answers → t.value ≡ s.value → (s.recording.now.whole ≡ true → Agrees M.same_answer call.answers s.recording.now.pairs) → (reply : Reply O) (k : IsReply M call es mid (Took M.same_call s.recording.now t.recording.now) reply es') → k.writes ≡ [] → TellsMut did (Fits M.same_call M.same_answer) s t (Ok reply.output) (λ output n. M.def call.key n output [])
   tells_read calls answers respects value before reply k none =
       let took = k.gives.are_sent in
       let agrees = (k.gives.agreeing call.answers respects).1 k.agrees in
       record {
-        goes = goes_nowhere same_recording value (read_writes reply k none) (λ w. sym took.whole ∙ w);
+        goes = goes_nowhere same_recording value (read_writes s.recording.now t.recording.now reply k none) (λ w. sym took.whole ∙ w);
         before = fitted calls answers call.answers respects k.gives.given k.writes took agrees before;
         told = λ n f. subst (λ W. M.def call.key n reply.output W) none (k.stands n f.respects ((k.gives.agreeing n f.respects).0 (fits_taken calls answers call.answers respects k.gives.given k.writes took agrees before n f)));
         fault = tt;

@@ -6,8 +6,8 @@ ghost use Rattle.comemo.specs.Begin.{Reaches};
 ghost use Rattle.comemo.specs.Finish.{BrokeOff};
 ghost use Rattle.comemo.specs.FunctionMut.{Lent, lent, AgreesNow, Goes, TellsMut, LawsMut, IsFailed};
 ghost use Rattle.comemo_base.specs.Answers.{Agrees};
-ghost use Rattle.comemo_track.specs.Recording.{Took, Spoiled};
-ghost use Rattle.comemo_track.specs.Sending.{BreaksOff, SpoiledAfter};
+ghost use Rattle.comemo_track.specs.Recording.{Recording, Took, Spoiled};
+ghost use Rattle.comemo_track.specs.Sending.{Asks, BreaksOff, SpoiledAfter};
 
 use crate::cache::{CacheData, Meant, Memo};
 use crate::function::{FunctionOf, Told, memoized};
@@ -25,10 +25,16 @@ use std::marker::PhantomData;
 pub trait ToldMut: Track {
     // while nothing is lost of the recording, the value's answers agree with it
     ghost agrees: { Lent Self Self.Call Self.Answer → Type 0 };
+
+    // the second recording is the first after it took these pairs and these writes
+    ghost took: { Recording Self.Call Self.Answer → Recording Self.Call Self.Answer
+        → List (Self.Call × Self.Answer) → List Self.Call → Type 0 };
 }
 
 impl<T: Track> ToldMut for T {
     ghost agrees = { AgreesNow T.Answer.eq T.answers };
+
+    ghost took = { Took T.Call.eq };
 }
 
 /// A memoized function of a key and a tracked value, which it reads and writes.
@@ -104,9 +110,13 @@ impl<'a, 'b, T: Track> RecorderMut<'a, 'b, T> {
         ensures tells { TellsMut ⟦<T as Written>⟧.did ⟦<T as Told>⟧.fits
             (lent self.old.value self.old.recording) (lent self.new.value self.new.recording) result
             (λ answer m. IsTrue (T.Answer.eq (m call) answer)) }
+        ensures asks { IfOk result
+            (λ answer. Asks T.Answer.eq (T.answers self.old.value.now) call answer
+            (Took T.Call.eq self.old.recording.now self.new.recording.now)) }
         ensures writes { self.new.recording.now.writes ≡ self.old.recording.now.writes }
         ensures value { self.new.value ≡ self.old.value }
-        ensures fault { IfErr result (λ fault. fault ≡ Fault.Memory) }
+        ensures err { IfErr result (λ fault. (fault ≡ Fault.Memory)
+            × Took T.Call.eq self.old.recording.now self.new.recording.now [] []) }
     {
         let mut view = self.value.track(self.alloc);
         Ok(view.ask(call, self.recording)?)
@@ -124,13 +134,13 @@ impl<'a, 'b, T: Track> RecorderMut<'a, 'b, T> {
         ensures tells { TellsMut ⟦<T as Written>⟧.did ⟦<T as Told>⟧.fits
             (lent self.old.value self.old.recording) (lent self.new.value self.new.recording) result
             (λ _ _. ⊤) }
-        ensures writes { OnOk result
-            (self.new.recording.now.writes ≡ self.old.recording.now.writes ++ call ∷ []) }
+        ensures sent { OnOk result
+            (Took T.Call.eq self.old.recording.now self.new.recording.now [] (call ∷ [])) }
         ensures did { OnOk result (⟦<T as Written>⟧.did
             self.old.value.now self.new.value.now (call ∷ [])) }
-        ensures err { OnErr result ((self.new.value.now ≡ self.old.value.now)
-            × (self.new.recording.now.writes ≡ self.old.recording.now.writes)) }
-        ensures fault { IfErr result (λ fault. fault ≡ Fault.Memory) }
+        ensures kept { OnErr result (self.new.value.now ≡ self.old.value.now) }
+        ensures err { IfErr result (λ fault. (fault ≡ Fault.Memory)
+            × Took T.Call.eq self.old.recording.now self.new.recording.now [] []) }
     {
         self.recording.has_reads_and_writes();
         let mut view = self.value.track_mut(self.alloc);

@@ -49,5 +49,7 @@ pub use comemo_track::{
 };
 pub use comemo_tree::CallTree;
 pub use function::{Function, FunctionOf, MemoOf, Recorder, Told, memoized};
-pub use function_mut::{FunctionMut, FunctionMutOf, MemoOfMut, RecorderMut, memoized_mut};
+pub use function_mut::{
+    FunctionMut, FunctionMutOf, MemoOfMut, RecorderMut, ToldMut, memoized_mut,
+};
 pub use pending::{Begun, Fault, How, Invoked, Pending, Reply, begin};

@@ -25,7 +25,7 @@
 //! assert_eq!(rt; counter.number, 2);
 //! ```
 //!
-//! An emitter and a counter take writes alone, each of the other values answers reads alone. Answers that are numbers take
+//! An emitter and a counter take writes alone, a notebook takes reads and writes, each of the other values answers reads alone. Answers that are numbers take
 //! no memory and are never refused.
 #![tactic(auto)]
 
@@ -33,10 +33,12 @@ pub mod cells;
 pub mod contexts;
 pub mod counter;
 pub mod emitter;
+pub mod notebook;
 pub mod town;
 
 pub use cells::{Cells, Get};
 pub use contexts::{Context, ContextCall, Page, Place, Row};
 pub use counter::{Counter, CounterCall};
 pub use emitter::{Emitter, EmitterCall};
+pub use notebook::{Notebook, NotebookCall};
 pub use town::{Town, TownCall};

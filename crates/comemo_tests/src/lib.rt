@@ -30,6 +30,8 @@ mod joined_runs;
 #[cfg(test)]
 mod nested;
 #[cfg(test)]
+mod notes;
+#[cfg(test)]
 mod order_tests;
 #[cfg(test)]
 mod recordings;
@@ -44,3 +46,5 @@ pub mod sinks;
 mod view_tests;
 #[cfg(test)]
 mod views;
+#[cfg(test)]
+mod writing_tests;

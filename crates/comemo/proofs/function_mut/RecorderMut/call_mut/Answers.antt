@@ -18,7 +18,7 @@ pub returns-in_err-reply-clause-tells : goal.returns-in_err-reply-clause-tells
 returns-in_err-reply-clause-tells g c = tells_failed refl refl (done_both g.T.Track.wrote g.T.Call.Call.is_write g.T.Answer.PartialEq.eq g.T.Track.answers) c.memoized_mut.ensures.reached (failed_spoils c.in_err-reply.ensures.err) c.from_residual.result c.from_residual.ensures.0
 
 pub returns-in_err-reply-clause-agrees : goal.returns-in_err-reply-clause-agrees
-returns-in_err-reply-clause-agrees g c = spoiled_any (failed_spoils c.in_err-reply.ensures.err)
+returns-in_err-reply-clause-agrees g c = spoiled_any _ (failed_spoils c.in_err-reply.ensures.err)
 
 pub returns-in_err-reply-clause-err : goal.returns-in_err-reply-clause-err
 returns-in_err-reply-clause-err g c = on_err c.from_residual.result c.in_err-reply.ensures.err
