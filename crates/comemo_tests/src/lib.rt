@@ -32,8 +32,6 @@ mod nested;
 #[cfg(test)]
 mod notes;
 #[cfg(test)]
-mod order_tests;
-#[cfg(test)]
 mod recordings;
 #[cfg(test)]
 mod replies;
