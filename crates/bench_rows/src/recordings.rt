@@ -3,19 +3,19 @@ ghost use Rattle.std.specs.Prelude.{◌≡◌, true, false};
 ghost use Rattle.std.proofs.Common.{rules};
 
 use crate::broken::Broken;
-use comemo::{Begun, CacheData, Call, Constraint, Fault, How, Memo, Sink, Top, Track, begin};
+use comemo::{Call, Constraint, Sink, Track};
 use comemo_samples::{Context, ContextCall};
 use std::alloc::{AllocError, Global};
 use std::hash::Hash;
 
-/// A call by a number: a read, or a write.
+/// A call by a letter: a read, or a write.
 #[derive(Clone, Copy, Drop, Debug, PartialEq, Eq, Hash)]
-struct Numbered {
-    number: u64,
+struct Lettered {
+    letter: u8,
     writes: bool,
 }
 
-impl Call for Numbered {
+impl Call for Lettered {
     ghost is_write = { λ call. call.writes };
 
     ghost same_kind = { λ x y h. Prim.search rules };
@@ -27,64 +27,28 @@ impl Call for Numbered {
     }
 }
 
-/// What answers each read with its number.
-struct Numbers;
-
-impl Track for Numbers {
-    type Call = Numbered;
-
-    type Answer = u64;
-
-    ghost answers = { λ _ call. call.number };
-
-    ghost alike = { λ s x y h. Prim.search rules };
-
-    ghost clones = { λ x y h. Prim.search rules };
-
-    fn ask(&self, call: &Numbered) -> Result<u64, AllocError> {
-        Ok(call.number)
-    }
-}
-
-/// A function of which any output and any writes are right.
-struct AnyNumber;
-
-impl Memo for AnyNumber {
-    type Call = Numbered;
-
-    type Key = ();
-
-    type Answer = u64;
-
-    type Out = u64;
-
-    ghost def = { λ _ _ _ _. Unit {0} };
-
-    ghost laws = { Prim.search rules };
-}
-
-/// The read of a number.
-fn read(number: u64) -> Numbered
+/// The read of a letter.
+fn read(letter: u8) -> Lettered
     ensures { result.writes ≡ false }
 {
     let writes = false;
-    Numbered { number, writes }
+    Lettered { letter, writes }
 }
 
-/// The write of a number.
-fn write(number: u64) -> Numbered
+/// The write of a letter.
+fn write(letter: u8) -> Lettered
     ensures { result.writes ≡ true }
 {
     let writes = true;
-    Numbered { number, writes }
+    Lettered { letter, writes }
 }
 
 /// Records two reads, with their answers, and a write.
 fn record(
-    recording: &mut Constraint<Numbered, u64>,
-    first: (u64, u64),
-    second: (u64, u64),
-    written: u64,
+    recording: &mut Constraint<Lettered, u64>,
+    first: (u8, u64),
+    second: (u8, u64),
+    written: u8,
 ) -> Result<(), AllocError> {
     let _ = recording.emit(read(first.0), Some(first.1))?;
     let _ = recording.emit(read(second.0), Some(second.1))?;
@@ -92,50 +56,22 @@ fn record(
     Ok(())
 }
 
-/// Records the reads 1 and 2, and absorbs a recording of 2 with another answer, and of 3. Whether all is whole.
-fn record_both(alloc: Global, left: &mut Constraint<Numbered, u64>) -> Result<bool, AllocError> {
-    record(left, (1, 1), (2, 2), 1)?;
+/// Whether a recording that absorbs another keeps its own answers, and has the other's writes after its own.
+fn what_is_absorbed_comes_after(alloc: Global) -> Result<bool, AllocError> {
+    let mut left = Constraint::new(alloc);
+    record(&mut left, (b'a', 1), (b'b', 2), b'1')?;
     let mut right = Constraint::new(alloc);
-    record(&mut right, (2, 9), (3, 3), 2)?;
+    record(&mut right, (b'b', 9), (b'c', 3), b'2')?;
     left.absorb(right)?;
-    Ok(left.is_whole())
-}
-
-/// Keeps a run that absorbed a recording. Whether it was whole, and is kept.
-fn keep_both(alloc: Global, cache: &mut CacheData<AnyNumber>) -> Result<bool, Fault> {
-    match begin(
-        alloc,
-        cache,
-        &mut Numbers.track(alloc),
-        &mut Top::new(),
-        true,
-    )? {
-        Begun::Hit(_) => Ok(false),
-        Begun::Run(mut pending) => {
-            let Ok(whole) = record_both(alloc, pending.recording()) else {
-                pending.give_up(&mut Top::new());
-                return Err(Fault::Memory);
-            };
-            let reply = pending.finish(cache, &mut Top::new(), 0)?;
-            Ok(whole && reply.how == How::Stored)
+    let is_whole = left.is_whole();
+    let (mut reads, writes) = left.into_parts();
+    for (letter, answer) in [(b'a', 1), (b'b', 2), (b'c', 3)] {
+        if reads.next() != Some((read(letter), answer)) {
+            return Ok(false);
         }
     }
-}
-
-/// Whether a recording that absorbs another keeps its own answers, and has the other's writes after its own.
-fn what_is_absorbed_comes_after(alloc: Global) -> Result<bool, Fault> {
-    let mut cache = CacheData::new(alloc);
-    let is_kept = keep_both(alloc, &mut cache)?;
-    let Some(found) = cache.look(&(), &mut Numbers.track(alloc))? else {
-        return Ok(false);
-    };
-    let pairs = [(read(1), 1), (read(2), 2), (read(3), 3)];
-    let writes = [write(1), write(2)];
-    Ok(
-        is_kept
-            && found.pairs.as_slice() == pairs.as_slice()
-            && found.writes.as_slice() == writes.as_slice(),
-    )
+    let are_written = writes.as_slice() == [write(b'1'), write(b'2')].as_slice();
+    Ok(is_whole && reads.next().is_none() && are_written)
 }
 
 /// Whether a recording of a location holds there alone, and an empty one everywhere.

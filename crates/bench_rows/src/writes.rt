@@ -1,169 +1,148 @@
 //! The row of functions that write: an emitter, and counters.
+ghost use Rattle.std.specs.Prelude.{◌≡◌, [], ◌∷◌};
 ghost use Rattle.std.proofs.Common.{rules};
+ghost use Rattle.comemo.specs.MeaningLaws.{exact_laws};
 
 use crate::broken::Broken;
-use comemo::{
-    Begun, CacheData, Constraint, Fault, Hashed, How, MappedSink, Memo, Multi, MultiAnswer,
-    MultiCall, Second, Sink, Top, Track, TrackedMut, begin,
-};
+use comemo::{CacheData, Fault, FunctionMut, How, MemoOfMut, RecorderMut, Top, memoized_mut};
 use comemo_samples::{Counter, CounterCall, Emitter, EmitterCall};
-use std::alloc::{AllocError, Global};
+use std::alloc::Global;
 
-/// A function of a text and an emitter of which any writes are right.
-struct AnyEmitted;
+/// Emits a text, and then `1`.
+struct Dump;
 
-impl Memo for AnyEmitted {
-    type Call = MultiCall<(), EmitterCall>;
+impl FunctionMut for Dump {
+    type Key = String;
 
-    type Key = (String, ());
-
-    type Answer = MultiAnswer<(), ()>;
+    type Of = Emitter;
 
     type Out = ();
 
-    ghost def = { λ _ _ _ _. Unit {0} };
+    type Needs = Global;
 
-    ghost laws = { Prim.search rules };
-}
+    ghost use Rattle.bench_rows.specs.Emitting.{EmitsWithOne, emitting_laws};
 
-/// Emits a text and then `1`.
-fn emit_both(
-    alloc: Global,
-    text: &str,
-    emitter: &mut TrackedMut<'_, Emitter>,
-    recording: &mut Constraint<MultiCall<(), EmitterCall>, MultiAnswer<(), ()>>,
-) -> Result<(), AllocError> {
-    let mut sink = MappedSink::new(recording, Second::new());
-    emitter.write(EmitterCall::Emit(String::from_str(alloc, text)?), &mut sink)?;
-    emitter.write(EmitterCall::Emit(String::from_str(alloc, "1")?), &mut sink)
-}
+    ghost means = { λ text _ _ writes. EmitsWithOne text writes };
 
-/// Calls the function that emits a text, and says what became of the call.
-fn dump(
-    alloc: Global,
-    cache: &mut CacheData<AnyEmitted>,
-    emitter: &mut Emitter,
-    text: &str,
-) -> Result<How, Fault> {
-    let key = Hashed(String::from_str(alloc, text)?);
-    let mut input = Multi((key, emitter.track_mut(alloc)));
-    match begin(alloc, cache, &mut input, &mut Top::new(), true)? {
-        Begun::Hit(()) => Ok(How::Hit),
-        Begun::Run(mut pending) => {
-            let Multi((_, view)) = &mut input;
-            let Ok(()) = emit_both(alloc, text, view, pending.recording()) else {
-                pending.give_up(&mut Top::new());
-                return Err(Fault::Memory);
-            };
-            Ok(pending.finish(cache, &mut Top::new(), ())?.how)
-        }
+    ghost laws = { emitting_laws (λ x y h. Prim.search rules) (λ x y h. Prim.search rules)
+        (λ x y h. Prim.search rules) };
+
+    fn run(
+        text: &String,
+        emitter: &mut RecorderMut<'_, '_, Emitter>,
+        alloc: &mut Global,
+    ) -> Result<(), Fault> {
+        emitter.write(EmitterCall::Emit(text.clone()?))?;
+        emitter.write(EmitterCall::Emit(String::from_str(*alloc, "1")?))?;
+        Ok(())
     }
 }
 
-/// Whether the texts that a hit emits are those of the run.
+/// Whether a hit emits again what its run emitted.
 fn a_hit_emits_again(alloc: Global) -> Result<bool, Fault> {
-    let mut cache = CacheData::new(alloc);
+    let mut cache: CacheData<MemoOfMut<Dump>> = CacheData::new(alloc);
     let mut emitter = Emitter::new(alloc);
-    for (text, wanted) in [
+    let mut needs = alloc;
+    for (text, how) in [
         ("a", How::Stored),
         ("b", How::Stored),
         ("c", How::Stored),
         ("a", How::Hit),
         ("b", How::Hit),
     ] {
-        if dump(alloc, &mut cache, &mut emitter, text)? != wanted {
+        let text = String::from_str(alloc, text)?;
+        let sink = &mut Top::new();
+        let reply = memoized_mut(
+            alloc,
+            &mut cache,
+            &mut needs,
+            text,
+            &mut emitter,
+            sink,
+            true,
+        )?;
+        if reply.how != how {
             return Ok(false);
         }
     }
     Ok(emitter.text() == "a1b1c1a1b1")
 }
 
-/// A function of a counter of which any writes are right.
-struct AnyAdded;
+/// Adds 3 to a counter.
+struct AddsThree;
 
-impl Memo for AnyAdded {
-    type Call = CounterCall;
-
+impl FunctionMut for AddsThree {
     type Key = ();
 
-    type Answer = ();
+    type Of = Counter;
 
     type Out = ();
 
-    ghost def = { λ _ _ _ _. Unit {0} };
+    type Needs = ();
 
-    ghost laws = { Prim.search rules };
-}
+    ghost use Rattle.comemo_samples.specs.declared.counter.CounterCall.TheVariants.{Add};
 
-/// Adds 3 to a counter, by a call of a function.
-fn add_three<S: Sink<Call = CounterCall, Answer = ()>>(
-    alloc: Global,
-    cache: &mut CacheData<AnyAdded>,
-    counter: &mut TrackedMut<'_, Counter>,
-    sink: &mut S,
-) -> Result<How, Fault> {
-    match begin(alloc, cache, counter, sink, true)? {
-        Begun::Hit(()) => Ok(How::Hit),
-        Begun::Run(mut pending) => {
-            let Ok(()) = counter.write(CounterCall::Add(3), pending.recording()) else {
-                pending.give_up(sink);
-                return Err(Fault::Memory);
-            };
-            Ok(pending.finish(cache, sink, ())?.how)
-        }
+    ghost means = { λ _ _ _ writes. writes ≡ Add 3 ∷ [] };
+
+    ghost laws = { exact_laws (λ x y h. Prim.search rules) (λ x y h. Prim.search rules)
+        (λ x y h. Prim.search rules) (λ a b h. Prim.search rules) };
+
+    fn run(
+        _key: &(),
+        counter: &mut RecorderMut<'_, '_, Counter>,
+        _needs: &mut (),
+    ) -> Result<(), Fault> {
+        counter.write(CounterCall::Add(3))?;
+        Ok(())
     }
 }
 
-/// A function of a number and a counter of which any writes are right.
-struct AnyAddedAround;
+/// Has 3 added to a counter by `AddsThree`, whichever number it is given.
+struct AddsByAnother;
 
-impl Memo for AnyAddedAround {
-    type Call = MultiCall<(), CounterCall>;
+impl FunctionMut for AddsByAnother {
+    type Key = u64;
 
-    type Key = (u64, ());
-
-    type Answer = MultiAnswer<(), ()>;
+    type Of = Counter;
 
     type Out = ();
 
-    ghost def = { λ _ _ _ _. Unit {0} };
+    type Needs = CacheData<MemoOfMut<AddsThree>>;
 
-    ghost laws = { Prim.search rules };
-}
+    ghost use Rattle.comemo_samples.specs.declared.counter.CounterCall.TheVariants.{Add};
 
-/// Calls a function of a number and a counter, which calls the one that adds 3.
-fn add_around(
-    alloc: Global,
-    cache: &mut CacheData<AnyAddedAround>,
-    inner: &mut CacheData<AnyAdded>,
-    counter: &mut Counter,
-    number: u64,
-) -> Result<How, Fault> {
-    let mut input = Multi((Hashed(number), counter.track_mut(alloc)));
-    match begin(alloc, cache, &mut input, &mut Top::new(), true)? {
-        Begun::Hit(()) => Ok(How::Hit),
-        Begun::Run(mut pending) => {
-            let Multi((_, view)) = &mut input;
-            let mut sink = MappedSink::new(pending.recording(), Second::new());
-            let added = add_three(alloc, inner, view, &mut sink);
-            drop(sink);
-            if let Err(fault) = added {
-                pending.give_up(&mut Top::new());
-                return Err(fault);
-            }
-            Ok(pending.finish(cache, &mut Top::new(), ())?.how)
-        }
+    ghost means = { λ _ _ _ writes. writes ≡ Add 3 ∷ [] };
+
+    ghost laws = { exact_laws (λ x y h. Prim.search rules) (λ x y h. Prim.search rules)
+        (λ x y h. Prim.search rules) (λ a b h. Prim.search rules) };
+
+    fn run(
+        _number: &u64,
+        counter: &mut RecorderMut<'_, '_, Counter>,
+        kept: &mut CacheData<MemoOfMut<AddsThree>>,
+    ) -> Result<(), Fault> {
+        counter.call_mut(kept, &mut (), ())?;
+        Ok(())
     }
 }
 
-/// Whether what a called function writes is written by a hit of its caller.
+/// Whether a hit writes what a function wrote that its run called.
 fn a_hit_writes_what_was_written_within(alloc: Global) -> Result<bool, Fault> {
-    let mut cache = CacheData::new(alloc);
-    let mut inner = CacheData::new(alloc);
-    for (number, wanted) in [(0, How::Stored), (1, How::Stored), (1, How::Hit)] {
+    let mut cache: CacheData<MemoOfMut<AddsByAnother>> = CacheData::new(alloc);
+    let mut kept = CacheData::new(alloc);
+    for (number, how) in [(0, How::Stored), (1, How::Stored), (1, How::Hit)] {
         let mut counter = Counter { number: 0 };
-        let how = add_around(alloc, &mut cache, &mut inner, &mut counter, number)?;
-        if how != wanted || counter.number != 3 {
+        let sink = &mut Top::new();
+        let reply = memoized_mut(
+            alloc,
+            &mut cache,
+            &mut kept,
+            number,
+            &mut counter,
+            sink,
+            true,
+        )?;
+        if reply.how != how || counter.number != 3 {
             return Ok(false);
         }
     }
