@@ -21,8 +21,6 @@ mod fault_tests;
 #[cfg(test)]
 mod faults;
 #[cfg(test)]
-mod fibonacci;
-#[cfg(test)]
 mod functions;
 #[cfg(test)]
 mod inputs;
@@ -33,8 +31,6 @@ mod joined_runs;
 mod nested;
 #[cfg(test)]
 mod notes;
-#[cfg(test)]
-mod order_tests;
 #[cfg(test)]
 mod recordings;
 #[cfg(test)]

@@ -1,6 +1,6 @@
 use Rattle.std.proofs.Common.{arith, refl}
-use Rattle.comemo_tests.proofs.Before.{fib_from_before}
-use Rattle.comemo_tests.proofs.fibonacci.+counting.Goals as goal
+use Rattle.bench_rows.proofs.Before.{fib_from_before}
+use Rattle.bench_rows.proofs.fibonacci.+counting.Goals as goal
 
 pub from_before-returns : goal.from_before-returns
 from_before-returns t c =

@@ -1,7 +1,7 @@
 //! A memoized function that calls itself.
 ghost use Rattle.std.specs.Prelude.{◌≡◌, ◌≤◌, IfOk, OnErr, ◌%◌, ◌^◌};
 ghost use Rattle.std.proofs.Common.{rules};
-ghost use Rattle.comemo_tests.specs.Fibonacci.{fib};
+ghost use Rattle.bench_rows.specs.Fibonacci.{fib};
 
 use comemo::{Begun, CacheData, Constraint, Fault, Hashed, How, Memo, Reply, begin};
 use std::alloc::Global;

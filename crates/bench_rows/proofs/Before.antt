@@ -1,6 +1,6 @@
 -- The numbers of Fibonacci, each from the two before it.
 use Rattle.std.proofs.Common.{◌≡◌, ◌≤◌, ◌+◌, ◌-◌, ℕ, zero, suc, arith, sym, ap, ◌∙◌}
-use Rattle.comemo_tests.specs.Fibonacci.{fib}
+use Rattle.bench_rows.specs.Fibonacci.{fib}
 
 pub fib_from_before : (n : ℕ) → 2 ≤ n → fib n ≡ fib (n - 2) + fib (n - 1)
 fib_from_before zero h = absurd (omega arith)

@@ -6,7 +6,7 @@ use Rattle.std.proofs.KnownBytes.{Appends-trans}
 use Rattle.calc_lines.specs.declared.fault.RunFault.{RunFault}
 use Rattle.calc_lines.specs.Started.{WritesFront}
 use Rattle.calc_lines.specs.Written.{WritesBeginning}
-use Rattle.calc_lines.proofs.program.put_message.Goals as goal
+use Rattle.calc_lines.proofs.output.put_message.Goals as goal
 
 -- two texts, one after the other
 both : (a b c : Option (List ℕ)) (xs ys first second : List ℕ) → first ≡ xs → second ≡ ys → Appends a b first → Appends b c second → Appends a c (xs ++ ys)
@@ -40,7 +40,7 @@ last_whole a b c xs ys last (Err _) e p q = tt
 
 pub returns-in_err-put-2-clause-front : goal.returns-in_err-put-2-clause-front
 returns-in_err-put-2-clause-front g c =
-    let front = subst (Appends (g.E.Write.contents c.args.errors.now) (g.E.Write.contents c.put.new.writer)) c.as_bytes.ensures.value c.in_ok-put.ensures.written in
+    let front = subst (Appends (g.W.Write.contents c.args.writer.now) (g.W.Write.contents c.put.new.writer)) c.as_bytes.ensures.value c.in_ok-put.ensures.written in
     front_short _ _ _ c.args.front.now c.args.name.now c.args.end.now _ c.as_bytes-2.ensures.value front c.in_err-put-2.ensures.written
 
 pub returns-clause-front : goal.returns-clause-front
