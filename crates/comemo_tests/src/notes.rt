@@ -1,10 +1,10 @@
-//! A function that reads a notebook and writes to it.
+//! Functions that write to a notebook and to a counter.
 ghost use Rattle.std.specs.Prelude.{◌≡◌, ◌+◌, ◌%◌, ◌^◌, [], ◌∷◌};
 ghost use Rattle.std.proofs.Common.{rules};
-ghost use Rattle.comemo.specs.MeaningLaws.{exact_laws};
+ghost use Rattle.comemo.specs.MeaningLaws.{exact_laws, exact_memo_laws};
 
-use comemo::{Fault, FunctionMut, RecorderMut};
-use comemo_samples::{Notebook, NotebookCall};
+use comemo::{Fault, FunctionMut, Memo, MultiAnswer, MultiCall, RecorderMut};
+use comemo_samples::{CounterCall, Notebook, NotebookCall};
 
 /// Notes a number, the owner's and the number again. It gives the owner's.
 pub struct NotesThree;
@@ -37,4 +37,45 @@ impl FunctionMut for NotesThree {
         book.write(NotebookCall::Note(*n))?;
         Ok(owner)
     }
+}
+
+/// Adds 3 to a counter. Its run is a closure.
+pub struct AddsThree;
+
+impl Memo for AddsThree {
+    type Call = CounterCall;
+
+    type Key = ();
+
+    type Answer = ();
+
+    type Out = ();
+
+    ghost use Rattle.comemo_samples.specs.declared.counter.CounterCall.TheVariants.{Add};
+
+    ghost def = { λ _ _ _ writes. writes ≡ Add 3 ∷ [] };
+
+    ghost laws = { exact_memo_laws (λ x y h. Prim.search rules) (λ x y h. Prim.search rules)
+        (λ x y h. Prim.search rules) (λ a b h. Prim.search rules) (λ x y h. Prim.search rules) };
+}
+
+/// Adds a number to a counter. Its run is a closure, and its input joins the two.
+pub struct AddsKey;
+
+impl Memo for AddsKey {
+    type Call = MultiCall<(), CounterCall>;
+
+    type Key = (u64, ());
+
+    type Answer = MultiAnswer<(), ()>;
+
+    type Out = ();
+
+    ghost use Rattle.comemo.specs.Multi.{second_call};
+    ghost use Rattle.comemo_samples.specs.declared.counter.CounterCall.TheVariants.{Add};
+
+    ghost def = { λ key _ _ writes. writes ≡ second_call (Add key.0) ∷ [] };
+
+    ghost laws = { exact_memo_laws (λ x y h. Prim.search rules) (λ x y h. Prim.search rules)
+        (λ x y h. Prim.search rules) (λ a b h. Prim.search rules) (λ x y h. Prim.search rules) };
 }
