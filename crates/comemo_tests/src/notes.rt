@@ -3,7 +3,7 @@ ghost use Rattle.std.specs.Prelude.{◌≡◌, ◌+◌, ◌%◌, ◌^◌, [], �
 ghost use Rattle.std.proofs.Common.{rules};
 ghost use Rattle.comemo.specs.MeaningLaws.{exact_laws, exact_memo_laws};
 
-use comemo::{Fault, FunctionMut, Memo, MultiAnswer, MultiCall, RecorderMut};
+use comemo::{Fault, FunctionMut, Memo, RecorderMut};
 use comemo_samples::{CounterCall, Notebook, NotebookCall};
 
 /// Notes a number, the owner's and the number again. It gives the owner's.
@@ -54,27 +54,6 @@ impl Memo for AddsThree {
     ghost use Rattle.comemo_samples.specs.declared.counter.CounterCall.TheVariants.{Add};
 
     ghost def = { λ _ _ _ writes. writes ≡ Add 3 ∷ [] };
-
-    ghost laws = { exact_memo_laws (λ x y h. Prim.search rules) (λ x y h. Prim.search rules)
-        (λ x y h. Prim.search rules) (λ a b h. Prim.search rules) (λ x y h. Prim.search rules) };
-}
-
-/// Adds a number to a counter. Its run is a closure, and its input joins the two.
-pub struct AddsKey;
-
-impl Memo for AddsKey {
-    type Call = MultiCall<(), CounterCall>;
-
-    type Key = (u64, ());
-
-    type Answer = MultiAnswer<(), ()>;
-
-    type Out = ();
-
-    ghost use Rattle.comemo.specs.Multi.{second_call};
-    ghost use Rattle.comemo_samples.specs.declared.counter.CounterCall.TheVariants.{Add};
-
-    ghost def = { λ key _ _ writes. writes ≡ second_call (Add key.0) ∷ [] };
 
     ghost laws = { exact_memo_laws (λ x y h. Prim.search rules) (λ x y h. Prim.search rules)
         (λ x y h. Prim.search rules) (λ a b h. Prim.search rules) (λ x y h. Prim.search rules) };

@@ -1,9 +1,9 @@
 //! Views that write, and functions whose runs write: what is done, what is recorded, and what a hit does again.
 
-use crate::notes::{AddsKey, AddsThree, NotesThree};
+use crate::notes::{AddsThree, NotesThree};
 use comemo::{
-    BothMut, CacheData, Constraint, Fault, Hashed, How, MappedSink, MemoOfMut, Multi, MultiAnswer,
-    MultiCall, Reply, Second, Sink, Top, Track, TrackedMut, memoize, memoized_mut,
+    BothMut, CacheData, Constraint, Fault, How, MemoOfMut, MultiAnswer, MultiCall, Reply, Sink,
+    Top, Track, TrackedMut, memoize, memoized_mut,
 };
 use comemo_samples::{Counter, CounterCall, Notebook, NotebookCall, Town, TownCall};
 use std::alloc::Global;
@@ -222,59 +222,6 @@ fn a_closure_writes_and_its_hit_writes_again(rt: HostRuntime) -> Result<(), Fail
             true,
             |view: &mut TrackedMut<'_, Counter>, recording: &mut Constraint<CounterCall, ()>| {
                 view.write(CounterCall::Add(3), recording)?;
-                Ok(())
-            },
-        )?;
-        assert_eq!(rt; reply.how, how);
-        assert_eq!(rt; counter.number, sum);
-    }
-    Ok(())
-}
-
-#[test]
-fn a_view_that_is_lent_is_an_input(rt: HostRuntime) -> Result<(), Fail> {
-    let alloc = rt.alloc();
-    let mut cache: CacheData<AddsThree> = CacheData::new(alloc);
-    let mut counter = Counter { number: 0 };
-    let mut view = counter.track_mut(alloc);
-    for how in [How::Stored, How::Hit] {
-        let reply = memoize(
-            alloc,
-            &mut cache,
-            &mut view,
-            &mut Top::new(),
-            true,
-            |view: &mut &mut TrackedMut<'_, Counter>, recording: &mut Constraint<CounterCall, ()>| {
-                view.write(CounterCall::Add(3), recording)?;
-                Ok(())
-            },
-        )?;
-        assert_eq!(rt; reply.how, how);
-    }
-    drop(view);
-    assert_eq!(rt; counter.number, 6);
-    Ok(())
-}
-
-#[test]
-fn a_view_that_writes_is_joined_with_a_key(rt: HostRuntime) -> Result<(), Fail> {
-    let alloc = rt.alloc();
-    let mut cache: CacheData<AddsKey> = CacheData::new(alloc);
-    let mut counter = Counter { number: 0 };
-    for (number, how, sum) in [(5, How::Stored, 5), (2, How::Stored, 7), (5, How::Hit, 12)] {
-        let reply = memoize(
-            alloc,
-            &mut cache,
-            Multi((Hashed(number), counter.track_mut(alloc))),
-            &mut Top::new(),
-            true,
-            |input: &mut Multi<(Hashed<u64>, TrackedMut<'_, Counter>)>, recording: &mut Constraint<
-                MultiCall<(), CounterCall>,
-                MultiAnswer<(), ()>,
-            >| {
-                let Multi((Hashed(key), view)) = input;
-                let mut sink = MappedSink::new(recording, Second::new());
-                view.write(CounterCall::Add(*key), &mut sink)?;
                 Ok(())
             },
         )?;
