@@ -34,6 +34,7 @@ mod rounds;
 mod session;
 
 pub use fault::RunFault;
+pub use output::put_message;
 pub use program::start;
 pub use rounds::run;
 pub use session::Session;

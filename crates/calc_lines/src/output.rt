@@ -1,6 +1,7 @@
-ghost use Rattle.std.specs.Prelude.{◌≡◌, ℕ, ◌<◌, ◌≤◌, length, take, IfOk, IfErr, MatchResult};
+ghost use Rattle.std.specs.Prelude.{◌≡◌, ℕ, ◌<◌, ◌≤◌, length, take, ◌++◌, IfOk, IfErr, OnOk, MatchResult};
 ghost use Rattle.std.specs.Io.KnownBytes.{Appends, WriteAppends};
 ghost use Rattle.calc_lines.specs.Written.{WritesBeginning};
+ghost use Rattle.calc_lines.specs.Started.{WritesFront};
 
 use crate::RunFault;
 use std::io::{ErrorKind, Write};
@@ -42,4 +43,25 @@ pub(crate) fn put<W: Write>(writer: &mut W, bytes: &[u8]) -> Result<(), RunFault
         rest = &rest[count..];
     }
     Ok(())
+}
+
+/// Writes a message in three parts, without memory for their joined text.
+///
+/// Refuses with `Write` where the device failed or took no byte; then a beginning was written. It costs what the
+/// writer's `write` costs, which is called until all is taken. This project's own.
+pub fn put_message<W: Write>(
+    writer: &mut W,
+    front: &str,
+    name: &str,
+    end: &str,
+) -> Result<(), RunFault>
+    ensures whole { OnOk result (Appends (W.contents writer.old) (W.contents writer.new)
+        (front.now ++ name.now ++ end.now)) }
+    ensures front { WritesFront (W.contents writer.old) (W.contents writer.new)
+        (front.now ++ name.now ++ end.now) }
+    ensures fault { IfErr result (λ fault. fault ≡ RunFault.Write) }
+{
+    put(writer, front.as_bytes())?;
+    put(writer, name.as_bytes())?;
+    put(writer, end.as_bytes())
 }

@@ -1,9 +1,7 @@
-ghost use Rattle.std.specs.Prelude.{◌≡◌, ℕ, ◌<◌, ◌++◌, length, OnOk};
-ghost use Rattle.std.specs.Io.KnownBytes.{Appends};
+ghost use Rattle.std.specs.Prelude.{◌≡◌, ℕ, ◌<◌, length};
 ghost use Rattle.calc_lines.specs.Started.{WritesFront, RanAs, fault_text, usage_of};
 
-use crate::output::put;
-use crate::{RunFault, Session, run};
+use crate::{RunFault, Session, put_message, run};
 use std::alloc::Global;
 use std::io::{BufRead, Write};
 
@@ -17,20 +15,6 @@ fn message_end(fault: RunFault) -> &'static str
         RunFault::Memory => ": out of memory\n",
         RunFault::NotText => ": not UTF-8\n",
     }
-}
-
-/// Writes a message in three parts, without memory for their joined text.
-///
-/// Refuses where the device failed or took no byte; then a beginning was written.
-fn put_message<E: Write>(errors: &mut E, front: &str, name: &str, end: &str) -> Result<(), RunFault>
-    ensures whole { OnOk result (Appends (E.contents errors.old) (E.contents errors.new)
-        (front.now ++ name.now ++ end.now)) }
-    ensures front { WritesFront (E.contents errors.old) (E.contents errors.new)
-        (front.now ++ name.now ++ end.now) }
-{
-    put(errors, front.as_bytes())?;
-    put(errors, name.as_bytes())?;
-    put(errors, end.as_bytes())
 }
 
 /// All of a line program but its streams: runs the session on the reader's lines, and gives the program's status.

@@ -102,6 +102,27 @@ module _ {K C R O : Type 0} {M : Meaning K C R O} {es : Entries K C R O} {call :
     });
   }
 
+  -- the writes that a reply rests on were done too, and led to whatever is the same
+  also_done : {mid es' : Entries K C R O} {sent : List (C × R) → List C → Type 0} {reply : Reply O} {V : Type 0} (did : V → V → List C → Type 0) (i j k : V) → k ≡ j → (is : IsReply M call es mid sent reply es') → did i j is.writes → IsReply M call es mid (λ P W. sent P W × did i k W) reply es'
+  also_done did i j k e is done = record {
+    pairs = is.pairs;
+    writes = is.writes;
+    agrees = is.agrees;
+    stands = is.stands;
+    gives = record { given = is.gives.given; alike = is.gives.alike; agreeing = is.gives.agreeing; are_sent = (is.gives.are_sent, subst (λ v. did i v is.writes) (sym e) done) };
+    came = is.came;
+  }
+
+  -- a hit of which the writes were done too
+  pub reply_by_done_hit : IsEquivalence M.same_call → IsEquivalence M.same_answer → {done : List C → Type 0} {sent : List (C × R) → List C → Type 0} {output : O} (mid es' : Entries K C R O) (hit : IsHit M es call done sent output) → Touches es es' → {V : Type 0} (did : V → V → List C → Type 0) (i j k : V) → k ≡ j → did i j hit.writes → IsReply M call es mid (λ P W. sent P W × did i k W) (record { output = output; how = how.Hit }) es'
+  unfolding reply_by_hit
+  reply_by_done_hit calls answers mid es' hit touched did i j k e d = also_done did i j k e (reply_by_hit calls answers mid es' hit touched) d
+
+  -- a run of which the writes were done too
+  pub reply_by_done_run : {begun : PendingRun K C R} (t : Recording C R) → IsRun M es call begun → Agrees M.same_answer call.answers t.pairs → {mid es' : Entries K C R O} {sent : List (C × R) → List C → Type 0} {output : O} {reply : Reply O} → Stands M (came_to (recorded begun t) output) → Finished M mid (recorded begun t) sent output reply es' → {V : Type 0} (did : V → V → List C → Type 0) (i j k : V) → k ≡ j → did i j t.writes → IsReply M call es mid (λ P W. sent P W × did i k W) reply es'
+  unfolding reply_by_run
+  reply_by_done_run t is agrees stands done did i j k e d = also_done did i j k e (reply_by_run {t = t} is agrees stands done) d
+
   -- what went to a sink so went there otherwise
   pub resent : {mid es' : Entries K C R O} {sent sends : List (C × R) → List C → Type 0} {reply : Reply O} → ((P : List (C × R)) (W : List C) → sent P W → sends P W) → IsReply M call es mid sent reply es' → IsReply M call es mid sends reply es'
   resent f is = record {
@@ -112,6 +133,10 @@ module _ {K C R O : Type 0} {M : Meaning K C R O} {es : Entries K C R O} {call :
     gives = record { given = is.gives.given; alike = is.gives.alike; agreeing = is.gives.agreeing; are_sent = f is.gives.given is.writes is.gives.are_sent };
     came = is.came;
   }
+
+  -- a hit that stopped, of which the writes before were done so
+  pub stopped_as : {done so : List C → Type 0} {spoiled : List (C × R) → List C → Type 0} → (is : IsStopped M es call done spoiled) → so is.front → IsStopped M es call so spoiled
+  stopped_as is did = record { pairs = is.pairs; output = is.output; front = is.front; next = is.next; rest = is.rest; is_refused = is.is_refused; is_enabled = is.is_enabled; kept = is.kept; agrees = is.agrees; stands = is.stands; are_done = did; is_spoiled = is.is_spoiled }
 
   -- a hit that stopped, whatever became of its sink
   pub stopped_so : {done : List C → Type 0} {spoiled : List (C × R) → List C → Type 0} → IsStopped M es call done spoiled → IsStopped M es call done (λ _ _. ⊤)

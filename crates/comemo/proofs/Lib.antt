@@ -6,6 +6,7 @@ pub mod Endings
 pub mod Looking
 pub mod PartsAsked
 pub mod Recorders
+pub mod RecordersMut
 pub mod Calls
 pub mod Closures
 pub mod Growing

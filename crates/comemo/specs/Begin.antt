@@ -6,6 +6,10 @@ use Rattle.comemo_track.specs.Recording.{Recording, recording_code}
 use Rattle.comemo.specs.Meaning.{Meaning, Invocation, Run, run}
 use Rattle.comemo.specs.Cache.{Entries, Stands, HasNone, Has}
 
+-- some writes lead from a value to another, by this word for what writes do
+abbrev pub Reaches : {V C : Type 0} → (V → V → List C → Type 0) → V → V → Type 0
+Reaches {V} {C} did i j = (writes : List C) × did i j writes
+
 -- a run that began: its key, whether it is to be stored, and what it has recorded
 pub record PendingRun (K C R : Type 0) : Type 0 where
   pub key : K

@@ -7,6 +7,7 @@ pub mod Finish
 pub mod Called
 pub mod Closure
 pub mod Function
+pub mod FunctionMut
 pub use Rattle.comemo_track.specs.Sending
 pub use Rattle.comemo_track.specs.Writing
 pub use Rattle.comemo_track.specs.WritingLaws

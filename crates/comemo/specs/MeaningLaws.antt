@@ -1,9 +1,38 @@
 -- Laws of what functions mean, which traits ask. They say nothing that a reader must believe.
-use Rattle.std.proofs.Common.{◌≡◌, Bool, List, [], ◌∷◌, refl}
+use Rattle.std.proofs.Common.{◌≡◌, ◌∙◌, Bool, List, [], ◌∷◌, IsTrue, refl, sym, ap, subst}
+use Rattle.comemo_base.specs.Answers.{Respects}
 use Rattle.comemo.specs.Meaning.{SameWrites}
+use Rattle.comemo.specs.Cache.{MemoLaws}
+use Rattle.comemo.specs.FunctionMut.{LawsMut}
 
 -- where there are no writes, no equal ones are there
 pub none_alike : {C : Type 0} (eq : C → C → Bool) (V W : List C) → SameWrites eq V W → V ≡ [] → W ≡ []
 none_alike eq [] [] same none = refl
 none_alike eq [] (w ∷ W) same none = absurd same
 none_alike eq (v ∷ V) W same none = absurd cc
+
+-- where equal calls are the same, equal writes are the same
+pub same_writes : {C : Type 0} {eq : C → C → Bool} → ((x y : C) → IsTrue (eq x y) → y ≡ x) → (V W : List C) → SameWrites eq V W → W ≡ V
+same_writes exact [] [] same = refl
+same_writes exact [] (w ∷ W) same = absurd same
+same_writes exact (v ∷ V) [] same = absurd same
+same_writes exact (v ∷ V) (w ∷ W) same = ap (λ c. c ∷ W) (exact v w same.0) ∙ ap (λ X. v ∷ X) (same_writes exact V W same.1)
+
+-- the laws of any meaning, where equal calls and equal keys are the same, and a clone is its original
+module _ {C R K O : Type 0} {eq : C → C → Bool} {same : R → R → Bool} {eqk : K → K → Bool} {key_clone : K → K → Type 0} {cloned : O → O → Type 0} {def : K → (C → R) → O → List C → Type 0} (calls : (x y : C) → IsTrue (eq x y) → y ≡ x) (keys : (x y : K) → IsTrue (eqk x y) → y ≡ x) (clones : (x y : K) → key_clone x y → IsTrue (eqk x y)) (outputs : (a b : O) → cloned a b → b ≡ a) where
+  pub exact_laws : LawsMut eq same eqk key_clone cloned def
+  exact_laws = record {
+    outputs = λ key m a b writes respects is right. subst (λ o. def key m o writes) (sym (outputs a b is)) right;
+    keys = λ j k m output writes respects is right. subst (λ i. def i m output writes) (sym (keys j k is)) right;
+    writes = λ key m output V W respects is right. subst (λ ws. def key m output ws) (sym (same_writes calls V W is)) right;
+    clones = clones;
+  }
+
+  pub exact_memo_laws : {answer_clone : R → R → Type 0} → ((x y : R) → answer_clone x y → IsTrue (same x y)) → MemoLaws eq same eqk key_clone answer_clone cloned def
+  exact_memo_laws answers = record {
+    outputs = λ key m a b writes respects is right. subst (λ o. def key m o writes) (sym (outputs a b is)) right;
+    keys = λ j k m output writes respects is right. subst (λ i. def i m output writes) (sym (keys j k is)) right;
+    writes = λ key m output V W respects is right. subst (λ ws. def key m output ws) (sym (same_writes calls V W is)) right;
+    key_clones = clones;
+    answer_clones = answers;
+  }

@@ -35,6 +35,7 @@
 pub mod cache;
 pub mod closure;
 pub mod function;
+pub mod function_mut;
 pub mod parts;
 pub mod pending;
 
@@ -42,10 +43,11 @@ pub use cache::{CacheData, Found, Meant, Memo};
 pub use closure::{Record, memoize};
 pub use comemo_base::{CallSequence, InsertError, Prehashed, SipHasher13, Tagged, hash, hash_any};
 pub use comemo_track::{
-    Both, Breaking, Call, CallMap, Constraint, First, Hashed, Input, Keyed, MappedSink, Multi,
-    MultiAnswer, MultiCall, Second, Sink, Top, Track, Tracked, TrackedMut, TrackedMutWith,
-    TrackedWith, Written,
+    Both, BothMut, Breaking, Call, CallMap, Constraint, First, Hashed, Input, Keyed, KeyedMut,
+    MappedSink, Multi, MultiAnswer, MultiCall, Second, Sink, Top, Track, Tracked, TrackedMut,
+    TrackedMutWith, TrackedWith, Written,
 };
 pub use comemo_tree::CallTree;
 pub use function::{Function, FunctionOf, MemoOf, Recorder, Told, memoized};
+pub use function_mut::{FunctionMut, FunctionMutOf, MemoOfMut, RecorderMut, ToldMut, memoized_mut};
 pub use pending::{Begun, Fault, How, Invoked, Pending, Reply, begin};

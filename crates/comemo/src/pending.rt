@@ -5,7 +5,7 @@ ghost use Rattle.std.specs.List.{All};
 ghost use Rattle.comemo_base.specs.Tree.{IsSamePath};
 ghost use Rattle.comemo.specs.Meaning.{Invocation, SameWrites, exactly, invocation, run};
 ghost use Rattle.comemo.specs.Cache.{Stands, Touches};
-ghost use Rattle.comemo.specs.Begin.{IsHit, IsRun, IsBrokenOff, IsStopped, came_to};
+ghost use Rattle.comemo.specs.Begin.{Reaches, IsHit, IsRun, IsBrokenOff, IsStopped, came_to};
 ghost use Rattle.comemo.specs.Begun.{OnBegun, OnFault};
 ghost use Rattle.comemo.specs.Finish.{Ends, Gives, Finished, BreaksOffRun};
 
@@ -511,6 +511,7 @@ pub fn begin<
         (λ run. IsRun ⟦<M as Meant>⟧.meaning cache.old
         (⟦<In as Invoked>⟧.invoked input.old enabled) run
         × In.did input.old input.new [] × (sink.new ≡ sink.old) × (cache.new ≡ cache.old))) }
+    ensures reached { Reaches In.did input.old input.new }
     ensures err { IfErr result (λ fault. OnFault fault
         ((cache.new ≡ cache.old) × In.did input.old input.new []
         × IsBrokenOff ⟦<M as Meant>⟧.meaning cache.old (⟦<In as Invoked>⟧.invoked input.old enabled)

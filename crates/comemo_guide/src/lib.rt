@@ -23,6 +23,7 @@
 //! hands on their faults too.
 #![tactic(auto)]
 
+pub mod adding;
 pub mod both_pass;
 pub mod chains;
 pub mod double;
@@ -35,5 +36,6 @@ pub mod passes;
 pub mod region;
 pub mod report;
 pub mod several;
+pub mod tally;
 pub mod texts;
 pub mod warmth;

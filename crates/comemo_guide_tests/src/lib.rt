@@ -5,3 +5,5 @@
 mod examples;
 #[cfg(test)]
 mod guide;
+#[cfg(test)]
+mod writing;

@@ -1,3 +1,5 @@
+mod Notebooks
+pub mod Cells
 pub mod Contexts
 pub mod Towns
-pub mod Cells
+pub mod Writers

@@ -1,8 +1,8 @@
 //! Tracked values that examples, tests and measurements share.
 //!
 //! ```rust
-//! use comemo::Track;
-//! use comemo_samples::{Cells, Get, Town, TownCall};
+//! use comemo::{Top, Track};
+//! use comemo_samples::{Cells, Counter, CounterCall, Emitter, EmitterCall, Get, Town, TownCall};
 //!
 //! let mut cells = Cells::new(alloc, 3)?;
 //! assert_eq!(rt; cells.ask(&Get { place: 2 }), Ok(7));
@@ -12,15 +12,33 @@
 //!
 //! let town = Town { people: 900, degrees: 21 };
 //! assert_eq!(rt; town.ask(&TownCall::Degrees), Ok(21));
+//!
+//! let mut emitter = Emitter::new(alloc);
+//! for text in ["to", "day"] {
+//!     let emit = EmitterCall::Emit(String::from_str(alloc, text)?);
+//!     emitter.track_mut(alloc).write(emit, &mut Top::new())?;
+//! }
+//! assert_eq!(rt; emitter.text(), "today");
+//!
+//! let mut counter = Counter { number: u64::MAX };
+//! counter.track_mut(alloc).write(CounterCall::Add(3), &mut Top::new())?;
+//! assert_eq!(rt; counter.number, 2);
 //! ```
 //!
-//! Each of these values answers reads alone. Answers that are numbers take no memory and are never refused.
+//! An emitter and a counter take writes alone, a notebook takes reads and writes, each of the other values answers reads alone. Answers that are numbers take
+//! no memory and are never refused.
 #![tactic(auto)]
 
 pub mod cells;
 pub mod contexts;
+pub mod counter;
+pub mod emitter;
+pub mod notebook;
 pub mod town;
 
 pub use cells::{Cells, Get};
 pub use contexts::{Context, ContextCall, Page, Place, Row};
+pub use counter::{Counter, CounterCall};
+pub use emitter::{Emitter, EmitterCall};
+pub use notebook::{Notebook, NotebookCall};
 pub use town::{Town, TownCall};

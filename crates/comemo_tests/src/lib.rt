@@ -21,8 +21,6 @@ mod fault_tests;
 #[cfg(test)]
 mod faults;
 #[cfg(test)]
-mod fibonacci;
-#[cfg(test)]
 mod functions;
 #[cfg(test)]
 mod inputs;
@@ -32,7 +30,7 @@ mod joined_runs;
 #[cfg(test)]
 mod nested;
 #[cfg(test)]
-mod order_tests;
+mod notes;
 #[cfg(test)]
 mod recordings;
 #[cfg(test)]
@@ -46,3 +44,5 @@ pub mod sinks;
 mod view_tests;
 #[cfg(test)]
 mod views;
+#[cfg(test)]
+mod writing_tests;

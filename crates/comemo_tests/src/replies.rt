@@ -1,6 +1,5 @@
 //! What becomes of calls, in worked order.
 use crate::expected::expect;
-use crate::fibonacci::{FibMemo, numbered};
 use crate::functions::{
     DoubleMemo, LocationMemo, ShownMemo, SumMemo, double, location, shown, sum,
 };
@@ -229,18 +228,6 @@ fn a_function_that_calls_another_is_kept_for_its_reads(rt: HostRuntime) -> Resul
         let reply = twice(alloc, &mut again, &mut locations, &view, &mut top(), true)?;
         expect(&rt, reply, at + at, how);
         assert_eq!(rt; locations.len(), len);
-    }
-    Ok(())
-}
-
-#[test]
-fn numbers_of_fibonacci(rt: HostRuntime) -> Result<(), Fail> {
-    let alloc = rt.alloc();
-    let mut cache: CacheData<FibMemo> = CacheData::new(alloc);
-    for (place, number, hit) in [(5, 5, false), (3, 2, true), (8, 21, false), (7, 13, true)] {
-        let sink = &mut Constraint::new(alloc);
-        let reply = numbered(alloc, &mut cache, place, sink)?;
-        expect(&rt, reply, number, if hit { How::Hit } else { How::Stored });
     }
     Ok(())
 }

@@ -3,7 +3,7 @@ ghost use Rattle.std.specs.Prelude.{refl};
 ghost use Rattle.std.proofs.Common.{rules};
 
 use comemo::{
-    Begun, CacheData, Constraint, Fault, How, Keyed, Memo, Pending, Reply, Sink, Top, Track, begin,
+    Begun, CacheData, Constraint, Fault, How, Keyed, Memo, Pending, Sink, Top, Track, begin,
 };
 use comemo_samples::{Context, ContextCall};
 use std::alloc::Global;
@@ -55,43 +55,6 @@ fn begin_run(
         Begun::Hit(_) => Err(Fault::Incomplete),
         Begun::Run(pending) => Ok(pending),
     }
-}
-
-// A run with one read, whose answer is the output, from its beginning to its end.
-fn run_one(
-    alloc: Global,
-    cache: &mut CacheData<AnyMemo>,
-    context: &Context,
-    call: ContextCall,
-) -> Result<Reply<u64>, Fault> {
-    let mut pending = begin_run(alloc, cache, context)?;
-    let Ok(answer) = context.track(alloc).ask(call, pending.recording()) else {
-        pending.give_up(&mut top());
-        return Err(Fault::Memory);
-    };
-    pending.finish(cache, &mut top(), answer)
-}
-
-#[test]
-fn a_run_that_lacks_the_first_call_is_not_stored(rt: HostRuntime) -> Result<(), Fail> {
-    let alloc = rt.alloc();
-    let mut cache = CacheData::new(alloc);
-    let here = Context {
-        location: 0,
-        styles: 40,
-    };
-    let there = Context {
-        location: 1,
-        styles: 40,
-    };
-    let first = run_one(alloc, &mut cache, &here, ContextCall::Location)?;
-    assert_eq!(rt; first.output, 0);
-    assert_eq!(rt; first.how, How::Stored);
-    let second = run_one(alloc, &mut cache, &there, ContextCall::Styles)?;
-    assert_eq!(rt; second.output, 40);
-    assert_eq!(rt; second.how, How::MissingCall);
-    assert_eq!(rt; cache.len(), 1);
-    Ok(())
 }
 
 #[test]

@@ -8,39 +8,13 @@ use comemo_samples::{Context, ContextCall, Place, Row};
 use std::alloc::{AllocError, Global};
 use std::test::Fail;
 
-// A recording of where a context is, and of how it is set where that is wanted too.
-fn recorded(
-    alloc: Global,
-    context: &Context,
-    styles: bool,
-) -> Result<Constraint<ContextCall, u64>, AllocError> {
+// A recording of where a context is, and of how it is set.
+fn recorded(alloc: Global, context: &Context) -> Result<Constraint<ContextCall, u64>, AllocError> {
     let mut recording = Constraint::new(alloc);
     let mut view = context.track_with(alloc, &mut recording);
     let _ = view.ask(ContextCall::Location)?;
-    if styles {
-        let _ = view.ask(ContextCall::Styles)?;
-    }
+    let _ = view.ask(ContextCall::Styles)?;
     Ok(recording)
-}
-
-#[test]
-fn a_recording_holds_where_the_answers_are_the_same(rt: HostRuntime) -> Result<(), Fail> {
-    let alloc = rt.alloc();
-    let here = Context {
-        location: 0,
-        styles: 5,
-    };
-    let there = Context {
-        location: 1,
-        styles: 5,
-    };
-    let location = recorded(alloc, &here, false)?;
-    assert!(rt; location.validate(&here)?);
-    assert!(rt; !location.validate(&there)?);
-    let nothing: Constraint<ContextCall, u64> = Constraint::new(alloc);
-    assert!(rt; nothing.validate(&here)?);
-    assert!(rt; nothing.validate(&there)?);
-    Ok(())
 }
 
 #[test]
@@ -52,7 +26,6 @@ fn a_recording_is_asked_to_its_last_pair(rt: HostRuntime) -> Result<(), Fail> {
             location: 3,
             styles: 5,
         },
-        true,
     )?;
     for (location, styles, holds) in [(3, 5, true), (3, 6, false), (4, 5, false), (5, 3, false)] {
         assert_eq!(rt;

@@ -25,6 +25,11 @@ module _ {X Y : Type 0} where
   by_part f g (call.A c) = f c
   by_part f g (call.B c) = g c
 
+  -- the first of a call of the first part, the second of one of the second
+  abbrev pub OnCall : (X → Type 0) → (Y → Type 0) → MultiCall X Y → Type 0
+  OnCall P Q (call.A c) = P c
+  OnCall P Q (call.B c) = Q c
+
   -- each call has the answer that its part gives
   abbrev pub part_answers : {P Q : Type 0} → (X → P) → (Y → Q) → MultiCall X Y → MultiAnswer P Q
   part_answers m n (call.A c) = answer.A (m c)

@@ -1,4 +1,5 @@
 -- What writes do to a value.
+use Rattle.std.specs.Borrow.{MutBor}
 use Rattle.std.specs.Prelude.{◌≡◌, Bool, false, List, [], ◌∷◌, IsTrue}
 
 -- no read has another answer
@@ -15,3 +16,7 @@ module _ {S C R : Type 0} (wrote : S → C → S → Type 0) (w : C → Bool) (s
   abbrev pub Done : S → S → List C → Type 0
   Done s t [] = t ≡ s
   Done s t (call ∷ calls) = (mid : S) × Writes s call mid × Done mid t calls
+
+-- what was lent as s is t, in the same place, after this write on it
+abbrev pub WroteAt : {S C : Type 0} → (S → C → S → Type 0) → MutBor S → C → MutBor S → Type 0
+WroteAt wrote s call t = wrote s.now call t.now × (t.ghost_name ≡ s.ghost_name)

@@ -1,8 +1,8 @@
 -- The laws of writes, which the traits ask. They say nothing that a reader must believe.
-use Rattle.std.proofs.Common.{◌≡◌, Bool, List, [], ◌∷◌, ◌++◌, IsTrue, refl, sym, subst}
+use Rattle.std.proofs.Common.{Bool, List, [], ◌∷◌, ◌++◌, IsTrue, refl, sym, subst}
 use Rattle.std.specs.Cmp.{IsEquivalence}
 use Rattle.comemo_base.proofs.Paths.{joined}
-use Rattle.comemo_track.specs.Writing.{SameReads, Writes, Done}
+use Rattle.comemo_track.specs.Writing.{SameReads, Done}
 
 module _ {S C R : Type 0} (wrote : S → C → S → Type 0) (w : C → Bool) (same : R → R → Bool) (answers : S → C → R) where
   -- what is done in two parts is done

@@ -67,6 +67,15 @@ impl<C: Call, R> Constraint<C, R> {
         self.whole
     }
 
+    /// Tells a proof what every recording keeps: what has an answer is a read, and its writes are writes. It does nothing
+    /// when it runs. This project's own.
+    pub fn has_reads_and_writes(&self)
+        ensures reads { All (λ p. C.is_write p.0 ≡ false) self.now.pairs }
+        ensures writes { All (λ c. C.is_write c ≡ true) self.now.writes }
+    {
+        let _ = &self.reads;
+    }
+
     /// The recorded reads, as a sequence, which is what a cache stores them by, and the recorded writes. It takes no
     /// memory. This project's own.
     pub fn into_parts(self) -> (CallSequence<C, R>, Vec<C>)

@@ -133,6 +133,63 @@ impl<'a, K: Clone + Eq + Hash, T: Track> Input for Keyed<'a, K, T> {
     }
 }
 
+/// A key joined with a tracked value that is lent to be written: the input of a function of one argument that isn't
+/// tracked and one that it reads and writes. Its calls are the value's.
+///
+/// The input of the front door of functions that write. It takes what its parts take. This project's own, as `Keyed` is.
+#[derive(Drop)]
+pub struct KeyedMut<'a, K: Clone + Eq + Hash, T> {
+    /// What isn't tracked.
+    pub key: K,
+    /// What is tracked.
+    pub value: &'a mut T,
+    // a clone of a key is equal
+    pub ghost clones: { (x y : K) → K.is_clone x y → IsTrue (K.eq x y) },
+}
+
+impl<'a, K: Clone + Eq + Hash, T: Track> Input for KeyedMut<'a, K, T> {
+    type Call = T::Call;
+
+    type Key = K;
+
+    type Answer = T::Answer;
+
+    ghost key_of = { λ s. s.key };
+
+    ghost answers = { λ s. T.answers s.value.now };
+
+    ghost did = { λ s t W. ⟦<T as Written>⟧.did s.value.now t.value.now W
+        × (t.value.ghost_name ≡ s.value.ghost_name) × (t.key ≡ s.key) };
+
+    ghost alike = { λ s. T.alike s.value.now };
+
+    ghost starts = { λ s. (refl, refl, refl) };
+
+    ghost joins = { λ s t u V W a b. (
+      done_both T.wrote T.Call.is_write T.Answer.eq T.answers
+          s.value.now t.value.now u.value.now V W a.0 b.0,
+      b.1 ∙ a.1,
+      b.2 ∙ a.2,
+    ) };
+
+    ghost keeps = { λ s t W a. done_keeps T.wrote T.Call.is_write T.Answer.eq T.answers
+        T.Answer.Eq.laws s.value.now t.value.now W a.0 };
+
+    ghost keeps_key = { λ s t W a. equal_if_one K.Eq.laws _ _ a.2 };
+
+    fn key(&self) -> Result<K, AllocError> {
+        self.key.clone()
+    }
+
+    fn call(&mut self, call: &T::Call) -> Result<T::Answer, AllocError> {
+        self.value.ask(call)
+    }
+
+    fn call_mut(&mut self, call: &T::Call) -> Result<(), AllocError> {
+        T::call_mut(self.value, call)
+    }
+}
+
 /// A view: an input with no key, whose calls and answers are the view's. Lent as `&mut`, it is its caller's again after
 /// a look-up. The key takes no memory; an answer is refused where the value refuses it.
 ///

@@ -32,6 +32,7 @@
 #![tactic(auto)]
 
 pub mod both;
+pub mod both_mut;
 pub mod constraint;
 pub mod input;
 pub mod mapped;
@@ -40,8 +41,9 @@ pub mod track;
 pub mod writing;
 
 pub use both::Both;
+pub use both_mut::BothMut;
 pub use constraint::Constraint;
-pub use input::{Hashed, Input, Keyed};
+pub use input::{Hashed, Input, Keyed, KeyedMut};
 pub use mapped::{CallMap, MappedSink};
 pub use multi::{First, Multi, MultiAnswer, MultiCall, Second};
 pub use track::{Breaking, Call, Sink, Top, Track, Tracked, TrackedWith, Written};

@@ -277,13 +277,13 @@ pub trait Track {
     // what the value answers
     ghost answers: { Self → Self.Call → Self.Answer };
 
-    /// The answer to a read. An error says that there was no memory for it. The value stays as it is.
+    /// The answer to a read. An error says that there was no memory for it. The value stays as it is. What it answers to
+    /// a write is left open: it is handed none.
     ///
     /// It stands in the place of comemo's `Track::call`, which gives the hash of an answer.
     fn ask(&self, call: &Self::Call) -> Result<Self::Answer, AllocError>
-        requires { Self.Call.is_write call.now ≡ false }
-        ensures { IfOk result
-            (λ answer. IsTrue (Self.Answer.eq (answers self.now call.now) answer)) };
+        ensures { Self.Call.is_write call.now ≡ false
+            → IfOk result (λ answer. IsTrue (Self.Answer.eq (answers self.now call.now) answer)) };
 
     // what a write does: the value before it, the write, and the value after it
     ghost wrote: { Self → Self.Call → Self → Type 0 } = { λ _ _ _. ⊤ };
@@ -448,9 +448,8 @@ impl<'a, T: Track> Tracked<'a, T> {
 
     /// The answer to a read, with nothing sent: what an input that holds the view is asked by a look-up.
     pub(crate) fn read(&self, call: &T::Call) -> Result<T::Answer, AllocError>
-        requires { T.Call.is_write call.now ≡ false }
-        ensures { IfOk result
-            (λ answer. IsTrue (T.Answer.eq (T.answers self.now call.now) answer)) }
+        ensures { T.Call.is_write call.now ≡ false
+            → IfOk result (λ answer. IsTrue (T.Answer.eq (T.answers self.now call.now) answer)) }
     {
         self.value.ask(call)
     }

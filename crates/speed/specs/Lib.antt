@@ -1,2 +1,4 @@
 pub mod Sums
 pub mod Lengths
+pub mod Counting
+pub mod CountingLaws

@@ -5,6 +5,7 @@
 //! output could not be written, and with 2 where it knows no such word.
 #![tactic(auto)]
 
+mod counting;
 mod hashing;
 mod inputs;
 mod lengths;
@@ -12,8 +13,11 @@ mod player;
 mod report;
 mod runs;
 mod scatter;
+mod seen;
 mod stopwatch;
 mod sums;
+mod tree_runs;
+mod trees;
 mod workload;
 
 use report::{Failure, write_large, write_sums, write_times};

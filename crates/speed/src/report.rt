@@ -66,7 +66,7 @@ pub fn write_sums<R: Clock, W: Write>(
     writer: &mut W,
 ) -> Result<(), Failure> {
     for workload in WORKLOADS {
-        let seen = run(rt, alloc, workload, workload.few())?;
+        let seen = run(rt, alloc, workload.brief(), workload.few())?;
         write_line(alloc, writer, workload, &[], seen.sum)?;
     }
     Ok(())

@@ -1,25 +1,19 @@
 //! How the workloads are done. Each makes what it works on, then reads the clock, does its operations, and reads it
 //! again. Of a large input of `calc` all is timed: there the commands are made as they are carried out.
 
+use crate::counting::{CountMemo, Numbers, count_up};
 use crate::hashing::{bytes, fold_numbers, text};
 use crate::inputs::Input;
 use crate::lengths::{length_by_kept_number, length_by_number, length_of};
+use crate::seen::Seen;
 use crate::stopwatch::Stopwatch;
 use crate::sums::{SumKey, SumMemo, sum};
+use crate::tree_runs::{insert_scattered, retain};
 use crate::workload::Workload;
 use comemo::{CacheData, Fault, Hashed, Prehashed, Track};
-use comemo_samples::Cells;
+use comemo_samples::{Cells, Counter};
 use std::alloc::{AllocError, Global};
 use std::rt::Clock;
-
-/// What was seen of some operations.
-#[derive(Clone, Copy, Debug, PartialEq, Eq)]
-pub struct Seen {
-    /// The nanoseconds that all took, where the clock could be read.
-    pub nanoseconds: Option<u64>,
-    /// What the operations gave, in one number.
-    pub sum: u64,
-}
 
 /// The text workloads' key has a mebibyte.
 const TEXT_BYTES: usize = 1_048_576;
@@ -44,6 +38,11 @@ pub fn run<R: Clock>(
         Workload::MissNewKeys { calls } => miss_new_keys(rt, alloc, calls, operations),
         Workload::MissLastDiffers => miss_last_differs(rt, alloc, operations),
         Workload::HitAmong { entries } => hit_among(rt, alloc, entries, operations),
+        Workload::HitAmongKeys { keys } => hit_among_keys(rt, alloc, keys, operations),
+        Workload::HitWrites { levels } => hit_writes(rt, alloc, levels, operations),
+        Workload::MissWrites { levels } => miss_writes(rt, alloc, levels, operations),
+        Workload::Retain { layout, keeps } => retain(rt, alloc, layout, keeps, operations),
+        Workload::InsertScattered => insert_scattered(rt, alloc, operations),
         Workload::TextItself => text_itself(rt, alloc, operations),
         Workload::TextByNumber => text_by_number(rt, alloc, operations),
         Workload::TextByKeptNumber => text_by_kept_number(rt, alloc, operations),
@@ -183,6 +182,84 @@ fn hit_among<R: Clock>(
     Ok(Seen {
         nanoseconds: watch.nanoseconds(rt),
         sum: all,
+    })
+}
+
+/// Keeps sums of one cell, each under a key of its own, and hits them.
+fn hit_among_keys<R: Clock>(
+    rt: &R,
+    alloc: Global,
+    keys: u64,
+    operations: u64,
+) -> Result<Seen, Fault> {
+    let cells = made(Cells::new(alloc, CELLS))?;
+    let mut cache: CacheData<SumMemo> = CacheData::new(alloc);
+    let view = cells.track(alloc);
+    for start in 0..keys {
+        sum(alloc, &mut cache, SumKey { start, count: 1 }, &view)?;
+    }
+    let watch = Stopwatch::start(rt);
+    let mut all: u64 = 0;
+    for hit in 0..operations {
+        // The keys in a scattered order.
+        let start = hit.wrapping_mul(7919).wrapping_add(13) % keys.max(1);
+        let key = SumKey { start, count: 1 };
+        all = all.wrapping_add(sum(alloc, &mut cache, key, &view)?.output);
+    }
+    Ok(Seen {
+        nanoseconds: watch.nanoseconds(rt),
+        sum: all,
+    })
+}
+
+/// Hits one kept run of so many levels, of which each wrote, so that each hit does as many writes again.
+fn hit_writes<R: Clock>(
+    rt: &R,
+    alloc: Global,
+    levels: u32,
+    operations: u64,
+) -> Result<Seen, Fault> {
+    let mut counter = Counter { number: 0 };
+    let mut cache: CacheData<CountMemo> = CacheData::new(alloc);
+    let numbers = Numbers {
+        first: 1,
+        count: levels,
+    };
+    count_up(alloc, &mut cache, numbers, &mut counter)?;
+    let watch = Stopwatch::start(rt);
+    let mut all: u64 = 0;
+    for _ in 0..operations {
+        let reply = count_up(alloc, &mut cache, numbers, &mut counter)?;
+        all = all.wrapping_add(reply.output);
+    }
+    Ok(Seen {
+        nanoseconds: watch.nanoseconds(rt),
+        sum: all.wrapping_mul(31).wrapping_add(counter.number),
+    })
+}
+
+/// Does runs of so many levels, of which each writes and none is kept already, beginning with an empty cache.
+fn miss_writes<R: Clock>(
+    rt: &R,
+    alloc: Global,
+    levels: u32,
+    operations: u64,
+) -> Result<Seen, Fault> {
+    let mut counter = Counter { number: 0 };
+    let mut cache: CacheData<CountMemo> = CacheData::new(alloc);
+    let watch = Stopwatch::start(rt);
+    let mut all: u64 = 0;
+    for first in 0..operations {
+        let numbers = Numbers {
+            first,
+            count: levels,
+        };
+        let reply = count_up(alloc, &mut cache, numbers, &mut counter)?;
+        all = all.wrapping_add(reply.output);
+    }
+    Ok(Seen {
+        nanoseconds: watch.nanoseconds(rt),
+        sum: all.wrapping_mul(31).wrapping_add(counter.number),
     })
 }
 

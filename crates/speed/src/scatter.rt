@@ -21,4 +21,10 @@ impl Scatter {
             .wrapping_add(1_442_695_040_888_963_407);
         (self.state >> 33) % count.max(1)
     }
+
+    /// A number in a scattered order that no other place gives: the upper half is scattered, the lower one is the place,
+    /// modulo 2^32.
+    pub fn place(&mut self, place: u64) -> u64 {
+        (self.below(1 << 31) << 32) | (place % (1 << 32))
+    }
 }

@@ -1,6 +1,7 @@
 //! The workloads: what each is called, and how often it is done.
 
 use crate::inputs::Input;
+use crate::tree_runs::Layout;
 use std::alloc::{AllocError, Global};
 
 /// A kind of work, whose operations are timed.
@@ -18,6 +19,16 @@ pub enum Workload {
     MissLastDiffers,
     /// Kept sums of one cell, among so many under one key.
     HitAmong { entries: u64 },
+    /// Kept sums of one cell, each under a key of its own, among so many.
+    HitAmongKeys { keys: u64 },
+    /// A kept run of so many levels, each of which wrote once.
+    HitWrites { levels: u32 },
+    /// Runs of so many levels, each of which writes once, each under a key of its own.
+    MissWrites { levels: u32 },
+    /// A retention by the call tree alone, of entries that lie so. It keeps all of them, or drops all.
+    Retain { layout: Layout, keeps: bool },
+    /// Different answers to one call, which come in a scattered order to the call tree alone.
+    InsertScattered,
     /// The kept length of a text, under the text.
     TextItself,
     /// The kept length of a text, under its number, which is computed each time.
@@ -29,7 +40,7 @@ pub enum Workload {
 }
 
 /// All workloads, in the order in which they are done.
-pub const WORKLOADS: [Workload; 27] = [
+pub const WORKLOADS: [Workload; 41] = [
     Workload::Sip { bytes: 16 },
     Workload::Sip { bytes: 64 },
     Workload::Sip { bytes: 1024 },
@@ -49,6 +60,38 @@ pub const WORKLOADS: [Workload; 27] = [
     Workload::MissLastDiffers,
     Workload::HitAmong { entries: 1 },
     Workload::HitAmong { entries: 1000 },
+    Workload::HitAmong { entries: 100_000 },
+    Workload::HitAmongKeys { keys: 100_000 },
+    Workload::HitWrites { levels: 1 },
+    Workload::HitWrites { levels: 3 },
+    Workload::HitWrites { levels: 10 },
+    Workload::MissWrites { levels: 1 },
+    Workload::MissWrites { levels: 3 },
+    Workload::Retain {
+        layout: Layout::Keys { calls: 1 },
+        keeps: true,
+    },
+    Workload::Retain {
+        layout: Layout::Keys { calls: 1 },
+        keeps: false,
+    },
+    Workload::Retain {
+        layout: Layout::Keys { calls: 10 },
+        keeps: true,
+    },
+    Workload::Retain {
+        layout: Layout::Keys { calls: 10 },
+        keeps: false,
+    },
+    Workload::Retain {
+        layout: Layout::OneKey,
+        keeps: true,
+    },
+    Workload::Retain {
+        layout: Layout::OneKey,
+        keeps: false,
+    },
+    Workload::InsertScattered,
     Workload::TextItself,
     Workload::TextByNumber,
     Workload::TextByKeptNumber,
@@ -63,12 +106,8 @@ pub const WORKLOADS: [Workload; 27] = [
     Workload::Calc { input: Input::Many },
 ];
 
-// How many misses are timed. The number was chosen when a cache was a plain list, and a miss took time in proportion to
-// what was kept.
-const MISSES: u64 = 1_000;
-
-// How many hits among many entries are timed. The number was chosen when each of them went over a plain list.
-const HITS_AMONG_MANY: u64 = 20_000;
+/// Among how many entries hits are done where the sum alone is wanted.
+const BRIEF_ENTRIES: u64 = 5_000;
 
 impl Workload {
     /// What it is called, as its line says. An error says that there was no memory for the text.
@@ -82,6 +121,13 @@ impl Workload {
             Workload::HitAmong { entries } => {
                 format!(in alloc; "hit among {entries} under one key")
             }
+            Workload::HitAmongKeys { keys } => format!(in alloc; "hit among {keys} keys"),
+            Workload::HitWrites { levels } => format!(in alloc; "hit {levels} levels that write"),
+            Workload::MissWrites { levels } => {
+                format!(in alloc; "miss {levels} levels that write")
+            }
+            Workload::Retain { layout, keeps } => retain_name(alloc, layout, keeps),
+            Workload::InsertScattered => String::from_str(alloc, "tree insert, scattered answers"),
             Workload::TextItself => String::from_str(alloc, "text 1 MiB as a key, kept itself"),
             Workload::TextByNumber => String::from_str(alloc, "text 1 MiB by its number"),
             Workload::TextByKeptNumber => String::from_str(alloc, "text 1 MiB by a number kept"),
@@ -102,12 +148,31 @@ impl Workload {
                 2..=10 => 150_000,
                 _ => 20_000,
             },
-            Workload::MissNewKeys { .. } | Workload::MissLastDiffers => MISSES,
-            Workload::HitAmong { entries: 0..=1 } => 400_000,
-            Workload::HitAmong { .. } => HITS_AMONG_MANY,
+            Workload::MissNewKeys { calls: 0..=10 }
+            | Workload::MissLastDiffers
+            | Workload::MissWrites { .. } => 10_000,
+            Workload::MissNewKeys { .. } => 2_000,
+            Workload::HitAmong { .. } | Workload::HitAmongKeys { .. } => 400_000,
+            Workload::HitWrites { levels: 0..=3 } => 300_000,
+            Workload::HitWrites { .. } => 150_000,
+            Workload::Retain { .. } | Workload::InsertScattered => 100_000,
             Workload::TextItself | Workload::TextByNumber => 20,
             Workload::TextByKeptNumber => 500_000,
             Workload::Calc { input } => input.moderate(),
+        }
+    }
+
+    /// The workload as it is done where the sum alone is wanted: among fewer entries, which take long to make in a program
+    /// that isn't optimized.
+    pub fn brief(self) -> Workload {
+        match self {
+            Workload::HitAmong { entries } => Workload::HitAmong {
+                entries: entries.min(BRIEF_ENTRIES),
+            },
+            Workload::HitAmongKeys { keys } => Workload::HitAmongKeys {
+                keys: keys.min(BRIEF_ENTRIES),
+            },
+            other => other,
         }
     }
 
@@ -130,5 +195,14 @@ fn sip_name(alloc: Global, bytes: usize) -> Result<String, AllocError> {
         0 => format!(in alloc; "sip {bytes} B"),
         1..=1023 => format!(in alloc; "sip {kibibytes} KiB"),
         _ => format!(in alloc; "sip {} MiB", kibibytes / 1024),
+    }
+}
+
+/// What a retention by the call tree is called.
+fn retain_name(alloc: Global, layout: Layout, keeps: bool) -> Result<String, AllocError> {
+    let does = if keeps { "keeps" } else { "drops" };
+    match layout {
+        Layout::Keys { calls } => format!(in alloc; "tree {does} all, {calls} calls, keys"),
+        Layout::OneKey => format!(in alloc; "tree {does} all, 1 calls, one key"),
     }
 }

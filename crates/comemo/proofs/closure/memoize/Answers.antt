@@ -31,3 +31,14 @@ returns-clause-err g c =
 
 pub returns-in_err-output-clause-fault : goal.returns-in_err-output-clause-fault
 returns-in_err-output-clause-fault g c = fault_is c.from_residual.result c.in_err-output.field-0.0 c.from_residual.ensures.1 _ c.in_err-output.ensures.err _ (λ memory. inl refl) (λ write. inr (inl (refl, c.begin.new.input, stopped_so write.1)))
+
+pub func-ran-requires : goal.func-ran-requires
+func-ran-requires g c =
+    let run = rw c.in-Run.is at c.in_ok-output.ensures.run in
+    c.requires.callable _ _ (record {
+      none = run.0.none;
+      unchanged = run.1;
+      pairs = c.empty-recording.ensures.pairs;
+      writes = c.empty-recording.ensures.writes;
+      whole = c.empty-recording.ensures.whole;
+    })

@@ -2,7 +2,7 @@ use Rattle.std.proofs.Common.{◌≡◌, ◌∙◌, [], inl, inr, true, false, r
 use Rattle.comemo_base.proofs.Paths.{turned}
 use Rattle.comemo.specs.Meaning.{Meaning, run, invocation}
 use Rattle.comemo.specs.Cache.{Has, Stands}
-use Rattle.comemo.proofs.Calls.{fault_handed}
+use Rattle.comemo.proofs.Calls.{on_fault, fault_handed}
 use Rattle.comemo.proofs.Sendings.{breaks_at_once}
 use Rattle.comemo.proofs.Entries.{Has-alike, HasNone-alike, Agrees-found}
 use Rattle.comemo.proofs.pending.begin.Goals as goal
@@ -106,3 +106,27 @@ returns-in_err-output-clause-err g c =
         is_spoiled = stop.5;
       },
     ))
+
+pub returns-in_default-clause-reached : goal.returns-in_default-clause-reached
+returns-in_default-clause-reached g c = ([], g.met.In.Input.starts _)
+
+pub returns-in_default-look-clause-reached : goal.returns-in_default-look-clause-reached
+returns-in_default-look-clause-reached g c = ([], c.look.ensures.same)
+
+pub returns-in-Some-clause-reached : goal.returns-in-Some-clause-reached
+returns-in-Some-clause-reached g c = (c.in-Some.found.writes.items, g.met.In.Input.joins _ _ _ [] c.in-Some.found.writes.items c.look.ensures.same c.in_ok-output.ensures.done)
+
+pub returns-in_err-output-clause-reached : goal.returns-in_err-output-clause-reached
+returns-in_err-output-clause-reached g c =
+    on_fault c.in_err-output.field-0.0 c.in_err-output.ensures.err
+    (λ memory. ([], g.met.In.Input.joins _ _ _ [] [] c.look.ensures.same memory.0))
+    (λ stop. (stop.0, g.met.In.Input.joins _ _ _ [] stop.0 c.look.ensures.same stop.4))
+
+pub returns-clause-reached : goal.returns-clause-reached
+returns-clause-reached g c = (
+  [],
+  elim c.if-enabled.branch [
+    | then-enabled+in-Ok-look+in_default-looked w ↦ subst (λ s. g.In.Input.did c.args.input.now s []) (sym w.input-is) w.look.ensures.same
+    | else-enabled w ↦ subst (λ s. g.In.Input.did c.args.input.now s []) (sym w.input-is) (g.met.In.Input.starts c.args.input.now)
+  ],
+)

@@ -1,5 +1,4 @@
 use Rattle.std.proofs.Common.{ap, refl}
-use Rattle.std.proofs.lemmas.Result.{on_ok_weaker}
 use Rattle.comemo_track.specs.Recording.{Recording}
 use Rattle.comemo_track.proofs.Recordings.{spoiled_at}
 use Rattle.comemo_track.proofs.Sendings.{on_err}

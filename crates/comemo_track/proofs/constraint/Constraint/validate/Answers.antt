@@ -12,13 +12,6 @@ use Rattle.comemo_track.proofs.constraint.Constraint.validate.Goals.{in-Some+in_
 pub loop-slot-init : goal.loop-slot-init
 loop-slot-init g c = tt
 
-pub ask-requires : goal.ask-requires
-ask-requires g c =
-    let slots = c.slots-slot-items.result.now in
-    let i = c.loop-slot.slot-index in
-    let parted = remaining_at slots i c.slot-item.result _ c.loop-slot-test.true c.slot-item.is c.in-Some.is in
-    All-at (λ p. g.C.Call.is_write p.0 ≡ false) (remaining (take i slots)) (c.in-Some.call, c.in-Some.recorded) (remaining (drop (i + 1) slots)) (rw (sym parted ∙ c.slots-slot-items.ensures) c.self.invariant.all_reads)
-
 pub returns-in_err-ask-clause-err : goal.returns-in_err-ask-clause-err
 returns-in_err-ask-clause-err g c =
     let slots = c.slots-slot-items.result.now in
@@ -36,7 +29,8 @@ returns-then-ne-clause-ok g c =
       λ h. let f : false ≡ true = h in cc,
       λ agrees.
           let recorded = Agrees-at g.R.PartialEq.eq m (remaining (take i slots)) (c.in-Some.call, c.in-Some.recorded) (remaining (drop (i + 1) slots)) (subst (λ ps. Agrees g.R.PartialEq.eq m ps) pairs agrees) in
-          let same : g.R.PartialEq.eq c.in_ok-ask.field-0 c.in-Some.recorded ≡ true = joined g.met.R.Eq.laws _ _ _ (turned g.met.R.Eq.laws _ _ c.in_ok-ask.ensures) recorded in
+          let read = All-at (λ p. g.C.Call.is_write p.0 ≡ false) (remaining (take i slots)) (c.in-Some.call, c.in-Some.recorded) (remaining (drop (i + 1) slots)) (rw (sym parted ∙ c.slots-slot-items.ensures) c.self.invariant.all_reads) in
+          let same : g.R.PartialEq.eq c.in_ok-ask.field-0 c.in-Some.recorded ≡ true = joined g.met.R.Eq.laws _ _ _ (turned g.met.R.Eq.laws _ _ (c.in_ok-ask.ensures read)) recorded in
           sym (c.if-ne.ensures ∙ ap not same),
     )
 
@@ -50,8 +44,10 @@ loop-slot-preserved g c =
     elim c.match-slot.branch [
       | in-Some+in_ok-ask+else-ne w ↦
           let more = slot_more slots i slot c.loop-slot-test.true c.slot-item.is ∙ ap (λ x. remaining (take i slots) ++ remaining (x ∷ [])) w.in-Some.is in
+          let parted = remaining_at slots i slot _ c.loop-slot-test.true c.slot-item.is w.in-Some.is in
+          let read = All-at (λ p. g.C.Call.is_write p.0 ≡ false) (remaining (take i slots)) (w.in-Some.call, w.in-Some.recorded) (remaining (drop (i + 1) slots)) (rw (sym parted ∙ c.slots-slot-items.ensures) c.self.invariant.all_reads) in
           let is_same : same w.in_ok-ask.field-0 w.in-Some.recorded ≡ true = search rules in
-          subst (λ ps. Agrees same m ps) (sym more) (Agrees-push same m (remaining (take i slots)) (w.in-Some.call, w.in-Some.recorded) c.loop-slot.invariant (joined g.met.R.Eq.laws _ _ _ w.in_ok-ask.ensures is_same))
+          subst (λ ps. Agrees same m ps) (sym more) (Agrees-push same m (remaining (take i slots)) (w.in-Some.call, w.in-Some.recorded) c.loop-slot.invariant (joined g.met.R.Eq.laws _ _ _ (w.in_ok-ask.ensures read) is_same))
       | in_default w ↦ subst (λ ps. Agrees same m ps) (sym (slot_less slots i slot c.loop-slot-test.true c.slot-item.is (λ q e. w.in_default.not-Some q e))) c.loop-slot.invariant
     ]
 

@@ -1,0 +1,4 @@
+pub mod Fibonacci
+pub mod Started
+pub mod PlaceAnswers
+pub mod Emitting

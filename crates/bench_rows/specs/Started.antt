@@ -1,0 +1,34 @@
+-- What the program of the rows prints, and its status.
+use Rattle.std.specs.Prelude.{◌≡◌, ℕ, List, [], ◌∷◌, ◌++◌, Bool, false, Option, None, Some, IfSome, Contains, String, codes, string_bytes, bytes_eq}
+use Rattle.std.specs.Global.{Global}
+use Rattle.calc_lines.specs.Started.{WritesFront}
+
+-- whether the words after the program's name ask for the rows
+abbrev pub asks_for_rows : List (String Global) → Bool
+asks_for_rows (word ∷ []) = bytes_eq (string_bytes word) (codes "rows")
+asks_for_rows _ = false
+
+-- the numbers of the rows that run, in their order
+abbrev pub row_numbers : List (List ℕ)
+row_numbers =
+    codes "1" ∷ codes "2" ∷ codes "3" ∷ codes "4" ∷ codes "5" ∷ codes "6" ∷ codes "7" ∷ codes "8" ∷ codes "9" ∷ codes "11"
+    ∷ codes "13" ∷ codes "14" ∷ codes "16" ∷ codes "17" ∷ codes "18" ∷ codes "19" ∷ codes "22" ∷ codes "23" ∷ codes "24" ∷ codes "25" ∷ []
+
+-- what is printed where the row of this number failed first, or none did
+abbrev pub verdict : Option (List ℕ) → List ℕ
+verdict None = codes "rows ok\n"
+verdict (Some number) = codes "row " ++ number ++ codes " failed\n"
+
+-- the status then
+abbrev pub status_of : Option (List ℕ) → ℕ
+status_of None = 0
+status_of (Some number) = 1
+
+-- one of these rows failed first, or none did, and that is what the status says, and what was written as far as the device took it
+abbrev pub RanRows : Option (List ℕ) → Option (List ℕ) → ℕ → Type 0
+RanRows before after status =
+    (failed : Option (List ℕ)) × IfSome failed (Contains row_numbers) × (status ≡ status_of failed) × WritesFront before after (verdict failed)
+
+-- what is said where the words ask for nothing that there is
+abbrev pub usage : List ℕ
+usage = codes "usage: bench rows | fuzz SEED STEPS | threads WORKERS CALLS\n"

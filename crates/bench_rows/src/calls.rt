@@ -1,0 +1,32 @@
+//! What rows expect of calls of memoized functions.
+
+use comemo::{CacheData, Fault, Function, How, MemoOf, Reply, Top, Track, memoized};
+use std::alloc::Global;
+
+/// Calls a function that needs nothing, with no run around it.
+pub(crate) fn call<F: Function<Needs = ()>>(
+    alloc: Global,
+    cache: &mut CacheData<MemoOf<F>>,
+    key: F::Key,
+    of: &F::Of,
+) -> Result<Reply<F::Out>, Fault> {
+    memoized(
+        alloc,
+        cache,
+        &mut (),
+        key,
+        &of.track(alloc),
+        &mut Top::new(),
+        true,
+    )
+}
+
+/// Whether a reply has this output, and this became of the call.
+pub(crate) fn gives<O: Copy + PartialEq>(reply: Reply<O>, output: O, how: How) -> bool {
+    reply.output == output && reply.how == how
+}
+
+/// Whether a reply has this text, and this became of the call.
+pub(crate) fn gives_text(reply: Reply<String>, text: &str, how: How) -> bool {
+    reply.output.as_str() == text && reply.how == how
+}

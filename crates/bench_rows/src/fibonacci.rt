@@ -1,0 +1,69 @@
+//! A memoized function that calls itself.
+ghost use Rattle.std.specs.Prelude.{◌≡◌, ◌≤◌, IfOk, OnErr, ◌%◌, ◌^◌};
+ghost use Rattle.std.proofs.Common.{rules};
+ghost use Rattle.bench_rows.specs.Fibonacci.{fib};
+
+use comemo::{Begun, CacheData, Constraint, Fault, Hashed, How, Memo, Reply, begin};
+use std::alloc::Global;
+
+/// The number of Fibonacci at a place.
+pub struct FibMemo;
+
+impl Memo for FibMemo {
+    type Call = ();
+
+    type Key = u64;
+
+    type Answer = ();
+
+    type Out = u64;
+
+    ghost def = { λ n _ out _. out ≡ fib n % 2 ^ 64 };
+
+    ghost laws = { Prim.search rules };
+}
+
+/// The number at a place from those before it, which are kept.
+#[cycle(counting)]
+fn from_before(
+    alloc: Global,
+    cache: &mut CacheData<FibMemo>,
+    place: u64,
+    recording: &mut Constraint<(), ()>,
+) -> Result<u64, Fault>
+    ensures { IfOk result (λ number. number ≡ fib place % 2 ^ 64) }
+{
+    if place < 2 {
+        return Ok(place);
+    }
+    let one = numbered(alloc, cache, place - 1, recording)?;
+    let other = numbered(alloc, cache, place - 2, recording)?;
+    Ok(one.output.wrapping_add(other.output))
+}
+
+/// The number of Fibonacci at a place, kept, by way of those before it.
+#[cycle(counting)]
+pub fn numbered(
+    alloc: Global,
+    cache: &mut CacheData<FibMemo>,
+    place: u64,
+    sink: &mut Constraint<(), ()>,
+) -> Result<Reply<u64>, Fault>
+    ensures { IfOk result (λ reply. reply.output ≡ fib place % 2 ^ 64) }
+{
+    match begin(alloc, cache, &mut Hashed(place), sink, true)? {
+        Begun::Hit(output) => Ok(Reply {
+            output,
+            how: How::Hit,
+        }),
+        Begun::Run(mut pending) => {
+            match from_before(alloc, cache, place, pending.recording()) {
+                Ok(number) => pending.finish(cache, sink, number),
+                Err(fault) => {
+                    pending.give_up(sink);
+                    Err(fault)
+                }
+            }
+        }
+    }
+}

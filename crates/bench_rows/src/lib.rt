@@ -1,0 +1,45 @@
+//! Worked rows of the library and of the program `calc`, by their numbers, and the program `bench` but for its streams.
+//!
+//! A row does some calls, one after the other, and knows what each of them has to answer. The table of the rows is
+//! `run_rows`.
+//!
+//! ```rust
+//! use bench_rows::{Outcome, start};
+//!
+//! let words = vec![in alloc; String::from_str(alloc, "rows")?]?;
+//! let mut printed: Vec<u8> = Vec::new(alloc);
+//! let mut errors: Vec<u8> = Vec::new(alloc);
+//! let status = start(alloc, words.as_slice(), &mut printed, &mut errors);
+//! assert_eq!(rt; (status, printed.as_slice()), (0, b"rows ok\n".as_slice()));
+//!
+//! let mut rows = Outcome::new();
+//! rows.row("1", Ok(true));
+//! rows.row("2", Ok(false));
+//! let mut printed: Vec<u8> = Vec::new(alloc);
+//! assert_eq!(rt; rows.report(&mut printed), 1);
+//! assert_eq!(rt; printed.as_slice(), b"row 2 failed\n".as_slice());
+//! ```
+#![tactic(auto)]
+
+mod broken;
+mod calls;
+mod chains;
+mod fibonacci;
+mod hashes;
+mod numbers;
+mod orders;
+mod outcome;
+mod place;
+mod places;
+mod program;
+mod recordings;
+mod sessions;
+mod table;
+mod texts;
+mod trees;
+mod writes;
+
+pub use broken::Broken;
+pub use outcome::Outcome;
+pub use program::start;
+pub use table::run_rows;

@@ -1,0 +1,71 @@
+//! Rows of the program `calc`: lines in, lines out.
+
+use crate::broken::Broken;
+use calc_sessions::{run, start};
+use std::alloc::Global;
+
+/// Whether a new session prints this for these lines.
+fn prints(alloc: Global, lines: &str, wanted: &str) -> Result<bool, Broken> {
+    let mut printed: Vec<u8> = Vec::new(alloc);
+    run(alloc, &mut lines.as_bytes(), &mut printed)?;
+    Ok(printed.as_slice() == wanted.as_bytes())
+}
+
+/// Whether a script's value is kept until a file changes that it read.
+pub(crate) fn a_value_is_kept_until_its_files_change(alloc: Global) -> Result<bool, Broken> {
+    let lines = "write alpha.calc 2 + eval beta.calc\n\
+        write beta.calc 2 + 3\n\
+        write gamma.calc 8 + 3\n\
+        eval eval alpha.calc\n\
+        eval eval beta.calc\n\
+        write gamma.calc 42\n\
+        eval eval alpha.calc\n\
+        write beta.calc 4 + eval gamma.calc\n\
+        eval eval beta.calc\n\
+        eval eval alpha.calc\n\
+        write gamma.calc 80\n\
+        eval eval alpha.calc\n";
+    let wanted = "miss 7\nmiss 5\nhit 7\nmiss 46\nmiss 48\nmiss 86\n";
+    prints(alloc, lines, wanted)
+}
+
+/// Whether a script without a number says why, and what is no command is said to be none.
+pub(crate) fn a_script_without_a_number_says_why(alloc: Global) -> Result<bool, Broken> {
+    let sessions = [
+        (
+            "eval 2147483647 + 1\neval 2147483647 + 1",
+            "miss overflow\nhit overflow\n",
+        ),
+        ("eval 2147483648", "miss not a number\n"),
+        ("eval -2147483648", "miss -2147483648\n"),
+        ("eval 1 + ", "miss not a number\n"),
+        ("eval +5", "miss not a number\n"),
+        ("eval eval nowhere", "miss not a number\n"),
+        ("eval ", "miss not a number\n"),
+        (
+            "write loop eval loop\neval x + eval loop",
+            "miss not a number\n",
+        ),
+        ("eval", "bad command\n"),
+        ("evict -1", "bad command\n"),
+        ("help", "bad command\n"),
+    ];
+    for (lines, wanted) in sessions {
+        if !prints(alloc, lines, wanted)? {
+            return Ok(false);
+        }
+    }
+    Ok(true)
+}
+
+/// Whether the bytes of files are counted, and no input is answered by nothing.
+pub(crate) fn the_bytes_of_files_are_counted(alloc: Global) -> Result<bool, Broken> {
+    let lines =
+        "write a hello\nsize a\nsize a\nwrite b x\nsize a\nwrite a hello!\nsize a\nsize none\n";
+    let counted = prints(alloc, lines, "miss 5\nhit 5\nhit 5\nmiss 6\nmiss 0\n")?;
+    let ended = prints(alloc, "write a hi\r\n\nsize a", "miss 2\n")?;
+    let mut printed: Vec<u8> = Vec::new(alloc);
+    let mut errors: Vec<u8> = Vec::new(alloc);
+    let status = start(alloc, &[], &mut "".as_bytes(), &mut printed, &mut errors);
+    Ok(counted && ended && status == 0 && printed.is_empty() && errors.is_empty())
+}

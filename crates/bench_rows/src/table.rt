@@ -1,0 +1,54 @@
+//! The rows by their numbers.
+ghost use Rattle.std.specs.Prelude.{IfSome, Contains};
+ghost use Rattle.bench_rows.specs.Started.{row_numbers};
+
+use crate::chains::chains_share_what_is_kept;
+use crate::hashes::{a_kept_hash_follows_its_item, two_pieces_hash_as_the_whole};
+use crate::numbers::numbers_are_kept;
+use crate::orders::runs_in_another_order;
+use crate::outcome::Outcome;
+use crate::places::a_thousand_places_are_kept;
+use crate::recordings::recordings_absorb_and_hold;
+use crate::sessions::{
+    a_script_without_a_number_says_why, a_value_is_kept_until_its_files_change,
+    the_bytes_of_files_are_counted,
+};
+use crate::texts::{functions_are_kept, two_kinds_of_questions};
+use crate::trees::{
+    a_call_that_was_taken_out_stays_seen, a_path_follows_the_stored_ones,
+    an_empty_path_is_found_unasked, calls_are_asked_in_order, paths_that_part,
+    what_is_kept_is_found_alone, what_is_stored_stays,
+};
+use crate::writes::hits_write_again;
+use std::alloc::Global;
+
+/// Runs each row, and says which failed first.
+///
+/// The longest, of a thousand places, calls a function two thousand times; each of the others makes some dozen calls.
+/// A row for which there is no memory fails. This project's own.
+pub fn run_rows(alloc: Global) -> Outcome
+    ensures { IfSome result (Contains row_numbers) }
+{
+    let mut rows = Outcome::new();
+    rows.row("1", paths_that_part(alloc));
+    rows.row("2", a_path_follows_the_stored_ones(alloc));
+    rows.row("3", what_is_kept_is_found_alone(alloc));
+    rows.row("4", what_is_stored_stays(alloc));
+    rows.row("5", an_empty_path_is_found_unasked(alloc));
+    rows.row("6", calls_are_asked_in_order(alloc));
+    rows.row("7", a_call_that_was_taken_out_stays_seen(alloc));
+    rows.row("8", two_kinds_of_questions(alloc));
+    rows.row("9", a_value_is_kept_until_its_files_change(alloc));
+    rows.row("11", a_script_without_a_number_says_why(alloc));
+    rows.row("13", hits_write_again(alloc));
+    rows.row("14", a_thousand_places_are_kept(alloc));
+    rows.row("16", runs_in_another_order(alloc));
+    rows.row("17", numbers_are_kept(alloc));
+    rows.row("18", chains_share_what_is_kept(alloc));
+    rows.row("19", recordings_absorb_and_hold(alloc));
+    rows.row("22", two_pieces_hash_as_the_whole(alloc));
+    rows.row("23", a_kept_hash_follows_its_item(alloc));
+    rows.row("24", the_bytes_of_files_are_counted(alloc));
+    rows.row("25", functions_are_kept(alloc));
+    rows
+}

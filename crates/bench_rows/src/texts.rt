@@ -1,0 +1,156 @@
+//! Rows of functions that ask texts, and of functions of texts.
+
+use crate::broken::Broken;
+use crate::calls::{call, gives, gives_text};
+use comemo::{CacheData, Fault, How, MemoOf, Reply, Top, Track, memoized};
+use comemo_guide::greetings::{Greeting, SaysHello, World};
+use comemo_guide::kinds::{IsLong, Selfie, Text};
+use comemo_guide::loader::{Contents, Library, Loader};
+use comemo_guide::numbers::SumBelow;
+use comemo_guide::texts::Same;
+use std::alloc::{AllocError, Global};
+
+/// What a text is called whose length and five pass ten, or do not.
+fn named(reply: Reply<bool>) -> (&'static str, How) {
+    (if reply.output { "Long" } else { "Short" }, reply.how)
+}
+
+/// Whether a text answers two kinds of questions, each to its own function.
+pub(crate) fn two_kinds_of_questions(alloc: Global) -> Result<bool, Broken> {
+    let mut selfies: CacheData<MemoOf<Selfie>> = CacheData::new(alloc);
+    let mut lengths: CacheData<MemoOf<IsLong>> = CacheData::new(alloc);
+    let hi = Text {
+        text: String::from_str(alloc, "Hi")?,
+    };
+    let loud = Text {
+        text: String::from_str(alloc, "Hi!")?,
+    };
+    let longer = Text {
+        text: String::from_str(alloc, "Hi! Let's go.")?,
+    };
+    let first = gives_text(call(alloc, &mut selfies, (), &hi)?, "Hi", How::Stored);
+    for (text, name, how) in [(&hi, "Short", How::Stored), (&hi, "Short", How::Hit)] {
+        if named(call(alloc, &mut lengths, (), text)?) != (name, how) {
+            return Ok(false);
+        }
+    }
+    let again = gives_text(call(alloc, &mut selfies, (), &hi)?, "Hi", How::Hit);
+    let other = gives_text(call(alloc, &mut selfies, (), &loud)?, "Hi!", How::Stored);
+    let short = named(call(alloc, &mut lengths, (), &loud)?);
+    let long = named(call(alloc, &mut lengths, (), &longer)?);
+    Ok(first && again && other && short == ("Short", How::Stored) && long == ("Long", How::Stored))
+}
+
+/// Whether what a function of nothing gives is kept.
+fn the_world_is_big(alloc: Global) -> Result<bool, Broken> {
+    let mut cache: CacheData<MemoOf<World>> = CacheData::new(alloc);
+    let mut needs = alloc;
+    for how in [How::Stored, How::Hit, How::Hit] {
+        let nothing = ().track(alloc);
+        let sink = &mut Top::new();
+        let reply = memoized(alloc, &mut cache, &mut needs, (), &nothing, sink, true)?;
+        if !gives_text(reply, "The world is big", how) {
+            return Ok(false);
+        }
+    }
+    Ok(true)
+}
+
+/// Whether a sum is kept under its number.
+fn a_sum_is_kept(alloc: Global) -> Result<bool, Broken> {
+    let mut cache: CacheData<MemoOf<SumBelow>> = CacheData::new(alloc);
+    let first = gives(call(alloc, &mut cache, 1000, &())?, 499500, How::Stored);
+    let second = gives(call(alloc, &mut cache, 1000, &())?, 499500, How::Hit);
+    Ok(first && second)
+}
+
+/// Whether a cache of texts gives this text, and this became of the call.
+fn keeps(
+    alloc: Global,
+    cache: &mut CacheData<MemoOf<Same>>,
+    text: &str,
+    how: How,
+) -> Result<bool, Fault> {
+    let reply = call(alloc, cache, String::from_str(alloc, text)?, &())?;
+    Ok(gives_text(reply, text, how))
+}
+
+/// Whether two functions of texts have each a cache of their own.
+fn each_function_has_its_cache(alloc: Global) -> Result<bool, Broken> {
+    let mut taken: CacheData<MemoOf<Same>> = CacheData::new(alloc);
+    let mut copied: CacheData<MemoOf<Same>> = CacheData::new(alloc);
+    let first = keeps(alloc, &mut taken, "Hello", How::Stored)?;
+    let second = keeps(alloc, &mut copied, "Hello", How::Stored)?;
+    let third = keeps(alloc, &mut taken, "World", How::Stored)?;
+    let fourth = keeps(alloc, &mut taken, "Hello", How::Hit)?;
+    Ok(first && second && third && fourth)
+}
+
+/// Whether a text is asked if it is `hello`, and nothing else.
+fn hello_is_asked_for(alloc: Global) -> Result<bool, Broken> {
+    let mut cache: CacheData<MemoOf<SaysHello>> = CacheData::new(alloc);
+    for (text, output, how) in [
+        ("hey", false, How::Stored),
+        ("hey", false, How::Hit),
+        ("hello", true, How::Stored),
+        ("hello", true, How::Hit),
+    ] {
+        let greeting = Greeting {
+            text: String::from_str(alloc, text)?,
+        };
+        if !gives(call(alloc, &mut cache, (), &greeting)?, output, how) {
+            return Ok(false);
+        }
+    }
+    Ok(true)
+}
+
+/// A loader that gives the same bytes for every path.
+#[derive(Drop)]
+struct OneFile {
+    bytes: Vec<u8>,
+}
+
+impl Loader for OneFile {
+    ghost gives = { λ s _. s.bytes };
+
+    fn load(&self, _path: &str) -> Result<Vec<u8>, AllocError> {
+        self.bytes.clone()
+    }
+}
+
+/// A library with one file for all paths.
+fn library(alloc: Global) -> Result<Library<OneFile>, AllocError> {
+    let bytes = vec![in alloc; 1, 2, 3]?;
+    let loader = Box::new(alloc, OneFile { bytes })?;
+    Ok(Library { loader })
+}
+
+/// Whether each path is loaded once.
+fn each_path_is_loaded_once(alloc: Global) -> Result<bool, Broken> {
+    let mut cache: CacheData<MemoOf<Contents<OneFile>>> = CacheData::new(alloc);
+    let library = library(alloc)?;
+    for (path, how) in [
+        ("hi.rs", How::Stored),
+        ("hi.rs", How::Hit),
+        ("bye.rs", How::Stored),
+    ] {
+        let path = String::from_str(alloc, path)?;
+        let reply = call(alloc, &mut cache, path, &library)?;
+        if reply.output.as_slice() != [1, 2, 3].as_slice() || reply.how != how {
+            return Ok(false);
+        }
+    }
+    Ok(true)
+}
+
+/// Whether functions of nothing, of numbers, of texts and of a loader are each kept.
+pub(crate) fn functions_are_kept(alloc: Global) -> Result<bool, Broken> {
+    Ok(
+        the_world_is_big(alloc)?
+            && a_sum_is_kept(alloc)?
+            && each_function_has_its_cache(alloc)?
+            && hello_is_asked_for(alloc)?
+            && each_path_is_loaded_once(alloc)?,
+    )
+}

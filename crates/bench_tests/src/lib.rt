@@ -1,0 +1,5 @@
+//! Tests of the program of the rows.
+#![tactic(auto)]
+
+#[cfg(test)]
+mod program;

@@ -1,0 +1,56 @@
+-- What a memoized function that writes means, and what its run does and is told.
+use Rattle.std.specs.Prelude.{◌≡◌, ◌⊎◌, Bool, true, false, IsTrue, List, Result, IfOk, OnOk, IfErr}
+use Rattle.std.specs.Borrow.{MutBor}
+use Rattle.comemo_base.specs.Answers.{Respects, Agrees}
+use Rattle.comemo_track.specs.Recording.{Recording}
+use Rattle.comemo.specs.Meaning.{Meaning, Invocation, SameWrites}
+use Rattle.comemo.specs.Cache.{Entries, Touches}
+use Rattle.comemo.specs.Begin.{Reaches, IsStopped}
+use Rattle.comemo.specs.Finish.{BrokeOff}
+use Rattle.comemo.specs.declared.pending.Fault.{Fault}
+use Rattle.comemo.specs.declared.pending.Fault.TheVariants as fault
+
+-- a clone of a key is equal, and the meaning tells apart neither equal keys nor equal writes, nor an output from its clone
+pub record LawsMut {C R K O : Type 0} (eq : C → C → Bool) (same : R → R → Bool) (eqk : K → K → Bool) (key_clone : K → K → Type 0) (cloned : O → O → Type 0) (means : K → (C → R) → O → List C → Type 0) : Type 0 where
+  pub outputs : (key : K) (m : C → R) (a b : O) (writes : List C) → Respects eq same m → cloned a b → means key m a writes → means key m b writes
+  pub keys : (j k : K) (m : C → R) (output : O) (writes : List C) → Respects eq same m → IsTrue (eqk j k) → means j m output writes → means k m output writes
+  pub writes : (key : K) (m : C → R) (output : O) (V W : List C) → Respects eq same m → SameWrites eq V W → means key m output V → means key m output W
+  pub clones : (x y : K) → key_clone x y → IsTrue (eqk x y)
+
+-- what a recorder that writes was lent: the value, and the recording of what it was asked and of what was written to it
+pub record Lent (V C R : Type 0) : Type 0 where
+  pub value : MutBor V
+  pub recording : MutBor (Recording C R)
+
+-- that record
+abbrev pub lent : {V C R : Type 0} → MutBor V → MutBor (Recording C R) → Lent V C R
+lent value recording = record { value = value; recording = recording }
+
+-- while nothing is lost of the recording, the value's answers agree with it
+abbrev pub AgreesNow : {V C R : Type 0} → (R → R → Bool) → (V → C → R) → Lent V C R → Type 0
+AgreesNow same answers s = s.recording.now.whole ≡ true → Agrees same (answers s.value.now) s.recording.now.pairs
+
+module _ {V C R : Type 0} (did : V → V → List C → Type 0) where
+  -- what became of what a recorder was lent, from s to t: both are in their places, and writes alone changed the value. While nothing
+  -- is lost of the recording, the writes that were recorded, which led to the value as it was, are followed by those that were
+  -- recorded since, which lead to the value as it is
+  pub record Goes (s t : Lent V C R) : Type 0 where
+    pub same_value : t.value.ghost_name ≡ s.value.ghost_name
+    pub same_recording : t.recording.ghost_name ≡ s.recording.ghost_name
+    pub was_whole : t.recording.now.whole ≡ true → s.recording.now.whole ≡ true
+    pub done : t.recording.now.whole ≡ true → (start : V) → did start s.value.now s.recording.now.writes → did start t.value.now t.recording.now.writes
+    pub reached : (start : V) → Reaches did start s.value.now → Reaches did start t.value.now
+
+  -- what a run is told by a question, a write or a call, which took what its recorder was lent from s to t: where it is answered,
+  -- what fits the recording fitted it before, and P holds of the answer and of whatever fits; and it says that the recording is
+  -- incomplete only where it is spoiled
+  pub record TellsMut {X : Type 0} (fits : Recording C R → (C → R) → Type 0) (s t : Lent V C R) (r : Result X Fault) (P : X → (C → R) → Type 0) : Type 0 where
+    pub goes : Goes s t
+    pub before : OnOk r ((m : C → R) → fits t.recording.now m → fits s.recording.now m)
+    pub told : IfOk r (λ answer. (m : C → R) → fits t.recording.now m → P answer m)
+    pub fault : IfErr r (λ f. f ≡ fault.Incomplete → t.recording.now.whole ≡ false)
+
+-- what stands after a fault of a call of a function that writes: the entries are as they were and the sink was broken off, or a hit
+-- was stopped at a write that was refused
+abbrev pub IsFailed : {K C R O : Type 0} → Meaning K C R O → Entries K C R O → Invocation K C R → (List C → Type 0) → (List (C × R) → Type 0) → (List (C × R) → List C → Type 0) → Entries K C R O → Type 0
+IsFailed M es call done broken spoiled es' = ((es' ≡ es) × BrokeOff M.same_answer call.answers broken) ⊎ (Touches es es' × IsStopped M es call done spoiled)

@@ -1,0 +1,368 @@
+//! The front door of functions that write: a memoized function of a key and a tracked value that its run writes to.
+ghost use Rattle.std.specs.Prelude.{◌≡◌, [], ◌∷◌, ◌++◌, List, true, false, IsTrue, IfOk, IfErr, OnOk, OnErr, ⊤};
+ghost use Rattle.comemo.specs.Meaning.{invocation};
+ghost use Rattle.comemo.specs.Called.{IsReply};
+ghost use Rattle.comemo.specs.Begin.{Reaches};
+ghost use Rattle.comemo.specs.Finish.{BrokeOff};
+ghost use Rattle.comemo.specs.FunctionMut.{Lent, lent, AgreesNow, Goes, TellsMut, LawsMut, IsFailed};
+ghost use Rattle.comemo_base.specs.Answers.{Agrees};
+ghost use Rattle.comemo_track.specs.Recording.{Recording, Took, Spoiled};
+ghost use Rattle.comemo_track.specs.Sending.{Asks, BreaksOff, SpoiledAfter};
+
+use crate::cache::{CacheData, Meant, Memo};
+use crate::function::{FunctionOf, Told, memoized};
+use crate::pending::{Begun, Fault, How, Reply, begin};
+use comemo_track::constraint::Constraint;
+use comemo_track::input::KeyedMut;
+use comemo_track::track::{Breaking, Call, Sink, Track, Written};
+use std::alloc::Global;
+use std::hash::Hash;
+use std::marker::PhantomData;
+
+/// What a recorder that writes knows of its recording, for contracts to cite, as `⟦<T as ToldMut>⟧.agrees`.
+///
+/// There is nothing to implement. This project's own.
+pub trait ToldMut: Track {
+    // while nothing is lost of the recording, the value's answers agree with it
+    ghost agrees: { Lent Self Self.Call Self.Answer → Type 0 };
+
+    // the second recording is the first after it took these pairs and these writes
+    ghost took: { Recording Self.Call Self.Answer → Recording Self.Call Self.Answer
+        → List (Self.Call × Self.Answer) → List Self.Call → Type 0 };
+}
+
+impl<T: Track> ToldMut for T {
+    ghost agrees = { AgreesNow T.Answer.eq T.answers };
+
+    ghost took = { Took T.Call.eq };
+}
+
+/// A memoized function of a key and a tracked value, which it reads and writes.
+///
+/// It is written as a `Function` is, but `means` says which writes are right beside the output, and the laws say that
+/// it doesn't tell equal writes apart. This project's own: what comemo's `#[memoize]` makes of a function that takes a
+/// `TrackedMut`.
+pub trait FunctionMut {
+    /// What isn't tracked of the arguments: what a call is kept under.
+    type Key: Clone + Eq + Hash;
+
+    /// The tracked value that a run asks and changes.
+    type Of: Track;
+
+    /// What the function gives.
+    type Out: Clone;
+
+    /// What a run takes beside its arguments: the caches of the functions that it calls, or `()`.
+    type Needs;
+
+    // at this key and these answers, this output and these writes are right
+    ghost means: { Self.Key → (Self.Of.Call → Self.Of.Answer) → Self.Out
+        → List Self.Of.Call → Type 0 };
+
+    /// Does the function: asks the value and writes to it through the recorder, which keeps what it was told and what
+    /// was written.
+    ///
+    /// Output and writes have to be right for all answers that agree with what was recorded. A run may answer
+    /// `Incomplete` only where its recording was spoiled, as by a call that failed. After a fault nothing is stored for
+    /// the run; the writes that it did stay done, and what it did to its needs stays.
+    fn run(
+        key: &Self::Key,
+        of: &mut RecorderMut<'_, '_, Self::Of>,
+        needs: &mut Self::Needs,
+    ) -> Result<Self::Out, Fault>
+        requires begins { of.now.recording.now.writes ≡ [] }
+        requires agrees { ⟦<Self::Of as ToldMut>⟧.agrees (lent of.now.value of.now.recording) }
+        ensures agrees { ⟦<Self::Of as ToldMut>⟧.agrees (lent of.new.value of.new.recording) }
+        ensures goes { Goes ⟦<Self::Of as Written>⟧.did
+            (lent of.old.value of.old.recording) (lent of.new.value of.new.recording) }
+        ensures right { IfOk result (λ output. (m : Self.Of.Call → Self.Of.Answer)
+            → ⟦<Self::Of as Told>⟧.fits of.new.recording.now m
+            → means key.now m output of.new.recording.now.writes) }
+        ensures fault { IfErr result
+            (λ fault. fault ≡ Fault.Incomplete → of.new.recording.now.whole ≡ false) };
+
+    // clones of keys are equal, and the meaning tells apart neither equal keys nor equal writes, nor an output from its clone
+    ghost laws: { LawsMut Self.Of.Call.eq Self.Of.Answer.eq Self.Key.eq Self.Key.is_clone
+        Self.Out.is_clone means };
+}
+
+/// A tracked value that is lent to a run, which records what it asks and what it writes. A run is handed one.
+///
+/// A run that reached past it, to the value or to the recording, would not be proved. This project's own.
+#[derive(Drop)]
+pub struct RecorderMut<'a, 'b, T: Track> {
+    pub(crate) alloc: Global,
+    /// What is asked and written.
+    pub value: &'a mut T,
+    /// What it was asked, and what was written to it.
+    pub recording: &'b mut Constraint<T::Call, T::Answer>,
+}
+
+impl<'a, 'b, T: Track> RecorderMut<'a, 'b, T> {
+    /// Asks the value a read, and records the call with its answer.
+    ///
+    /// It does what `ask` of `Recorder` does, and costs the same. It stands in the place of the methods that comemo's
+    /// macro `track` writes.
+    pub fn ask(&mut self, call: T::Call) -> Result<T::Answer, Fault>
+        requires agrees { ⟦<T as ToldMut>⟧.agrees (lent self.old.value self.old.recording) }
+        requires read { T.Call.is_write call ≡ false }
+        ensures agrees { ⟦<T as ToldMut>⟧.agrees (lent self.new.value self.new.recording) }
+        ensures tells { TellsMut ⟦<T as Written>⟧.did ⟦<T as Told>⟧.fits
+            (lent self.old.value self.old.recording) (lent self.new.value self.new.recording) result
+            (λ answer m. IsTrue (T.Answer.eq (m call) answer)) }
+        ensures asks { IfOk result
+            (λ answer. Asks T.Answer.eq (T.answers self.old.value.now) call answer
+            (Took T.Call.eq self.old.recording.now self.new.recording.now)) }
+        ensures writes { self.new.recording.now.writes ≡ self.old.recording.now.writes }
+        ensures value { self.new.value ≡ self.old.value }
+        ensures err { IfErr result (λ fault. (fault ≡ Fault.Memory)
+            × Took T.Call.eq self.old.recording.now self.new.recording.now [] []) }
+    {
+        let mut view = self.value.track(self.alloc);
+        Ok(view.ask(call, self.recording)?)
+    }
+
+    /// Does a write on the value, and records it.
+    ///
+    /// After `Ok` it was done and recorded; after `Memory` neither, and value and recording are as they were: the value
+    /// refused it, or there was no memory for it in the recording, which makes room first. It stands in the place of
+    /// the methods that comemo's macro `track` writes.
+    pub fn write(&mut self, call: T::Call) -> Result<(), Fault>
+        requires agrees { ⟦<T as ToldMut>⟧.agrees (lent self.old.value self.old.recording) }
+        requires write { T.Call.is_write call ≡ true }
+        ensures agrees { ⟦<T as ToldMut>⟧.agrees (lent self.new.value self.new.recording) }
+        ensures tells { TellsMut ⟦<T as Written>⟧.did ⟦<T as Told>⟧.fits
+            (lent self.old.value self.old.recording) (lent self.new.value self.new.recording) result
+            (λ _ _. ⊤) }
+        ensures sent { OnOk result
+            (Took T.Call.eq self.old.recording.now self.new.recording.now [] (call ∷ [])) }
+        ensures did { OnOk result (⟦<T as Written>⟧.did
+            self.old.value.now self.new.value.now (call ∷ [])) }
+        ensures kept { OnErr result (self.new.value.now ≡ self.old.value.now) }
+        ensures err { IfErr result (λ fault. (fault ≡ Fault.Memory)
+            × Took T.Call.eq self.old.recording.now self.new.recording.now [] []) }
+    {
+        self.recording.has_reads_and_writes();
+        let mut view = self.value.track_mut(self.alloc);
+        view.write(call, self.recording)?;
+        Ok(())
+    }
+
+    /// Calls another memoized function of the same value, which reads alone, and records what it asked.
+    ///
+    /// A fault leaves the other's cache as it was, and the recording is spoiled: the run that is recorded can't be
+    /// finished. It costs what `memoized` costs, with the recording as its sink. This project's own: in comemo it is a
+    /// call like any.
+    pub fn call<G: FunctionOf<T>>(
+        &mut self,
+        cache: &mut CacheData<G>,
+        needs: &mut G::Needs,
+        key: G::Key,
+    ) -> Result<G::Out, Fault>
+        requires agrees { ⟦<T as ToldMut>⟧.agrees (lent self.old.value self.old.recording) }
+        ensures agrees { ⟦<T as ToldMut>⟧.agrees (lent self.new.value self.new.recording) }
+        ensures tells { TellsMut ⟦<T as Written>⟧.did ⟦<T as Told>⟧.fits
+            (lent self.old.value self.old.recording) (lent self.new.value self.new.recording) result
+            (λ output m. G.def key m output []) }
+        ensures writes { OnOk result
+            (self.new.recording.now.writes ≡ self.old.recording.now.writes) }
+        ensures value { self.new.value ≡ self.old.value }
+        ensures reply { IfOk result (λ output. (reply : Reply G.Out) × (reply.output ≡ output)
+            × IsReply ⟦<G as Meant>⟧.meaning (invocation key (T.answers self.old.value.now) true)
+            cache.old cache.old
+            (Took T.Call.eq self.old.recording.now self.new.recording.now) reply cache.new) }
+        ensures err { OnErr result ((cache.new ≡ cache.old)
+            × BrokeOff T.Answer.eq (T.answers self.old.value.now)
+            (BreaksOff (Took T.Call.eq) Spoiled self.old.recording.now self.new.recording.now)) }
+    {
+        let view = self.value.track(self.alloc);
+        let reply = memoized(self.alloc, cache, needs, key, &view, self.recording, true)?;
+        Ok(reply.output)
+    }
+
+    /// Calls another memoized function of the same value, which writes, and records what it asked and wrote.
+    ///
+    /// A fault spoils the recording: the run that is recorded can't be finished. The writes that were done before it stay
+    /// done. It costs what `memoized_mut` costs, with the recording as its sink. This project's own: in comemo it is a
+    /// call like any.
+    pub fn call_mut<G: FunctionMutOf<T>>(
+        &mut self,
+        cache: &mut CacheData<G>,
+        needs: &mut G::Needs,
+        key: G::Key,
+    ) -> Result<G::Out, Fault>
+        requires agrees { ⟦<T as ToldMut>⟧.agrees (lent self.old.value self.old.recording) }
+        ensures agrees { ⟦<T as ToldMut>⟧.agrees (lent self.new.value self.new.recording) }
+        ensures tells { TellsMut ⟦<T as Written>⟧.did ⟦<T as Told>⟧.fits
+            (lent self.old.value self.old.recording) (lent self.new.value self.new.recording) result
+            (λ output m. (writes : List T.Call)
+            × (self.new.recording.now.writes ≡ self.old.recording.now.writes ++ writes)
+            × G.def key m output writes) }
+        ensures reply { IfOk result (λ output. (reply : Reply G.Out) × (reply.output ≡ output)
+            × IsReply ⟦<G as Meant>⟧.meaning (invocation key (T.answers self.old.value.now) true)
+            cache.old cache.old
+            (λ P W. Took T.Call.eq self.old.recording.now self.new.recording.now P W
+            × ⟦<T as Written>⟧.did self.old.value.now self.new.value.now W)
+            reply cache.new) }
+        ensures err { OnErr result (IsFailed ⟦<G as Meant>⟧.meaning cache.old
+            (invocation key (T.answers self.old.value.now) true)
+            (⟦<T as Written>⟧.did self.old.value.now self.new.value.now)
+            (BreaksOff (Took T.Call.eq) Spoiled self.old.recording.now self.new.recording.now)
+            (SpoiledAfter (Took T.Call.eq) Spoiled self.old.recording.now self.new.recording.now)
+            cache.new) }
+    {
+        let reply = memoized_mut(
+            self.alloc,
+            cache,
+            needs,
+            key,
+            self.value,
+            self.recording,
+            true,
+        )?;
+        self.recording.has_reads_and_writes();
+        Ok(reply.output)
+    }
+}
+
+/// What a cache takes a function that writes for: `CacheData<MemoOfMut<F>>` is the cache of `F`.
+///
+/// There is no value of it to make. This project's own.
+pub struct MemoOfMut<F> {
+    function: PhantomData<F>,
+}
+
+impl<F: FunctionMut> Memo for MemoOfMut<F> {
+    type Call = <F::Of as Track>::Call;
+
+    type Key = F::Key;
+
+    type Answer = <F::Of as Track>::Answer;
+
+    type Out = F::Out;
+
+    ghost def = { F.means };
+
+    ghost laws = { record {
+      outputs = F.laws.outputs;
+      keys = F.laws.keys;
+      writes = F.laws.writes;
+      key_clones = F.laws.clones;
+      answer_clones = F.Of.clones;
+    } };
+}
+
+/// A memoized function of a key and `T`, which it reads and writes, where `T` may borrow: several tracked values as one,
+/// by `BothMut`, or a user's own.
+///
+/// What the function means is its `Memo`, which names no lifetime, so that its cache outlives the values. A
+/// `FunctionMut` is one by its `MemoOfMut`, with nothing to write. This project's own.
+pub trait FunctionMutOf<T: Track>: Memo<Call = T::Call, Answer = T::Answer> {
+    /// What a run takes beside its arguments: the caches of the functions that it calls, or `()`.
+    type Needs;
+
+    /// Does the function, as `FunctionMut::run` does, and with the same said of its output, its writes and its faults.
+    fn run(
+        key: &Self::Key,
+        of: &mut RecorderMut<'_, '_, T>,
+        needs: &mut Self::Needs,
+    ) -> Result<Self::Out, Fault>
+        requires begins { of.now.recording.now.writes ≡ [] }
+        requires agrees { ⟦<T as ToldMut>⟧.agrees (lent of.now.value of.now.recording) }
+        ensures agrees { ⟦<T as ToldMut>⟧.agrees (lent of.new.value of.new.recording) }
+        ensures goes { Goes ⟦<T as Written>⟧.did
+            (lent of.old.value of.old.recording) (lent of.new.value of.new.recording) }
+        ensures right { IfOk result (λ output. (m : T.Call → T.Answer)
+            → ⟦<T as Told>⟧.fits of.new.recording.now m
+            → Self.def key.now m output of.new.recording.now.writes) }
+        ensures fault { IfErr result
+            (λ fault. fault ≡ Fault.Incomplete → of.new.recording.now.whole ≡ false) };
+}
+
+impl<F: FunctionMut> FunctionMutOf<F::Of> for MemoOfMut<F> {
+    type Needs = F::Needs;
+
+    fn run(
+        key: &F::Key,
+        of: &mut RecorderMut<'_, '_, F::Of>,
+        needs: &mut F::Needs,
+    ) -> Result<F::Out, Fault> {
+        F::run(key, of, needs)
+    }
+}
+
+/// Does a function's run on a value, with a recording of its own. It gives what the run came to, and the recording.
+fn run_recorded<M: FunctionMutOf<T>, T: Track>(
+    alloc: Global,
+    key: &M::Key,
+    of: &mut T,
+    needs: &mut M::Needs,
+) -> (Result<M::Out, Fault>, Constraint<T::Call, T::Answer>)
+    ensures right { IfOk result.0 (λ output. (m : T.Call → T.Answer)
+        → ⟦<T as Told>⟧.fits result.1 m → M.def key.now m output result.1.writes) }
+    ensures fault { IfErr result.0
+        (λ fault. fault ≡ Fault.Incomplete → result.1.whole ≡ false) }
+    ensures done { result.1.whole ≡ true
+        → ⟦<T as Written>⟧.did of.old of.new result.1.writes }
+    ensures agrees { result.1.whole ≡ true
+        → Agrees T.Answer.eq (T.answers of.old) result.1.pairs }
+    ensures reached { Reaches ⟦<T as Written>⟧.did of.old of.new }
+{
+    let mut recording = Constraint::new(alloc);
+    let mut recorder = RecorderMut {
+        alloc,
+        value: of,
+        recording: &mut recording,
+    };
+    let ran = M::run(key, &mut recorder, needs);
+    recording.has_reads_and_writes();
+    (ran, recording)
+}
+
+/// Calls a memoized function that writes: gives the output that its cache keeps where an entry agrees, and does its
+/// writes again, or runs it and keeps what it gave and wrote.
+///
+/// The sink takes what was asked, and then the writes: the recording of the run around the call, or `Top` where there
+/// is none. With `enabled` false there is no look-up, and nothing is kept. Every fault spoils the sink. Of a run that
+/// failed the writes that it did stay done, as does what it did to its needs, and the cache is as it was. `Write` comes
+/// of a hit of which the value refused a write, or of the run: the writes before it are done. A hit costs what `begin`
+/// costs, any other call what `begin`, the run and `finish` cost. This project's own: a call of a function under
+/// comemo's `#[memoize]` that takes a `TrackedMut`.
+pub fn memoized_mut<M: FunctionMutOf<T>, T: Track, S: Sink<Call = T::Call, Answer = T::Answer>>(
+    alloc: Global,
+    cache: &mut CacheData<M>,
+    needs: &mut M::Needs,
+    key: M::Key,
+    of: &mut T,
+    sink: &mut S,
+    enabled: bool,
+) -> Result<Reply<M::Out>, Fault>
+    ensures right { IfOk result (λ reply. (writes : List T.Call)
+        × M.def key (T.answers of.old) reply.output writes
+        × ⟦<T as Written>⟧.did of.old of.new writes) }
+    ensures reply { IfOk result (λ reply. IsReply ⟦<M as Meant>⟧.meaning
+        (invocation key (T.answers of.old) enabled) cache.old cache.old
+        (λ P W. S.took sink.old sink.new P W × ⟦<T as Written>⟧.did of.old of.new W)
+        reply cache.new) }
+    ensures reached { Reaches ⟦<T as Written>⟧.did of.old of.new }
+    ensures err { OnErr result (IsFailed ⟦<M as Meant>⟧.meaning cache.old
+        (invocation key (T.answers of.old) enabled)
+        (⟦<T as Written>⟧.did of.old of.new)
+        (⟦<S as Breaking>⟧.breaks_off sink.old sink.new)
+        (⟦<S as Breaking>⟧.spoiled_after sink.old sink.new) cache.new) }
+{
+    let mut input = KeyedMut { key, value: of };
+    let begun = begin(alloc, cache, &mut input, sink, enabled);
+    let KeyedMut { key, value } = input;
+    match begun? {
+        Begun::Hit(output) => Ok(Reply {
+            output,
+            how: How::Hit,
+        }),
+        Begun::Run(mut pending) => {
+            let (ran, recording) = run_recorded::<M, T>(alloc, &key, value, needs);
+            pending.recording = recording;
+            pending.end(cache, sink, ran)
+        }
+    }
+}

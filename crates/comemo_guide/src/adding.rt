@@ -1,0 +1,69 @@
+//! Functions that write to a counter.
+ghost use Rattle.std.specs.Prelude.{◌≡◌, ◌+◌, ◌%◌, ◌^◌, [], ◌∷◌};
+ghost use Rattle.std.proofs.Common.{rules};
+ghost use Rattle.comemo.specs.MeaningLaws.{exact_laws};
+
+use comemo::{CacheData, Fault, FunctionMut, MemoOfMut, RecorderMut};
+use comemo_samples::{Counter, CounterCall};
+
+/// Adds a number to a counter, and then one more. It gives their sum, which wraps at 64 bits.
+pub struct Adds;
+
+impl FunctionMut for Adds {
+    type Key = u64;
+
+    type Of = Counter;
+
+    type Out = u64;
+
+    type Needs = ();
+
+    ghost use Rattle.comemo_samples.specs.declared.counter.CounterCall.TheVariants.{Add};
+
+    ghost means = { λ n _ out writes. (out ≡ (n + 1) % 2 ^ 64)
+        × (writes ≡ Add n ∷ Add 1 ∷ []) };
+
+    ghost laws = { exact_laws (λ x y h. Prim.search rules) (λ x y h. Prim.search rules)
+        (λ x y h. Prim.search rules) (λ a b h. Prim.search rules) };
+
+    fn run(
+        n: &u64,
+        counter: &mut RecorderMut<'_, '_, Counter>,
+        _needs: &mut (),
+    ) -> Result<u64, Fault> {
+        counter.write(CounterCall::Add(*n))?;
+        counter.write(CounterCall::Add(1))?;
+        Ok(n.wrapping_add(1))
+    }
+}
+
+/// Adds twice by `Adds`, a number and then what that gave. It gives what the second gave.
+pub struct AddsTwice;
+
+impl FunctionMut for AddsTwice {
+    type Key = u64;
+
+    type Of = Counter;
+
+    type Out = u64;
+
+    type Needs = CacheData<MemoOfMut<Adds>>;
+
+    ghost use Rattle.comemo_samples.specs.declared.counter.CounterCall.TheVariants.{Add};
+
+    ghost means = { λ n _ out writes. (out ≡ (n + 2) % 2 ^ 64)
+        × (writes ≡ Add n ∷ Add 1 ∷ Add ((n + 1) % 2 ^ 64) ∷ Add 1 ∷ []) };
+
+    ghost laws = { exact_laws (λ x y h. Prim.search rules) (λ x y h. Prim.search rules)
+        (λ x y h. Prim.search rules) (λ a b h. Prim.search rules) };
+
+    fn run(
+        n: &u64,
+        counter: &mut RecorderMut<'_, '_, Counter>,
+        kept: &mut CacheData<MemoOfMut<Adds>>,
+    ) -> Result<u64, Fault> {
+        let once = counter.call_mut(kept, &mut (), *n)?;
+        let twice = counter.call_mut(kept, &mut (), once)?;
+        Ok(twice)
+    }
+}

@@ -1,0 +1,46 @@
+//! A function of two tracked values, of which it reads one and writes the other.
+ghost use Rattle.std.specs.Prelude.{◌≡◌, [], ◌∷◌};
+ghost use Rattle.std.proofs.Common.{rules};
+ghost use Rattle.comemo.specs.MeaningLaws.{exact_memo_laws};
+
+use comemo::{BothMut, Fault, FunctionMutOf, Memo, MultiAnswer, MultiCall, RecorderMut};
+use comemo_samples::{Counter, CounterCall, Town, TownCall};
+
+/// Adds the degrees of a town to a counter, and gives them.
+pub struct Tally;
+
+impl Memo for Tally {
+    type Call = MultiCall<TownCall, CounterCall>;
+
+    type Key = ();
+
+    type Answer = MultiAnswer<u64, ()>;
+
+    type Out = u64;
+
+    ghost use Rattle.comemo.specs.Multi.{OnParts, second_call};
+    ghost use Rattle.comemo_samples.specs.declared.town.TownCall.TheVariants.{Degrees};
+    ghost use Rattle.comemo_samples.specs.declared.counter.CounterCall.TheVariants.{Add};
+
+    ghost def = { λ _ m out writes. OnParts m (λ town _. (out ≡ town Degrees)
+        × (writes ≡ second_call (Add (town Degrees)) ∷ [])) };
+
+    ghost laws = { exact_memo_laws (λ x y h. Prim.search rules) (λ x y h. Prim.search rules)
+        (λ x y h. Prim.search rules) (λ a b h. Prim.search rules) (λ x y h. Prim.search rules) };
+}
+
+impl<'a> FunctionMutOf<BothMut<'a, Town, Counter>> for Tally {
+    type Needs = ();
+
+    fn run(
+        _: &(),
+        both: &mut RecorderMut<'_, '_, BothMut<'a, Town, Counter>>,
+        _: &mut (),
+    ) -> Result<u64, Fault> {
+        let MultiAnswer::A(degrees) = both.ask(MultiCall::A(TownCall::Degrees))? else {
+            unreachable!()
+        };
+        both.write(MultiCall::B(CounterCall::Add(degrees)))?;
+        Ok(degrees)
+    }
+}

@@ -1,0 +1,93 @@
+//! The functions that write at work: what a run writes, a hit writes again.
+
+use comemo::{BothMut, CacheData, How, MemoOfMut, Top, memoized_mut};
+use comemo_guide::adding::{Adds, AddsTwice};
+use comemo_guide::tally::Tally;
+use comemo_samples::{Counter, Town};
+use std::test::Fail;
+
+#[test]
+fn a_hit_adds_again(rt: HostRuntime) -> Result<(), Fail> {
+    let alloc = rt.alloc();
+    let mut cache: CacheData<MemoOfMut<Adds>> = CacheData::new(alloc);
+    let mut counter = Counter { number: 0 };
+    let calls = [
+        (5, How::Stored, 6),
+        (5, How::Hit, 12),
+        (2, How::Stored, 15),
+        (5, How::Hit, 21),
+    ];
+    for (number, how, sum) in calls {
+        let reply = memoized_mut(
+            alloc,
+            &mut cache,
+            &mut (),
+            number,
+            &mut counter,
+            &mut Top::new(),
+            true,
+        )?;
+        assert_eq!(rt; (reply.output, reply.how), (number + 1, how));
+        assert_eq!(rt; counter.number, sum);
+    }
+    Ok(())
+}
+
+#[test]
+fn what_was_added_within_is_added_again(rt: HostRuntime) -> Result<(), Fail> {
+    let alloc = rt.alloc();
+    let mut cache: CacheData<MemoOfMut<AddsTwice>> = CacheData::new(alloc);
+    let mut kept: CacheData<MemoOfMut<Adds>> = CacheData::new(alloc);
+    let mut counter = Counter { number: 0 };
+    for (number, how, sum, inner) in [
+        (5, How::Stored, 13, 2),
+        (5, How::Hit, 26, 2),
+        (6, How::Stored, 41, 3),
+    ] {
+        let reply = memoized_mut(
+            alloc,
+            &mut cache,
+            &mut kept,
+            number,
+            &mut counter,
+            &mut Top::new(),
+            true,
+        )?;
+        assert_eq!(rt; (reply.output, reply.how), (number + 2, how));
+        assert_eq!(rt; counter.number, sum);
+        assert_eq!(rt; kept.len(), inner);
+    }
+    Ok(())
+}
+
+#[test]
+fn a_town_is_read_and_a_counter_written(rt: HostRuntime) -> Result<(), Fail> {
+    let alloc = rt.alloc();
+    let mut cache: CacheData<Tally> = CacheData::new(alloc);
+    let mut counter = Counter { number: 0 };
+    let calls = [
+        (900, 21, How::Stored, 21),
+        (7000, 21, How::Hit, 42),
+        (7000, 4, How::Stored, 46),
+    ];
+    for (people, degrees, how, sum) in calls {
+        let mut town = Town { people, degrees };
+        let mut both = BothMut {
+            first: &mut town,
+            second: &mut counter,
+        };
+        let reply = memoized_mut(
+            alloc,
+            &mut cache,
+            &mut (),
+            (),
+            &mut both,
+            &mut Top::new(),
+            true,
+        )?;
+        assert_eq!(rt; (reply.output, reply.how), (degrees, how));
+        drop(both);
+        assert_eq!(rt; counter.number, sum);
+    }
+    Ok(())
+}

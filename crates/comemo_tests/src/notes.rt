@@ -1,0 +1,60 @@
+//! Functions that write to a notebook and to a counter.
+ghost use Rattle.std.specs.Prelude.{◌≡◌, ◌+◌, ◌%◌, ◌^◌, [], ◌∷◌};
+ghost use Rattle.std.proofs.Common.{rules};
+ghost use Rattle.comemo.specs.MeaningLaws.{exact_laws, exact_memo_laws};
+
+use comemo::{Fault, FunctionMut, Memo, RecorderMut};
+use comemo_samples::{CounterCall, Notebook, NotebookCall};
+
+/// Notes a number, the owner's and the number again. It gives the owner's.
+pub struct NotesThree;
+
+impl FunctionMut for NotesThree {
+    type Key = u64;
+
+    type Of = Notebook;
+
+    type Out = u64;
+
+    type Needs = ();
+
+    ghost use Rattle.comemo_samples.specs.declared.notebook.NotebookCall.TheVariants.{Owner, Note};
+
+    ghost means = { λ n m out writes. (out ≡ m Owner)
+        × (writes ≡ Note n ∷ Note (m Owner) ∷ Note n ∷ []) };
+
+    ghost laws = { exact_laws (λ x y h. Prim.search rules) (λ x y h. Prim.search rules)
+        (λ x y h. Prim.search rules) (λ a b h. Prim.search rules) };
+
+    fn run(
+        n: &u64,
+        book: &mut RecorderMut<'_, '_, Notebook>,
+        _needs: &mut (),
+    ) -> Result<u64, Fault> {
+        book.write(NotebookCall::Note(*n))?;
+        let owner = book.ask(NotebookCall::Owner)?;
+        book.write(NotebookCall::Note(owner))?;
+        book.write(NotebookCall::Note(*n))?;
+        Ok(owner)
+    }
+}
+
+/// Adds 3 to a counter. Its run is a closure.
+pub struct AddsThree;
+
+impl Memo for AddsThree {
+    type Call = CounterCall;
+
+    type Key = ();
+
+    type Answer = ();
+
+    type Out = ();
+
+    ghost use Rattle.comemo_samples.specs.declared.counter.CounterCall.TheVariants.{Add};
+
+    ghost def = { λ _ _ _ writes. writes ≡ Add 3 ∷ [] };
+
+    ghost laws = { exact_memo_laws (λ x y h. Prim.search rules) (λ x y h. Prim.search rules)
+        (λ x y h. Prim.search rules) (λ a b h. Prim.search rules) (λ x y h. Prim.search rules) };
+}
