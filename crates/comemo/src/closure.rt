@@ -89,7 +89,8 @@ pub fn memoize<
     ensures hit { IfOk result (λ reply. reply.how ≡ How.Hit → ((j : In)
         × IsHit ⟦<M as Meant>⟧.meaning cache.old (⟦<In as Invoked>⟧.invoked input enabled)
         (In.did input j) (S.took sink.old sink.new) reply.output)
-        × Touches cache.old cache.new) }
+        × Touches ⟦<M as Meant>⟧.meaning cache.old
+        (⟦<In as Invoked>⟧.invoked input enabled) cache.new) }
     ensures run { IfOk result (λ reply. (reply.how ≡ How.Hit → ⊥)
         → Ended ⟦<M as Meant>⟧.meaning cache.old (⟦<In as Invoked>⟧.invoked input enabled)
         (Ran ⟦<M as Meant>⟧.meaning cache.old (⟦<In as Invoked>⟧.invoked input enabled)
