@@ -1,5 +1,6 @@
 -- Entries that come, and none that goes.
 use Rattle.std.proofs.Common.{◌≡◌, ◌++◌, ◌∷◌, [], append_assoc, map, List, sym, subst}
+use Rattle.std.proofs.lemmas.List.{map-append}
 use Rattle.std.specs.List.Sorted.{IsPermutation}
 use Rattle.std.proofs.lemmas.List.Sorted.{IsPermutation-refl, IsPermutation-sym, IsPermutation-trans, IsPermutation-map, IsPermutation-append_right}
 use Rattle.comemo_base.specs.Tree.{stored}
@@ -19,7 +20,11 @@ grows_by_touch M call es es' touched =
     ([], IsPermutation-trans (map young es) (map young (touched.entry ∷ touched.others)) (map young es') (IsPermutation-sym _ _ was) (IsPermutation-map young _ _ touched.after))
 
 pub grows_on : {K C R O : Type 0} (es mid es' : Entries K C R O) → Grows es mid → Grows mid es' → Grows es es'
-grows_on es mid es' a b = (b.0 ++ a.0, ?)
+grows_on es mid es' a b =
+    let parts : map young ((b.0 ++ a.0) ++ es) ≡ map young b.0 ++ map young (a.0 ++ es) = rw append_assoc (map-append young b.0 (a.0 ++ es)) in
+    let so_far = IsPermutation-append_right (map young b.0) (map young (a.0 ++ es)) (map young mid) a.1 in
+    let before = subst (λ xs. IsPermutation (map young b.0 ++ map young (a.0 ++ es)) xs) (sym (map-append young b.0 mid)) so_far in
+    (b.0 ++ a.0, subst (λ xs. IsPermutation xs (map young es')) (sym parts) (IsPermutation-trans _ _ _ before b.1))
 
 -- a run that ended lost no entry
 pub grows_by_ends : {K C R O : Type 0} (M : Meaning K C R O) (es : Entries K C R O) (ran : Run K C R O) (reply : How) (es' : Entries K C R O) → Ends M es ran reply es' → Grows es es'

@@ -11,6 +11,7 @@ pub mod Calls
 pub mod Closures
 pub mod Growing
 pub mod Touching
+pub mod Aging
 pub mod JoinedHits
 pub mod ThroughMaps
 pub mod Again

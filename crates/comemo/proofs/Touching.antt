@@ -10,7 +10,7 @@ use Rattle.comemo_base.specs.Tree.{Stored, IsSamePath, IsTree, Parts}
 use Rattle.comemo_base.proofs.Paths.{turned, joined, get_or_same}
 use Rattle.comemo_base.proofs.Under.{Any-from_under}
 use Rattle.comemo_tree.specs.Change.{HasAnswers}
-use Rattle.comemo.specs.Meaning.{Meaning, Invocation}
+use Rattle.comemo.specs.Meaning.{Meaning, Invocation, Run, invocation}
 use Rattle.comemo.specs.Cache.{Kept, Entries, HasAged, Touches, TouchesAt, young}
 use Rattle.comemo.specs.Found.{TouchesFound}
 
@@ -43,22 +43,23 @@ module _ {K C R O : Type 0} (M : Meaning K C R O) (answers : IsEquivalence M.sam
       ]
 
   -- what a touch by the answers of a path that was found does
-  pub touched_by : (pairs : List (C × R)) (age : ℕ) → HasAged M es call pairs age → TouchesFound M.same_answer M.same_key call.key pairs age es es' → Touches M es call es'
-  touched_by pairs age found (inl old) =
+  pub touched_by : (ran : Run K C R O) (age : ℕ) → HasAged M es call ran age → TouchesFound M.same_answer M.same_key call.key ran.pairs age es es' → Touches M es call es'
+  touched_by ran age found (inl old) =
       let h = Any-from_under M.same_key es call.key _ found in
-      let own : young h.1 ≡ h.1 = ap (λ n. record h.1 { value = record h.1.value { age = n } }) (sym (h.4.1.2 ∙ old.0)) in
+      let own : young h.1 ≡ h.1 = ap (λ n. record h.1 { value = record h.1.value { age = n } }) (sym (h.4.1.1 ∙ old.0)) in
+      let here = IsPermutation-sym es (h.1 ∷ remove es h.0) (IsPermutation-remove es h.0 h.1 h.2 (sym h.3)) in
       record {
         entry = h.1;
         others = remove es h.0;
-        before = IsPermutation-sym es (h.1 ∷ remove es h.0) (IsPermutation-remove es h.0 h.1 h.2 (sym h.3));
+        before = here;
         has_key = h.4.0;
-        agrees = h.4.1.0;
-        after = subst (λ x. IsPermutation (x ∷ remove es h.0) es') (sym own) (subst (λ xs. IsPermutation (h.1 ∷ remove es h.0) xs) (sym old.1) (IsPermutation-sym es (h.1 ∷ remove es h.0) (IsPermutation-remove es h.0 h.1 h.2 (sym h.3))));
+        agrees = h.4.1.0.0;
+        after = subst (λ x. IsPermutation (x ∷ remove es h.0) es') (sym own) (subst (λ xs. IsPermutation (h.1 ∷ remove es h.0) xs) (sym old.1) here);
       }
-  touched_by pairs age found (inr (rs, has, inl changes)) =
+  touched_by ran age found (inr (rs, has, inl changes)) =
       let h = Any-from_under M.same_key es call.key _ found in
-      let own = has_same answers pairs h.1.path rs h.4.1.1 has in
-      let all = All-permutation _ es (changes.entry ∷ changes.others) (IsPermutation-sym (changes.entry ∷ changes.others) es changes.before) (agrees_too h.0 h.1 h.2 h.3 h.4.0 h.4.1.0 rs own) in
+      let own = has_same answers ran.pairs h.1.path rs h.4.1.0.1 has in
+      let all = All-permutation _ es (changes.entry ∷ changes.others) (IsPermutation-sym (changes.entry ∷ changes.others) es changes.before) (agrees_too h.0 h.1 h.2 h.3 h.4.0 h.4.1.0.0 rs own) in
       record {
         entry = changes.entry;
         others = changes.others;
@@ -67,5 +68,16 @@ module _ {K C R O : Type 0} (M : Meaning K C R O) (answers : IsEquivalence M.sam
         agrees = all 0 changes.entry (omega arith) changes.under_key changes.has_answers;
         after = subst (λ v. IsPermutation (record changes.entry { value = v } ∷ changes.others) es') changes.left changes.after;
       }
-  touched_by pairs age found (inr (rs, has, inr absent)) =
-      absurd (absent.0 found.0 found.1 found.2 (subst (λ x. HasAnswers M.same_answer x.path rs) (sym found.3) (has_same answers pairs found.1.path rs found.4.1 has)))
+  touched_by ran age found (inr (rs, has, inr absent)) =
+      absurd (absent.0 found.0 found.1 found.2 (subst (λ x. HasAnswers M.same_answer x.path rs) (sym found.3) (has_same answers ran.pairs found.1.path rs found.4.0.1 has)))
+
+-- a touch for a call is one for a call with an equal key
+pub Touches-alike : {K C R O : Type 0} (M : Meaning K C R O) → IsEquivalence M.same_key → (es es' : Entries K C R O) (j k : K) → IsTrue (M.same_key j k) → (m : C → R) (b c : Bool) → Touches M es (invocation j m b) es' → Touches M es (invocation k m c) es'
+Touches-alike M keys es es' j k alike m b c touched = record {
+  entry = touched.entry;
+  others = touched.others;
+  before = touched.before;
+  has_key = joined keys touched.entry.key j k touched.has_key alike;
+  agrees = touched.agrees;
+  after = touched.after;
+}

@@ -73,6 +73,10 @@ module _ {K C R O : Type 0} (M : Meaning K C R O) where
     abbrev pub Has : Run K C R O → Type 0
     Has ran = Any (IsEntryOf call.answers ran) (under M.same_key es call.key)
 
+    -- so it is, and it has this age
+    abbrev pub HasAged : Run K C R O → ℕ → Type 0
+    HasAged ran age = Any (λ e. IsEntryOf call.answers ran e × (e.value.age ≡ age)) (under M.same_key es call.key)
+
     -- a look-up for the call asked this, was answered as the call's input answers, and found nothing
     abbrev pub IsMiss : List (C × R) → Type 0
     IsMiss asked = Agrees M.same_answer call.answers asked × IsAsked M.same_call M.same_answer (under M.same_key es call.key) asked (let none : Option (Kept O C) = None in none)
@@ -83,10 +87,6 @@ module _ {K C R O : Type 0} (M : Meaning K C R O) where
     IsRefusedLook =
         ((asked : List (C × R)) × (next : C) × Agrees M.same_answer call.answers asked × IsRefused M.same_call M.same_answer (under M.same_key es call.key) asked next)
         ⊎ Any (λ e. Agrees M.same_answer call.answers e.path) (under M.same_key es call.key)
-
-    -- an entry under the call's key that agrees with the call's answers has this path, up to equality, and this age
-    abbrev pub HasAged : List (C × R) → ℕ → Type 0
-    HasAged pairs age = Any (λ e. Agrees M.same_answer call.answers e.path × IsSamePath M.same_call M.same_answer pairs e.path × (e.value.age ≡ age)) (under M.same_key es call.key)
 
     -- the entries after a hit: the one under the call's key that agrees with the call's answers has age 0, and the others are as
     -- they were

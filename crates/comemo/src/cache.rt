@@ -208,7 +208,8 @@ impl<M: Memo> CacheData<M> {
             (invocation key.now (In.answers input.old) true) asked)) }
         ensures ages { IfOk result (λ found. IfSome found (λ f.
             HasAged ⟦<M as Meant>⟧.meaning self.now
-            (invocation key.now (In.answers input.old) true) f.pairs.items f.age)) }
+            (invocation key.now (In.answers input.old) true)
+            (run key.now f.pairs.items f.output f.writes.items) f.age)) }
         ensures stands { IfOk result (λ found. IfSome found (λ f.
             Stands ⟦<M as Meant>⟧.meaning
             (run key.now f.pairs.items f.output f.writes.items))) }
