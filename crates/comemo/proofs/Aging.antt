@@ -11,7 +11,7 @@ use Rattle.comemo_base.specs.Lookup.{under}
 use Rattle.comemo_tree.specs.Change.{HasAnswers, Changes}
 use Rattle.comemo_tree.specs.Retain.{Leaves, Retains}
 use Rattle.comemo.specs.Meaning.{Meaning}
-use Rattle.comemo.specs.Cache.{Kept, Entries, IsLegal, TouchesAt, Evicts, aged}
+use Rattle.comemo.specs.Cache.{Kept, Entries, IsLegal, TouchesAt, Evicts, older, aged}
 use Rattle.comemo.proofs.Entries.{All-cons}
 
 -- what a change leaves, told otherwise
@@ -38,7 +38,7 @@ module _ {K C R O : Type 0} where
 
   -- what a retention by age leaves
   module _ (bound : ℕ) (keeps : Kept O C → Bool → Kept O C → Type 0) (known : (x : Kept O C) (b : Bool) (x' : Kept O C) → keeps x b x' → (b ≡ nat_lt x.age bound) × (b ≡ true → x' ≡ record x { age = x.age + 1 })) where
-    one_aged : (e : Stored K C R (Kept O C)) (value : Kept O C) (rest others : Entries K C R O) → rest ≡ aged bound others → (t b : Bool) → b ≡ t → (b ≡ true → value ≡ record e.value { age = e.value.age + 1 }) → cond b (stored e.key e.path value ∷ rest) rest ≡ map (λ (x : Stored K C R (Kept O C)). record x { value = record x.value { age = x.value.age + 1 } }) (cond t (e ∷ filter (λ x. nat_lt x.value.age bound) others) (filter (λ x. nat_lt x.value.age bound) others))
+    one_aged : (e : Stored K C R (Kept O C)) (value : Kept O C) (rest others : Entries K C R O) → rest ≡ aged bound others → (t b : Bool) → b ≡ t → (b ≡ true → value ≡ record e.value { age = e.value.age + 1 }) → cond b (stored e.key e.path value ∷ rest) rest ≡ map older (cond t (e ∷ filter (λ x. nat_lt x.value.age bound) others) (filter (λ x. nat_lt x.value.age bound) others))
     one_aged e value rest others later true true same older = ap (λ v. stored e.key e.path v ∷ rest) (older refl) ∙ ap (λ xs. stored e.key e.path (record e.value { age = e.value.age + 1 }) ∷ xs) later
     one_aged e value rest others later false false same older = later
     one_aged e value rest others later true false same older = cc
@@ -68,5 +68,5 @@ module _ {K C R O : Type 0} (M : Meaning K C R O) where
   pub legal_evicted : (bound : ℕ) (es es' : Entries K C R O) → Evicts bound es es' → All (IsLegal M) es → All (IsLegal M) es'
   legal_evicted bound es es' left legal =
       let young_ones = All-filter (λ (e : Stored K C R (Kept O C)). nat_lt e.value.age bound) (IsLegal M) es legal in
-      let older = All-map (IsLegal M) (λ (e : Stored K C R (Kept O C)). record e { value = record e.value { age = e.value.age + 1 } }) (filter (λ e. nat_lt e.value.age bound) es) (λ k d l. at_age (get_or (filter (λ e. nat_lt e.value.age bound) es) k d) ((get_or (filter (λ e. nat_lt e.value.age bound) es) k d).value.age + 1) (young_ones k d l)) in
+      let older = All-map (IsLegal M) older (filter (λ e. nat_lt e.value.age bound) es) (λ k d l. at_age (get_or (filter (λ e. nat_lt e.value.age bound) es) k d) ((get_or (filter (λ e. nat_lt e.value.age bound) es) k d).value.age + 1) (young_ones k d l)) in
       All-permutation (IsLegal M) (aged bound es) es' left older

@@ -26,9 +26,13 @@ Entries K C R O = List (Stored K C R (Kept O C))
 abbrev pub young : {K C R O : Type 0} → Stored K C R (Kept O C) → Stored K C R (Kept O C)
 young e = record e { value = record e.value { age = 0 } }
 
+-- an entry, but one older
+abbrev pub older : {K C R O : Type 0} → Stored K C R (Kept O C) → Stored K C R (Kept O C)
+older e = record e { value = record e.value { age = e.value.age + 1 } }
+
 -- the entries whose age is below a bound, each one older
 abbrev pub aged : {K C R O : Type 0} → ℕ → Entries K C R O → Entries K C R O
-aged bound es = map (λ e. record e { value = record e.value { age = e.value.age + 1 } }) (filter (λ e. nat_lt e.value.age bound) es)
+aged bound es = map older (filter (λ e. nat_lt e.value.age bound) es)
 
 -- the entries after an eviction, in whatever order
 abbrev pub Evicts : {K C R O : Type 0} → ℕ → Entries K C R O → Entries K C R O → Type 0
