@@ -455,11 +455,12 @@ fn answers_of_aged<M: Memo>(
     ensures { IfOk result (λ answers. (found.now.age ≡ 0 → ⊥)
         → HasAnswers M.Answer.eq found.now.pairs.items answers.items) }
 {
-    let mut answers = Vec::new(alloc);
-    if found.age > 0 {
-        for (_, answer) in &found.pairs {
-            answers.push(answer.clone()?)?;
-        }
+    if found.age == 0 {
+        return Ok(Vec::new(alloc));
+    }
+    let mut answers = Vec::with_capacity(alloc, found.pairs.len())?;
+    for (_, answer) in &found.pairs {
+        answers.push(answer.clone()?)?;
     }
     Ok(answers)
 }
