@@ -1,7 +1,6 @@
 -- What `begin`, a closure's run and `finish` say together.
 use Rattle.std.proofs.Common.{◌≡◌, ◌↔◌, inl, inr, Bool, true, false, List, [], Result, Ok, Err, IfOk, IfErr, OnErr, refl, sym, ap, subst}
 use Rattle.std.specs.Borrow.{MutBor}
-use Rattle.comemo_base.specs.Answers.{Respects}
 use Rattle.comemo_track.specs.Recording.{Recording}
 use Rattle.comemo.specs.Meaning.{Meaning, Invocation, run}
 use Rattle.comemo.specs.Cache.{Entries, Stands}

@@ -1,5 +1,5 @@
 -- What a touch does to the entry that a look-up found.
-use Rattle.std.proofs.Common.{◌≡◌, ◌∙◌, ◌⊎◌, ◌+◌, ℕ, ◌<◌, Bool, List, [], ◌∷◌, ◌++◌, IsTrue, get_or, length, take, remove, inl, inr, arith, sym, ap, subst}
+use Rattle.std.proofs.Common.{◌≡◌, ◌∙◌, ◌+◌, ℕ, ◌<◌, Bool, List, [], ◌∷◌, ◌++◌, IsTrue, get_or, length, take, remove, inl, inr, arith, sym, ap, subst}
 use Rattle.std.proofs.lemmas.Bool.{cases_eq}
 use Rattle.std.proofs.lemmas.List.{take_more}
 use Rattle.std.proofs.lemmas.List.Sorted.{IsPermutation-remove, IsPermutation-sym, All-permutation}
@@ -12,7 +12,7 @@ use Rattle.comemo_base.proofs.Paths.{turned, joined, get_or_same}
 use Rattle.comemo_base.proofs.Under.{Any-from_under}
 use Rattle.comemo_tree.specs.Change.{HasAnswers}
 use Rattle.comemo.specs.Meaning.{Meaning, Invocation, Run, invocation}
-use Rattle.comemo.specs.Cache.{Kept, Entries, HasAged, Touches, TouchesAt, young}
+use Rattle.comemo.specs.Cache.{Kept, Entries, HasAged, Touches, young}
 use Rattle.comemo.specs.Found.{TouchesFound}
 
 module _ {C R : Type 0} (same : R → R → Bool) where
