@@ -12,6 +12,7 @@ pub mod Closures
 pub mod Growing
 pub mod Touching
 pub mod Aging
+pub mod Stepping
 pub mod JoinedHits
 pub mod ThroughMaps
 pub mod Again

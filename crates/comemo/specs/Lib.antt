@@ -6,6 +6,8 @@ pub mod Begun
 pub mod Finish
 pub mod Called
 pub mod Found
+pub mod Steps
+pub mod StepLaws
 pub mod Closure
 pub mod Function
 pub mod FunctionMut

@@ -448,10 +448,7 @@ fn replay<In: Input, S: Sink<Call = In::Call, Answer = In::Answer>>(
 }
 
 /// Clones of the answers of a path that was found, where its entry has an age; of none where it has none to lose.
-fn answers_of_aged<M: Memo>(
-    alloc: Global,
-    found: &Found<M>,
-) -> Result<Vec<M::Answer>, AllocError>
+fn answers_of_aged<M: Memo>(alloc: Global, found: &Found<M>) -> Result<Vec<M::Answer>, AllocError>
     ensures { IfOk result (λ answers. (found.now.age ≡ 0 → ⊥)
         → HasAnswers M.Answer.eq found.now.pairs.items answers.items) }
 {
