@@ -52,7 +52,8 @@ impl State {
     /// what `evaluate` and `size` do, which follow one stored path in each look-up; an eviction takes time linear in all
     /// that is kept, and no memory.
     pub fn carry_out(&mut self, command: Command) -> Answer
-        ensures answer { Answers (texts_in self.old) (request_of command) result (texts_in self.new) }
+        ensures answer { Answers (texts_in self.old) (request_of command) result
+            (texts_in self.new) }
         ensures evicts { (max_age : ℕ) → request_of command ≡ evict_of max_age
             → Evicts max_age self.old.evaluated self.new.evaluated
             × Evicts max_age self.old.sizes self.new.sizes }

@@ -286,15 +286,16 @@ impl<M: Memo> CacheData<M> {
 
     /// Drops the entries whose age is the bound or more; the others grow one older.
     ///
-    /// So `evict(0)` drops all, and `evict(usize::MAX)` none. It takes no memory, and the time of `CallTree::retain`,
-    /// which is linear in the entries. comemo's `CacheData::evict`.
+    /// So `evict(0)` drops all. Each age is compared before one is added, so the sum always fits. It takes no memory, and
+    /// the time of `CallTree::retain`, which is linear in the entries. comemo's `CacheData::evict`, which adds first.
     pub fn evict(&mut self, max_age: usize)
         ensures { Evicts max_age self.old self.new }
     {
         self.tree.retain(
             |kept: &mut KeptRun<M>| -> bool
                 ensures stays { result ≡ nat_lt kept.old.age max_age }
-                ensures aged { result ≡ true → kept.new ≡ record kept.old { age = kept.old.age + 1 } }
+                ensures aged { result ≡ true
+                    → kept.new ≡ record kept.old { age = kept.old.age + 1 } }
             {
                 if kept.age >= max_age {
                     return false;

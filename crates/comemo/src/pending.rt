@@ -482,7 +482,8 @@ fn give_found<
     ensures done { OnOk result (In.did input.old input.new found.writes.items) }
     ensures sent { OnOk result (S.took sink.old sink.new found.pairs.items found.writes.items) }
     ensures touched { OnOk result
-        (TouchesFound M.Answer.eq M.Key.eq key.now found.pairs.items found.age cache.old cache.new) }
+        (TouchesFound M.Answer.eq M.Key.eq key.now found.pairs.items found.age
+        cache.old cache.new) }
     ensures err { IfErr result (λ fault. OnFault fault
         ((cache.new ≡ cache.old) × In.did input.old input.new []
         × ⟦<S as Breaking>⟧.breaks_off sink.old sink.new found.pairs.items)
@@ -526,7 +527,8 @@ fn give_found<
 ///
 /// It clones the key, and looks as `CacheData::look` does, which asks each call of one stored path once and finds its
 /// answer in an ordered map. On a hit it clones the calls of the entry's path, its output and its writes, and sends each
-/// pair of the path and each write to the sink. The first half of comemo's `memoize`.
+/// pair of the path and each write to the sink; where the entry has an age, it clones the path's answers too, and follows
+/// the path once more by these. The first half of comemo's `memoize`.
 pub fn begin<
     M: Memo,
     In: Input<Call = M::Call, Key = M::Key, Answer = M::Answer>,
