@@ -33,9 +33,9 @@ mapped_err f (Ok a) p = tt
 mapped_err f (Err e) p = f p
 
 -- a call of a function whose calls are reads alone, which failed, left the entries as they were, and its sink broken off at some pairs
-pub at_some_pairs : {K C R O I P : Type 0} {M : Meaning K C R O} {es : Entries K C R O} {call : Invocation K C R} {did : I → I → List C → Type 0} {recording : P → Recording C R} {post : MutBor I → MutBor P → Result O Fault → MutBor I → MutBor P → Type 0} {input : I} → (broken : List (C × R) → Type 0) {after : List (C × R) → List C → Type 0} {es' : Entries K C R O} → IsBroken M es call did recording post input broken after es' → ((c : C) → M.is_write c ≡ false) → (es' ≡ es) × (pairs : List (C × R)) × broken pairs
-at_some_pairs broken (inl (same, inl begun)) reads = (same, begun.pairs, begun.is_broken)
-at_some_pairs broken (inl (same, inr (output, t, ran, whole, is))) reads = (same, is.given, is.is_broken)
+pub at_some_pairs : {K C R O I P : Type 0} {M : Meaning K C R O} {es : Entries K C R O} {call : Invocation K C R} {did : I → I → List C → Type 0} {recording : P → Recording C R} {post : MutBor I → MutBor P → Result O Fault → MutBor I → MutBor P → Type 0} {input : I} → (broken : List (C × R) → Type 0) {after : List (C × R) → List C → Type 0} {es' : Entries K C R O} → IsBroken M es call did recording post input broken after es' → ((c : C) → M.is_write c ≡ false) → (es' ≡ es) × ((pairs : List (C × R)) × broken pairs)
+at_some_pairs broken (inl (same, inl begun)) reads = (same, (begun.pairs, begun.is_broken))
+at_some_pairs broken (inl (same, inr (output, t, ran, whole, is))) reads = (same, (is.given, is.is_broken))
 at_some_pairs broken (inr (touched, j, is)) reads = absurd (never_refused is reads)
 
 -- a sink that took nothing is left as by a call that did not begin
