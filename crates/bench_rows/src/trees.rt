@@ -86,12 +86,15 @@ pub(crate) fn paths_that_part(alloc: Global) -> Result<bool, Broken> {
 /// Whether a path follows the stored ones, and then its sequence.
 pub(crate) fn a_path_follows_the_stored_ones(alloc: Global) -> Result<bool, Broken> {
     let tree = three_paths(alloc)?;
+    let first = finds(alloc, &tree, 0, &FIRST, Some('f'), b"ab")?;
+    let second = finds(alloc, &tree, 0, &SECOND, Some('s'), b"abc")?;
+    let third = finds(alloc, &tree, 0, &THIRD, Some('t'), b"abc")?;
     let Some((path, value)) = tree.find(&0, &mut |call: &u8| answer_in(&SECOND, *call))? else {
         return Ok(false);
     };
     let follows = path.as_slice() == [(b'a', 10), (b'b', 20), (b'c', 15)].as_slice();
     let is_second = *value == 's';
-    Ok(follows && is_second && tree.shape() == (5, 3, 7, 1))
+    Ok(first && second && third && follows && is_second && tree.shape() == (5, 3, 7, 1))
 }
 
 /// Whether of three paths the one that is kept is found alone.
@@ -124,8 +127,8 @@ pub(crate) fn an_empty_path_is_found_unasked(alloc: Global) -> Result<bool, Brok
     let mut tree = CallTree::new(alloc);
     insert(alloc, &mut tree, &[], 'x')?;
     let longer = insert(alloc, &mut tree, &[(b'a', 1)], 'y');
-    let found = finds(alloc, &tree, 0, &[], Some('x'), b"")?;
-    let other = finds(alloc, &tree, 1, &[], None, b"")?;
+    let found = finds(alloc, &tree, 0, &[(b'a', 1)], Some('x'), b"")?;
+    let other = finds(alloc, &tree, 1, &[(b'a', 1)], None, b"")?;
     Ok(longer == Err(InsertError::AlreadyExists) && found && other && tree.shape() == (0, 1, 0, 1))
 }
 

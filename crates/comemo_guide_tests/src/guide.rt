@@ -1,22 +1,17 @@
-//! The functions at work: which calls ran, and which were answered from the cache.
+//! The functions at work: which calls ran, and which were answered from the cache. The rows of `bench_rows` have those
+//! that are neither here nor in `writing`.
 
 use comemo::{CacheData, Fault, Function, How, MemoOf, Reply, Top, Track, memoized};
 use comemo_guide::both_pass::BothPass;
-use comemo_guide::chains::{Chain, IsInChain};
-use comemo_guide::double::Double;
-use comemo_guide::greetings::{Greeting, SaysHello, World};
-use comemo_guide::kinds::{IsLong, Selfie, Text};
-use comemo_guide::loader::{Contents, Library, Loader};
-use comemo_guide::numbers::{DoubleFlat, Flat, Identity, Sum, SumBelow};
+use comemo_guide::numbers::{DoubleFlat, Flat};
 use comemo_guide::orders::{Both, Either, Exceeds, Turn};
 use comemo_guide::passes::Passes;
 use comemo_guide::region::{Region, Warmest};
 use comemo_guide::report::{Kept, Report};
 use comemo_guide::several::{IsWarmer, Lead};
-use comemo_guide::texts::Same;
 use comemo_guide::warmth::Warmth;
 use comemo_samples::Town;
-use std::alloc::{AllocError, Global};
+use std::alloc::Global;
 use std::fmt::Debug;
 use std::process::Abort;
 use std::test::Fail;
@@ -28,12 +23,6 @@ fn town(people: u64, degrees: u64) -> Town {
 /// A reply has this output, and this became of the call.
 fn expect<A: Abort, O: Copy + PartialEq + Debug>(rt: &A, reply: Reply<O>, output: O, how: How) {
     assert_eq!(rt; reply.output, output);
-    assert_eq!(rt; reply.how, how);
-}
-
-/// A reply has this text, and this became of the call.
-fn expect_text<A: Abort>(rt: &A, reply: Reply<String>, text: &str, how: How) {
-    assert_eq!(rt; reply.output.as_str(), text);
     assert_eq!(rt; reply.how, how);
 }
 
@@ -71,19 +60,6 @@ fn report(
         &mut Top::new(),
         true,
     )
-}
-
-#[test]
-fn a_number_is_doubled_once(rt: HostRuntime) -> Result<(), Fail> {
-    let alloc = rt.alloc();
-    let mut cache: CacheData<MemoOf<Double>> = CacheData::new(alloc);
-    let first = call(alloc, &mut cache, 2, &())?;
-    expect(&rt, first, 4, How::Stored);
-    let other = call(alloc, &mut cache, 4, &())?;
-    expect(&rt, other, 8, How::Stored);
-    let again = call(alloc, &mut cache, 2, &())?;
-    expect(&rt, again, 4, How::Hit);
-    Ok(())
 }
 
 #[test]
@@ -196,49 +172,6 @@ fn a_call_that_is_not_enabled_runs_and_keeps_nothing(rt: HostRuntime) -> Result<
 }
 
 #[test]
-fn only_large_numbers_are_kept(rt: HostRuntime) -> Result<(), Fail> {
-    let alloc = rt.alloc();
-    let mut cache: CacheData<MemoOf<Identity>> = CacheData::new(alloc);
-    let nothing = ().track(alloc);
-    let asked = [
-        (0, How::Disabled),
-        (0, How::Disabled),
-        (2000, How::Stored),
-        (2000, How::Hit),
-    ];
-    for (n, how) in asked {
-        let reply = memoized(
-            alloc,
-            &mut cache,
-            &mut (),
-            n,
-            &nothing,
-            &mut Top::new(),
-            n >= 1000,
-        )?;
-        expect(&rt, reply, n, how);
-    }
-    Ok(())
-}
-
-#[test]
-fn the_order_of_two_numbers_counts(rt: HostRuntime) -> Result<(), Fail> {
-    let alloc = rt.alloc();
-    let mut cache: CacheData<MemoOf<Sum>> = CacheData::new(alloc);
-    let asked = [
-        ((2, 4), 6, How::Stored),
-        ((2, 3), 5, How::Stored),
-        ((2, 3), 5, How::Hit),
-        ((4, 2), 6, How::Stored),
-    ];
-    for (key, sum, how) in asked {
-        let reply = call(alloc, &mut cache, key, &())?;
-        expect(&rt, reply, sum, how);
-    }
-    Ok(())
-}
-
-#[test]
 fn keys_of_one_hash_are_told_apart(rt: HostRuntime) -> Result<(), Fail> {
     let alloc = rt.alloc();
     let mut cache: CacheData<MemoOf<DoubleFlat>> = CacheData::new(alloc);
@@ -246,24 +179,6 @@ fn keys_of_one_hash_are_told_apart(rt: HostRuntime) -> Result<(), Fail> {
         let reply = call(alloc, &mut cache, Flat(n), &())?;
         expect(&rt, reply, 2 * n, how);
     }
-    Ok(())
-}
-
-#[test]
-fn each_function_has_a_cache_of_its_own(rt: HostRuntime) -> Result<(), Fail> {
-    let alloc = rt.alloc();
-    let mut taken: CacheData<MemoOf<Same>> = CacheData::new(alloc);
-    let mut copied: CacheData<MemoOf<Same>> = CacheData::new(alloc);
-    let hello = String::from_str(alloc, "Hello")?;
-    let first = call(alloc, &mut taken, hello.clone()?, &())?;
-    expect_text(&rt, first, "Hello", How::Stored);
-    let second = call(alloc, &mut copied, hello.clone()?, &())?;
-    expect_text(&rt, second, "Hello", How::Stored);
-    let world = String::from_str(alloc, "World")?;
-    let third = call(alloc, &mut taken, world, &())?;
-    expect_text(&rt, third, "World", How::Stored);
-    let fourth = call(alloc, &mut taken, hello, &())?;
-    expect_text(&rt, fourth, "Hello", How::Hit);
     Ok(())
 }
 
@@ -325,85 +240,6 @@ fn the_order_of_questions_may_change(rt: HostRuntime) -> Result<(), Fail> {
     expect(&rt, third, (1, 7), How::Stored);
     let fourth = both(alloc, &mut cache, Turn::Degrees, &town(1, 7))?;
     expect(&rt, fourth, (1, 7), How::Hit);
-    Ok(())
-}
-
-#[test]
-fn the_world_is_big_once(rt: HostRuntime) -> Result<(), Fail> {
-    let mut alloc = rt.alloc();
-    let mut cache: CacheData<MemoOf<World>> = CacheData::new(alloc);
-    for how in [How::Stored, How::Hit, How::Hit] {
-        let reply = memoized(
-            rt.alloc(),
-            &mut cache,
-            &mut alloc,
-            (),
-            &().track(rt.alloc()),
-            &mut Top::new(),
-            true,
-        )?;
-        expect_text(&rt, reply, "The world is big", how);
-    }
-    Ok(())
-}
-
-#[test]
-fn a_text_is_asked_whether_it_is_hello(rt: HostRuntime) -> Result<(), Fail> {
-    let alloc = rt.alloc();
-    let mut cache: CacheData<MemoOf<SaysHello>> = CacheData::new(alloc);
-    let asked = [
-        ("hey", false, How::Stored),
-        ("hey", false, How::Hit),
-        ("hello", true, How::Stored),
-        ("hello", true, How::Hit),
-    ];
-    for (text, is, how) in asked {
-        let greeting = Greeting {
-            text: String::from_str(alloc, text)?,
-        };
-        let reply = call(alloc, &mut cache, (), &greeting)?;
-        expect(&rt, reply, is, how);
-    }
-    Ok(())
-}
-
-#[test]
-fn a_text_answers_two_kinds_of_questions(rt: HostRuntime) -> Result<(), Fail> {
-    let alloc = rt.alloc();
-    let mut selfies: CacheData<MemoOf<Selfie>> = CacheData::new(alloc);
-    let mut lengths: CacheData<MemoOf<IsLong>> = CacheData::new(alloc);
-    let hi = Text {
-        text: String::from_str(alloc, "Hi")?,
-    };
-    for how in [How::Stored, How::Hit] {
-        let selfie = call(alloc, &mut selfies, (), &hi)?;
-        expect_text(&rt, selfie, "Hi", how);
-        let long = call(alloc, &mut lengths, (), &hi)?;
-        expect(&rt, long, false, how);
-    }
-    let loud = Text {
-        text: String::from_str(alloc, "Hi!")?,
-    };
-    let selfie = call(alloc, &mut selfies, (), &loud)?;
-    expect_text(&rt, selfie, "Hi!", How::Stored);
-    let still = call(alloc, &mut lengths, (), &loud)?;
-    expect(&rt, still, false, How::Stored);
-    let longer = Text {
-        text: String::from_str(alloc, "Hi! Let's go.")?,
-    };
-    let long = call(alloc, &mut lengths, (), &longer)?;
-    expect(&rt, long, true, How::Stored);
-    Ok(())
-}
-
-#[test]
-fn numbers_are_added_up_once(rt: HostRuntime) -> Result<(), Fail> {
-    let alloc = rt.alloc();
-    let mut cache: CacheData<MemoOf<SumBelow>> = CacheData::new(alloc);
-    for how in [How::Stored, How::Hit] {
-        let reply = call(alloc, &mut cache, 1000, &())?;
-        expect(&rt, reply, 499500, how);
-    }
     Ok(())
 }
 
@@ -540,83 +376,5 @@ fn three_towns_are_asked_as_one(rt: HostRuntime) -> Result<(), Fail> {
     hill.degrees = 15;
     let again = warmest(alloc, &mut cache, &coast, &river, &hill)?;
     assert_eq!(rt; again, (24, How::Hit));
-    Ok(())
-}
-
-/// Asks whether a number is in a chain.
-fn contains(
-    alloc: Global,
-    cache: &mut CacheData<IsInChain>,
-    chain: &Chain<'_>,
-    n: u32,
-) -> Result<(bool, How), Fault> {
-    let reply = memoized(
-        alloc,
-        cache,
-        &mut (),
-        n,
-        &chain.track(alloc),
-        &mut Top::new(),
-        true,
-    )?;
-    Ok((reply.output, reply.how))
-}
-
-#[test]
-fn chains_that_answer_alike_share_what_is_kept(rt: HostRuntime) -> Result<(), Fail> {
-    let alloc = rt.alloc();
-    let mut cache: CacheData<IsInChain> = CacheData::new(alloc);
-    let one = Chain::new(1);
-    let three = Chain::new(3);
-    let to_two = Chain::insert(&one, 2);
-    let to_three = Chain::insert(&to_two, 3);
-    let to_four = Chain::insert(&to_two, 4);
-    let to_five = Chain::insert(&to_four, 5);
-    assert_eq!(rt; contains(alloc, &mut cache, &one, 0)?, (false, How::Stored));
-    assert_eq!(rt; contains(alloc, &mut cache, &one, 1)?, (true, How::Stored));
-    assert_eq!(rt;
-        contains(alloc, &mut cache, &to_three, 2)?,
-        (true, How::Stored)
-    );
-    assert_eq!(rt; contains(alloc, &mut cache, &to_four, 2)?, (true, How::Hit));
-    assert_eq!(rt; contains(alloc, &mut cache, &to_two, 2)?, (true, How::Hit));
-    assert_eq!(rt; contains(alloc, &mut cache, &to_five, 2)?, (true, How::Hit));
-    assert_eq!(rt; contains(alloc, &mut cache, &one, 2)?, (false, How::Stored));
-    assert_eq!(rt; contains(alloc, &mut cache, &three, 2)?, (false, How::Hit));
-    Ok(())
-}
-
-/// A loader that gives the same bytes for every path.
-#[derive(Drop)]
-struct OneFile {
-    bytes: Vec<u8>,
-}
-
-impl Loader for OneFile {
-    ghost gives = { λ s _. s.bytes };
-
-    fn load(&self, _path: &str) -> Result<Vec<u8>, AllocError> {
-        self.bytes.clone()
-    }
-}
-
-#[test]
-fn each_path_is_loaded_once(rt: HostRuntime) -> Result<(), Fail> {
-    let alloc = rt.alloc();
-    let mut cache: CacheData<MemoOf<Contents<OneFile>>> = CacheData::new(alloc);
-    let bytes = vec![in alloc; 1, 2, 3]?;
-    let library = Library {
-        loader: Box::new(alloc, OneFile { bytes })?,
-    };
-    let asked = [
-        ("hi.rs", How::Stored),
-        ("hi.rs", How::Hit),
-        ("bye.rs", How::Stored),
-    ];
-    for (path, how) in asked {
-        let reply = call(alloc, &mut cache, String::from_str(alloc, path)?, &library)?;
-        assert_eq!(rt; reply.output.as_slice(), [1, 2, 3].as_slice());
-        assert_eq!(rt; reply.how, how);
-    }
     Ok(())
 }

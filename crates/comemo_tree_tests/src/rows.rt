@@ -1,4 +1,4 @@
-//! Worked examples of the tree, with their shapes and the calls that are asked: calls are bytes, answers numbers.
+//! Worked examples of the tree, with their shapes: calls are letters, answers numbers. The rows of `bench_rows` have more.
 use comemo_base::{CallSequence, InsertError};
 use comemo_tree::CallTree;
 use std::alloc::{AllocError, Global};
@@ -34,22 +34,10 @@ fn answer_in(table: &[(u8, u128)], call: u8) -> Result<u128, AllocError> {
     Err(AllocError)
 }
 
-/// What a tree finds under a key by the answers of a table, and the calls that it asked.
-fn look_up(
-    alloc: Global,
-    tree: &Tree,
-    key: u128,
-    table: &[(u8, u128)],
-) -> Result<(Option<char>, Vec<u8>), AllocError> {
-    let mut asked = Vec::new(alloc);
-    let found = tree.get(
-        &key,
-        &mut |call: &u8| {
-            asked.push(*call)?;
-            answer_in(table, *call)
-        },
-    )?;
-    Ok((found.copied(), asked))
+/// What a tree finds under the key 0 by the answers of a table.
+fn look_up(tree: &Tree, table: &[(u8, u128)]) -> Result<Option<char>, AllocError> {
+    let found = tree.get(&0, &mut |call: &u8| answer_in(table, *call))?;
+    Ok(found.copied())
 }
 
 const FIRST: [(u8, u128); 2] = [(b'a', 10), (b'b', 15)];
@@ -68,108 +56,13 @@ fn three_paths(alloc: Global) -> Result<Tree, InsertError> {
 }
 
 #[test]
-fn paths_that_part_are_each_found(rt: HostRuntime) -> Result<(), Fail> {
-    let alloc = rt.alloc();
-    let mut tree = CallTree::new(alloc);
-    let rows = [
-        ([(b'a', 10), (b'b', 15)], 'f'),
-        ([(b'a', 10), (b'b', 20)], 's'),
-        ([(b'a', 15), (b'c', 15)], 't'),
-    ];
-    for (pairs, value) in rows {
-        assert_eq!(rt; insert(alloc, &mut tree, &pairs, value), Ok(()), "{value}");
-    }
-    for (pairs, value) in rows {
-        assert_eq!(rt; look_up(alloc, &tree, 0, &pairs)?.0, Some(value));
-    }
-    assert_eq!(rt; tree.shape(), (3, 3, 5, 1));
-    Ok(())
-}
-
-#[test]
-fn a_path_follows_the_stored_ones_and_then_the_sequence(rt: HostRuntime) -> Result<(), Fail> {
-    let alloc = rt.alloc();
-    let tree = three_paths(alloc)?;
-    assert_eq!(rt; look_up(alloc, &tree, 0, &FIRST)?.0, Some('f'));
-    assert_eq!(rt; look_up(alloc, &tree, 0, &SECOND)?.0, Some('s'));
-    assert_eq!(rt; look_up(alloc, &tree, 0, &THIRD)?.0, Some('t'));
-    assert_eq!(rt; tree.shape(), (5, 3, 7, 1));
-    let found = tree.find(&0, &mut |call: &u8| answer_in(&SECOND, *call))?;
-    let (path, value) = found.ok_or("no path is found")?;
-    assert_eq!(rt;
-        path.as_slice(),
-        [(b'a', 10), (b'b', 20), (b'c', 15)].as_slice()
-    );
-    assert_eq!(rt; *value, 's');
-    Ok(())
-}
-
-#[test]
-fn what_is_kept_of_three_paths_is_found_alone(rt: HostRuntime) -> Result<(), Fail> {
+fn what_went_is_stored_again(rt: HostRuntime) -> Result<(), Fail> {
     let alloc = rt.alloc();
     let mut tree = three_paths(alloc)?;
-    tree.retain(|value: &mut char| *value == 's');
-    assert_eq!(rt; tree.shape(), (3, 1, 3, 1));
-    assert_eq!(rt; look_up(alloc, &tree, 0, &SECOND)?.0, Some('s'));
-    assert_eq!(rt; look_up(alloc, &tree, 0, &FIRST)?.0, None);
-    assert_eq!(rt; look_up(alloc, &tree, 0, &THIRD)?.0, None);
     tree.retain(|_: &mut char| false);
     assert_eq!(rt; tree.shape(), (0, 0, 0, 0));
     assert_eq!(rt; insert(alloc, &mut tree, &THIRD, 't'), Ok(()));
     assert_eq!(rt; tree.shape(), (3, 1, 3, 1));
-    Ok(())
-}
-
-#[test]
-fn what_is_stored_and_what_lacks_a_call_is_not_stored(rt: HostRuntime) -> Result<(), Fail> {
-    let alloc = rt.alloc();
-    let mut tree = CallTree::new(alloc);
-    assert_eq!(rt; insert(alloc, &mut tree, &[(b'a', 1)], 'x'), Ok(()));
-    let longer = insert(alloc, &mut tree, &[(b'a', 1), (b'b', 2)], 'y');
-    assert_eq!(rt; longer, Err(InsertError::AlreadyExists));
-    let empty = insert(alloc, &mut tree, &[], 'z');
-    assert_eq!(rt; empty, Err(InsertError::MissingCall));
-    assert_eq!(rt; look_up(alloc, &tree, 0, &[(b'a', 1)])?.0, Some('x'));
-    assert_eq!(rt; tree.shape(), (1, 1, 1, 1));
-    Ok(())
-}
-
-#[test]
-fn an_empty_path_is_found_unasked(rt: HostRuntime) -> Result<(), Fail> {
-    let alloc = rt.alloc();
-    let mut tree = CallTree::new(alloc);
-    assert_eq!(rt; insert(alloc, &mut tree, &[], 'x'), Ok(()));
-    let longer = insert(alloc, &mut tree, &[(b'a', 1)], 'y');
-    assert_eq!(rt; longer, Err(InsertError::AlreadyExists));
-    let (found, asked) = look_up(alloc, &tree, 0, &[(b'a', 1)])?;
-    assert_eq!(rt; found, Some('x'));
-    assert!(rt; asked.is_empty());
-    assert_eq!(rt; tree.shape(), (0, 1, 0, 1));
-    let (other, asked) = look_up(alloc, &tree, 1, &[(b'a', 1)])?;
-    assert_eq!(rt; other, None);
-    assert!(rt; asked.is_empty());
-    Ok(())
-}
-
-#[test]
-fn calls_are_asked_in_the_order_of_the_tree(rt: HostRuntime) -> Result<(), Fail> {
-    let alloc = rt.alloc();
-    let mut tree = CallTree::new(alloc);
-    assert_eq!(rt;
-        insert(alloc, &mut tree, &[(b'a', 1), (b'b', 2)], 'x'),
-        Ok(())
-    );
-    assert_eq!(rt;
-        insert(alloc, &mut tree, &[(b'b', 3), (b'a', 1)], 'y'),
-        Ok(())
-    );
-    let (found, asked) = look_up(alloc, &tree, 0, &[(b'a', 1), (b'b', 3)])?;
-    assert_eq!(rt; found, Some('y'));
-    assert_eq!(rt; asked.as_slice(), b"ab".as_slice());
-    let (found, asked) = look_up(alloc, &tree, 0, &[(b'a', 2), (b'b', 3)])?;
-    assert_eq!(rt; found, None);
-    assert_eq!(rt; asked.as_slice(), b"a".as_slice());
-    assert_eq!(rt; tree.shape(), (2, 2, 3, 1));
     Ok(())
 }
 
@@ -179,14 +72,14 @@ fn a_value_is_changed_where_its_answers_are(rt: HostRuntime) -> Result<(), Fail>
     let mut tree = three_paths(alloc)?;
     // The second path is a, b, c.
     assert!(rt; tree.change(&0, &[10, 20, 15], |value: &mut char| *value = 'S'));
-    assert_eq!(rt; look_up(alloc, &tree, 0, &SECOND)?.0, Some('S'));
-    assert_eq!(rt; look_up(alloc, &tree, 0, &FIRST)?.0, Some('f'));
+    assert_eq!(rt; look_up(&tree, &SECOND)?, Some('S'));
+    assert_eq!(rt; look_up(&tree, &FIRST)?, Some('f'));
     for answers in [[10, 20].as_slice(), &[10, 20, 16], &[10, 20, 15, 1], &[]] {
         assert!(rt; !tree.change(&0, answers, |value: &mut char| *value = 'X'));
     }
     assert!(rt; !tree.change(&1, &[10, 20, 15], |value: &mut char| *value = 'X'));
-    assert_eq!(rt; look_up(alloc, &tree, 0, &SECOND)?.0, Some('S'));
-    assert_eq!(rt; look_up(alloc, &tree, 0, &THIRD)?.0, Some('t'));
+    assert_eq!(rt; look_up(&tree, &SECOND)?, Some('S'));
+    assert_eq!(rt; look_up(&tree, &THIRD)?, Some('t'));
     Ok(())
 }
 
