@@ -2,6 +2,7 @@
 ghost use Rattle.std.specs.Prelude.{⊤, IfOk};
 ghost use Rattle.std.specs.List.{All};
 ghost use Rattle.comemo.specs.Steps.{IsStep};
+ghost use Rattle.std.proofs.Common.{rules};
 
 use crate::expected::expect;
 use crate::functions::{DoubleMemo, double};
