@@ -1,6 +1,5 @@
 //! Ages: what evictions drop, what hits and touches make fresh again, and steps of a cache by themselves.
 ghost use Rattle.std.specs.Prelude.{⊤, IfOk};
-ghost use Rattle.std.proofs.Common.{rules};
 ghost use Rattle.std.specs.List.{All};
 ghost use Rattle.comemo.specs.Steps.{IsStep};
 ghost use Rattle.std.proofs.Common.{rules};
