@@ -26,6 +26,7 @@ value_text (Err fault) = fault_text fault
 -- what an answer prints
 abbrev pub printed : Answer → List ℕ
 printed answer.Written = []
+printed answer.Evicted = []
 printed (answer.Value hit kept value) = found hit ++ value_text value ++ 10 ∷ []
 printed (answer.Size hit bytes) = found hit ++ decimal bytes ++ 10 ∷ []
 printed answer.TooDeep = codes "too deep\n"

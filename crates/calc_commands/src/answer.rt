@@ -10,6 +10,8 @@ use std::alloc::{AllocError, Global};
 pub enum Answer {
     /// The text was written.
     Written,
+    /// What was kept is as old as was asked for.
+    Evicted,
     /// The script has this value, by a kept output (`hit`) or by a run; `kept` says that the run is in the cache
     /// afterwards.
     Value {
@@ -41,16 +43,16 @@ fn found(hit: bool) -> &'static str
 }
 
 impl Answer {
-    /// What the answer prints, with its line's end; nothing where it is `Written`.
+    /// What the answer prints, with its line's end; nothing where it is `Written` or `Evicted`.
     ///
-    /// An error says that there was no memory for the text, a line of at most 26 bytes; `Written`, which prints
-    /// nothing, takes none.
+    /// An error says that there was no memory for the text, a line of at most 26 bytes; `Written` and `Evicted`, which
+    /// print nothing, take none.
     pub fn text(&self, alloc: Global) -> Result<String, AllocError>
         ensures ok { IfOk result (λ text. string_bytes text ≡ printed self.now) }
-        ensures err { OnErr result (self.now ≢ Answer.Written) }
+        ensures err { OnErr result ((self.now ≢ Answer.Written) × (self.now ≢ Answer.Evicted)) }
     {
         match *self {
-            Answer::Written => Ok(String::new(alloc)),
+            Answer::Written | Answer::Evicted => Ok(String::new(alloc)),
             Answer::Value { hit, value, .. } => value_text(alloc, found(hit), value),
             Answer::Size { hit, bytes } => {
                 let found = found(hit);

@@ -25,7 +25,7 @@ module _ (files : Files) where
 
   mutual
     pub call_grows : {script : List ℕ} {es es' : Outcomes} → CallLeads at (moves files) script es es' → Grows es es'
-    call_grows (is_hit {s = es} {t = es'} hit) = grows_by_touch es es' hit.came.touched
+    call_grows (is_hit {s = es} {t = es'} hit) = grows_by_touch evaluating (with_files hit.key files) es es' hit.came.touched
     call_grows (is_run {s = es} {m = mid} {t = es'} missed run ended) =
         grows_on es mid es' (parts_grow run) (grows_by_ends evaluating mid ended.ran ended.reply es' ended.ends)
 
@@ -41,7 +41,8 @@ module _ (files : Files) where
 
   mutual
     pub failed_call_grows : {script : List ℕ} {es es' : Outcomes} → CallFails at (moves files) script es es' → Grows es es'
-    failed_call_grows (is_refused {s = es} {t = es'} touched) = grows_by_touch es es' touched
+    failed_call_grows (is_refused {s = es} {t = es'} (inl same)) = grows_not es es' same
+    failed_call_grows (is_refused {s = es} {t = es'} (inr (key, names, touched))) = grows_by_touch evaluating (with_files key files) es es' touched
     failed_call_grows (is_broken missed run) = failed_parts_grow run
     failed_call_grows (has_no_end missed run) = parts_grow run
 

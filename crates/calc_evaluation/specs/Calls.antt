@@ -1,5 +1,5 @@
 -- What a call of a script replies, and how it moves what a cache of outcomes keeps, with the scripts that its run calls.
-use Rattle.std.specs.Prelude.{◌≡◌, ◌≢◌, ⊤, ℕ, List, IsTrue, String, string_bytes}
+use Rattle.std.specs.Prelude.{◌≡◌, ◌≢◌, ◌⊎◌, ⊤, ℕ, List, IsTrue, String, string_bytes}
 use Rattle.std.specs.Global.{Global}
 use Rattle.comemo.specs.Answers.{Agrees}
 use Rattle.comemo.specs.Meaning.{Run}
@@ -25,6 +25,10 @@ module _ (files : Files) (script : List ℕ) where
     pub comes_to : ComesTo (answers_of files) script found.output
     pub came : CameByHit evaluating (with_files key files) es found es'
 
+  -- the entries are as they were; or one of es under the script agrees with the files, and was touched
+  abbrev pub OnlyTouches : Outcomes → Outcomes → Type 0
+  OnlyTouches es es' = (es' ≡ es) ⊎ ((key : String Global) × (string_bytes key ≡ script) × Touches evaluating es (with_files key files) es')
+
   -- no entry of es under the script agrees with the files
   pub record Missed (es : Outcomes) : Type 0 where
     pub key : String Global
@@ -47,7 +51,7 @@ module _ (files : Files) (script : List ℕ) where
 
 -- what a call of a script does to the entries, at these files; one that is refused, as a hit that is too deep, only touches
 abbrev pub moves : Files → Moves Outcomes
-moves files = record { hit = HitLed files; missed = Missed files; ended = RunEnded files; refused = λ _ es es'. Touches es es' }
+moves files = record { hit = HitLed files; missed = Missed files; ended = RunEnded files; refused = OnlyTouches files }
 
 -- the reply to a call of a script: by an entry of es that agrees with the files; or none of them did, the scripts that the run
 -- called, one after the other, led from es to mid, and the run ended at mid, after which the entries are es'

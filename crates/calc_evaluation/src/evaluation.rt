@@ -1,10 +1,9 @@
 //! The memoized value of a script.
-ghost use Rattle.std.specs.Prelude.{◌≡◌, ◌≢◌, ◌<◌, ◌≤◌, ◌↔◌, ℕ, List, String, string_bytes, IfOk, OnOk, OnErr, Err};
+ghost use Rattle.std.specs.Prelude.{◌≡◌, ◌≢◌, ⊤, ◌<◌, ◌≤◌, ◌↔◌, ℕ, List, String, string_bytes, IfOk, OnOk, OnErr, Err};
 ghost use Rattle.std.proofs.Common.{rules};
 ghost use Rattle.std.specs.Global.{Global};
 ghost use Rattle.comemo.specs.Recording.{Took};
 ghost use Rattle.comemo.specs.Function.{Learns};
-ghost use Rattle.comemo.specs.Cache.{Touches};
 ghost use Rattle.comemo.specs.Begin.{IsRun};
 ghost use Rattle.comemo.specs.Begun.{OnBegun};
 ghost use Rattle.comemo.specs.Called.{IsReply};
@@ -17,7 +16,7 @@ ghost use Rattle.calc_files.specs.Joined.{same_call, same_answer, with_files};
 ghost use Rattle.calc_files.specs.Files.{OnFiles, Reads, text_at, answers_of, with_key};
 ghost use Rattle.calc_evaluation.specs.Evaluations.{At, ComesTo, PartComesTo, CallsDeep, IsOutcome, evaluating};
 ghost use Rattle.calc_files.specs.Joined.{FilesFit};
-ghost use Rattle.calc_evaluation.specs.Calls.{moves, EvalReply};
+ghost use Rattle.calc_evaluation.specs.Calls.{moves, EvalReply, OnlyTouches};
 
 use calc_files::{FileCall, Files, JoinedAnswer, JoinedCall, Text};
 use calc_scripts::{CalcFault, Outcome, Part, Parts, Total};
@@ -76,9 +75,8 @@ fn begin_script<S: Sink<Call = JoinedCall, Answer = JoinedAnswer>>(
         (S.took sink.old sink.new) (record { output = outcome; how = How.Hit }) cache.new)
         (λ run. (0 < limit) × (sink.new ≡ sink.old)
         × IsRun evaluating cache.old (with_files key files.now) run)) }
-    ensures kept { IfOk result (λ b. OnBegun b (λ _. Touches cache.old cache.new)
-        (λ _. cache.new ≡ cache.old)) }
-    ensures err_keeps { OnErr result (Touches cache.old cache.new) }
+    ensures kept { IfOk result (λ b. OnBegun b (λ _. ⊤) (λ _. cache.new ≡ cache.old)) }
+    ensures err_keeps { OnErr result (OnlyTouches files.now script.now cache.old cache.new) }
     ensures deep { result ≡ Err EvalFault.TooDeep
         → Deep (At (answers_of files.now)) script.now limit }
     ensures err { OnErr result (BrokeOff same_answer (with_key (answers_of files.now))

@@ -52,7 +52,7 @@ module _ (files : Files) {own : String Global} {text : List ℕ} {s t : Recordin
   size_read named = ap length (sym (text_read files asks) ∙ ap (text_at files) named)
 
 -- a hit is replied so
-pub size_by_hit : (files : Files) {path : List ℕ} {es es' : Sizes} {key : String Global} {done : List JoinedCall → Type 0} {sent : List (JoinedCall × JoinedAnswer) → List JoinedCall → Type 0} {output : ℕ} → string_bytes key ≡ path → IsHit sizing es (with_files key files) done sent output → Touches es es' → SizeReply files path es sent (record { output = output; how = how.Hit }) es'
+pub size_by_hit : (files : Files) {path : List ℕ} {es es' : Sizes} {key : String Global} {done : List JoinedCall → Type 0} {sent : List (JoinedCall × JoinedAnswer) → List JoinedCall → Type 0} {output : ℕ} → string_bytes key ≡ path → IsHit sizing es (with_files key files) done sent output → Touches sizing es (with_files key files) es' → SizeReply files path es sent (record { output = output; how = how.Hit }) es'
 size_by_hit files {es = es} {es' = es'} {key = key} names hit touched = record {
   key = key;
   names = names;

@@ -4,15 +4,16 @@ use Rattle.calc_commands.specs.Requests.{Request}
 use Rattle.calc_commands.specs.declared.answer.Answer.{Answer}
 use Rattle.calc_commands.specs.declared.answer.Answer.TheVariants as answer
 use Rattle.calc_files.specs.Files.{Texts}
-use Rattle.calc_sessions.specs.Sessions.{Same, Answers, written, value, too_deep, bytes_at, no_memory}
+use Rattle.calc_sessions.specs.Sessions.{Same, Answers, written, value, too_deep, bytes_at, evicted, no_memory}
 
 pub texts_stay : {before after : Texts} {request : Request} {reply : Answer} → Answers before request reply after → reply ≢ answer.Written → Same before after
 texts_stay (written changed) not = absurd (not refl)
 texts_stay (value is low same) not = same
 texts_stay (too_deep deep same) not = same
 texts_stay (bytes_at bytes same) not = same
+texts_stay (evicted same) not = same
 texts_stay (no_memory same) not = same
 
-pub kept_on_err : {T E : Type 0} {before after : Texts} {request : Request} {reply : Answer} (r : Result T E) → Answers before request reply after → OnErr r (reply ≢ answer.Written) → OnErr r (Same before after)
+pub kept_on_err : {T E : Type 0} {before after : Texts} {request : Request} {reply : Answer} (r : Result T E) → Answers before request reply after → OnErr r ((reply ≢ answer.Written) × (reply ≢ answer.Evicted)) → OnErr r (Same before after)
 kept_on_err (Ok x) a n = tt
-kept_on_err (Err x) a n = texts_stay a n
+kept_on_err (Err x) a n = texts_stay a n.0

@@ -2,7 +2,7 @@
 use Rattle.comemo.specs.declared.pending.How.{How}
 use Rattle.comemo.specs.declared.pending.How.TheVariants as how
 use Rattle.std.specs.Prelude.{Bool, true, false, ◌≡◌, ◌≤◌, ℕ, List, [], ◌∷◌, bytes_eq, length, if◌then◌else◌}
-use Rattle.calc_commands.specs.Requests.{Request, write, eval, size, IsLineOf, IsNoCommand}
+use Rattle.calc_commands.specs.Requests.{Request, write, eval, size, evict, IsLineOf, IsNoCommand}
 use Rattle.calc_commands.specs.Printed.{printed, bad_command}
 use Rattle.calc_commands.specs.declared.answer.Answer.{Answer}
 use Rattle.calc_commands.specs.declared.answer.Answer.TheVariants as answer
@@ -40,6 +40,8 @@ pub data Answers : Texts → Request → Answer → Texts → Type 0 where
   too_deep : {before after : Texts} {script : List ℕ} → IsTooDeep (Reads before) script height_limit → Same before after → Answers before (eval script) answer.TooDeep after
   -- the text at the path has so many bytes
   bytes_at : {before after : Texts} {path : List ℕ} {hit : Bool} {bytes : ℕ} → bytes ≡ length (before path) → Same before after → Answers before (size path) (answer.Size hit bytes) after
+  -- what was kept is as old as was asked for, and the texts stay
+  evicted : {before after : Texts} {max_age : ℕ} → Same before after → Answers before (evict max_age) answer.Evicted after
   -- there was no memory for what was asked, a write among it, and nothing was done
   no_memory : {before after : Texts} {request : Request} → Same before after → Answers before request answer.Memory after
 

@@ -28,10 +28,11 @@ impl Session for State {
 ///
 /// A session begins with no files. `write PATH TEXT` prints nothing; `eval SCRIPT` prints `miss V` or `hit V`, V
 /// the script's number, `not a number` or `overflow`, or `too deep` where it is higher than 128 or never ends;
-/// `size PATH` prints `miss N` or `hit N`, N the bytes of the file; any other line that isn't empty prints
-/// `bad command`; and a command that found no memory prints `out of memory`. How lines end, which fault comes when,
-/// what stands then and what it costs is as in `calc_lines::run`; the session's answers cost what `State::carry_out`
-/// does, and what it keeps stays until the run ends.
+/// `size PATH` prints `miss N` or `hit N`, N the bytes of the file; `evict N` drops what was kept of scripts and of
+/// sizes whose age is N or more, the rest growing one older, and prints nothing; any other line that isn't empty prints
+/// `bad command`; and a command that found no memory prints `out of memory`. How lines end, which fault comes when, what
+/// stands then and what it costs is as in `calc_lines::run`; the session's answers cost what `State::carry_out` does, and
+/// what it keeps stays until it is evicted or the run ends.
 pub fn run<R: BufRead, W: Write>(
     alloc: Global,
     reader: &mut R,

@@ -1,6 +1,7 @@
 //! The state of a session, and what it answers to a command.
 ghost use Rattle.std.specs.Prelude.{◌≡◌, ℕ, List, []};
-ghost use Rattle.calc_commands.specs.Requests.{request_of, eval as eval_of, size as size_of};
+ghost use Rattle.calc_commands.specs.Requests.{request_of, eval as eval_of, size as size_of, evict as evict_of};
+ghost use Rattle.comemo.specs.Cache.{Evicts};
 ghost use Rattle.calc_sessions.specs.Sessions.{in_cache, texts_in, Answers};
 
 use calc_commands::{Answer, Command};
@@ -48,9 +49,14 @@ impl State {
     /// The answer is the one that the files as they are have, whatever was asked before. `Memory` says that there was
     /// no memory for the command; then the files are as they were, and what was kept on the way stays. A script is
     /// evaluated to a height of 128 at most. A write takes constant expected time, and copies nothing; the others cost
-    /// what `evaluate` and `size` do, which follow one stored path in each look-up.
+    /// what `evaluate` and `size` do, which follow one stored path in each look-up; an eviction takes time linear in all
+    /// that is kept, and no memory.
     pub fn carry_out(&mut self, command: Command) -> Answer
-        ensures { Answers (texts_in self.old) (request_of command) result (texts_in self.new) }
+        ensures answer { Answers (texts_in self.old) (request_of command) result
+            (texts_in self.new) }
+        ensures evicts { (max_age : ℕ) → request_of command ≡ evict_of max_age
+            → Evicts max_age self.old.evaluated self.new.evaluated
+            × Evicts max_age self.old.sizes self.new.sizes }
     {
         match command {
             Command::Write(path, text) => match self.files.write(path, text) {
@@ -59,6 +65,11 @@ impl State {
             },
             Command::Eval(script) => self.value_of(script.as_str()),
             Command::Size(path) => self.size_at(path.as_str()),
+            Command::Evict(max_age) => {
+                self.evaluated.evict(max_age);
+                self.sizes.evict(max_age);
+                Answer::Evicted
+            }
         }
     }
 

@@ -75,6 +75,28 @@ fn an_eval_has_all_after_its_blank(rt: HostRuntime) -> Result<(), Fail> {
 }
 
 #[test]
+fn an_eviction_has_digits_alone(rt: HostRuntime) -> Result<(), Fail> {
+    let alloc = rt.alloc();
+    let cases = [
+        ("evict 0", 0),
+        ("evict 7", 7),
+        ("evict 007", 7),
+        ("evict 10", 10),
+        ("evict 000000000000000000000000000000000000000001", 1),
+        ("evict 18446744073709551615", usize::MAX),
+        ("evict 018446744073709551615", usize::MAX),
+    ];
+    for (line, max_age) in cases {
+        assert_eq!(rt;
+            Command::parse(alloc, line),
+            Ok(Some(Command::Evict(max_age))),
+            "for {line:?}"
+        );
+    }
+    Ok(())
+}
+
+#[test]
 fn other_lines_are_no_commands(rt: HostRuntime) -> Result<(), Fail> {
     let alloc = rt.alloc();
     let lines = [
@@ -98,6 +120,21 @@ fn other_lines_are_no_commands(rt: HostRuntime) -> Result<(), Fail> {
         "eval\t1",
         "evals 1",
         " eval 1",
+        "evict",
+        "evict ",
+        "evict -1",
+        "evict +1",
+        "evict  1",
+        "evict 1 ",
+        "evict 1 2",
+        "evict x",
+        "evict 0x1",
+        "evict \u{ff11}",
+        "evict 18446744073709551616",
+        "evict 100000000000000000000",
+        "evict\t1",
+        " evict 0",
+        "evicts 1",
     ];
     for line in lines {
         assert_eq!(rt; Command::parse(alloc, line), Ok(None), "for {line:?}");
@@ -112,6 +149,7 @@ fn an_answer_prints_its_text(rt: HostRuntime) -> Result<(), Fail> {
     let value = |hit, kept, value| Answer::Value { hit, kept, value };
     let cases = [
         (Answer::Written, ""),
+        (Answer::Evicted, ""),
         (size(true, 5), "hit 5\n"),
         (size(true, 10), "hit 10\n"),
         (size(false, 0), "miss 0\n"),

@@ -47,7 +47,11 @@ fn a_chain_of_files_is_not_too_deep_at_128(rt: HostRuntime) -> Result<(), Fail> 
             "eval eval f126\neval eval f127\neval eval f126\n",
             "miss 1\ntoo deep\nhit 1\n",
         ),
-        // Nothing was kept on the way to what was too deep.
+        // Nothing is kept on the way to what is too deep, and nothing after an eviction of all.
+        (
+            "eval eval f126\neval eval f127\neval eval f126\nevict 0\neval eval f127\neval eval f125\n",
+            "miss 1\ntoo deep\nhit 1\ntoo deep\nmiss 1\n",
+        ),
         ("eval eval f127\neval eval f125\n", "too deep\nmiss 1\n"),
         ("eval eval f125\neval eval f126\n", "miss 1\nmiss 1\n"),
     ];

@@ -30,3 +30,43 @@ fn a_command_gets_its_answer(rt: HostRuntime) -> Result<(), Fail> {
     }
     Ok(())
 }
+
+/// An eviction ages what both memoized functions gave, and a hit makes it fresh again.
+#[test]
+fn an_eviction_drops_what_was_not_asked_for(rt: HostRuntime) -> Result<(), Fail> {
+    let alloc = rt.alloc();
+    let mut state = State::new(alloc);
+    let size = |hit| Answer::Size { hit, bytes: 5 };
+    let value = |hit| Answer::Value {
+        hit,
+        kept: true,
+        value: Ok(3),
+    };
+    let commands = [
+        ("write a hello", Answer::Written),
+        ("size a", size(false)),
+        ("eval 1 + 2", value(false)),
+        ("evict 1", Answer::Evicted),
+        ("size a", size(true)),
+        ("evict 1", Answer::Evicted),
+        ("size a", size(true)),
+        ("eval 1 + 2", value(false)),
+        ("evict 2", Answer::Evicted),
+        ("evict 2", Answer::Evicted),
+        ("eval 1 + 2", value(true)),
+        ("evict 2", Answer::Evicted),
+        ("size a", size(false)),
+        ("eval 1 + 2", value(true)),
+        ("evict 0", Answer::Evicted),
+        ("size a", size(false)),
+        ("eval 1 + 2", value(false)),
+        ("evict 18446744073709551615", Answer::Evicted),
+        ("size a", size(true)),
+        ("eval 1 + 2", value(true)),
+    ];
+    for (line, want) in commands {
+        let command = Command::parse(alloc, line)?.ok_or("no command")?;
+        assert_eq!(rt; state.carry_out(command), want, "for {line:?}");
+    }
+    Ok(())
+}

@@ -60,6 +60,11 @@ fault_is (Err g) fault.Memory e P is X p q = subst X (sym e) (p is)
 fault_is (Err g) fault.Write e P is X p q = subst X (sym e) (q is)
 fault_is (Err g) fault.Incomplete e P is X p q = absurd is
 
+-- a want of memory, handed on
+pub memory_handed : {A : Type 0} (r : Result A Fault) (f : Fault) → IsErrAnd r (λ x. x ≡ f) → f ≡ fault.Memory → (P Q : Type 0) → P → IfErr r (λ x. OnFault x P Q)
+memory_handed (Ok x) f e w P Q p = tt
+memory_handed (Err g) f e w P Q p = subst (λ x. OnFault x P Q) (sym (e ∙ w)) p
+
 -- a write that was refused, handed on
 pub write_handed : {A : Type 0} (r : Result A Fault) (f : Fault) → IsErrAnd r (λ x. x ≡ f) → f ≡ fault.Write → (P Q : Type 0) → Q → IfErr r (λ x. OnFault x P Q)
 write_handed (Ok x) f e w P Q q = tt
@@ -71,7 +76,7 @@ module _ {K C R O : Type 0} {M : Meaning K C R O} {es : Entries K C R O} {call :
   run_seen e is = subst (λ run. IsRun M es call run) (sym e) is
 
   -- a hit is replied so
-  pub reply_by_hit : IsEquivalence M.same_call → IsEquivalence M.same_answer → {done : List C → Type 0} {sent : List (C × R) → List C → Type 0} {output : O} (mid es' : Entries K C R O) → IsHit M es call done sent output → Touches es es' → IsReply M call es mid sent (record { output = output; how = how.Hit }) es'
+  pub reply_by_hit : IsEquivalence M.same_call → IsEquivalence M.same_answer → {done : List C → Type 0} {sent : List (C × R) → List C → Type 0} {output : O} (mid es' : Entries K C R O) → IsHit M es call done sent output → Touches M es call es' → IsReply M call es mid sent (record { output = output; how = how.Hit }) es'
   reply_by_hit calls answers mid es' hit touched = record {
     pairs = hit.pairs;
     writes = hit.writes;
@@ -114,7 +119,7 @@ module _ {K C R O : Type 0} {M : Meaning K C R O} {es : Entries K C R O} {call :
   }
 
   -- a hit of which the writes were done too
-  pub reply_by_done_hit : IsEquivalence M.same_call → IsEquivalence M.same_answer → {done : List C → Type 0} {sent : List (C × R) → List C → Type 0} {output : O} (mid es' : Entries K C R O) (hit : IsHit M es call done sent output) → Touches es es' → {V : Type 0} (did : V → V → List C → Type 0) (i j k : V) → k ≡ j → did i j hit.writes → IsReply M call es mid (λ P W. sent P W × did i k W) (record { output = output; how = how.Hit }) es'
+  pub reply_by_done_hit : IsEquivalence M.same_call → IsEquivalence M.same_answer → {done : List C → Type 0} {sent : List (C × R) → List C → Type 0} {output : O} (mid es' : Entries K C R O) (hit : IsHit M es call done sent output) → Touches M es call es' → {V : Type 0} (did : V → V → List C → Type 0) (i j k : V) → k ≡ j → did i j hit.writes → IsReply M call es mid (λ P W. sent P W × did i k W) (record { output = output; how = how.Hit }) es'
   unfolding reply_by_hit
   reply_by_done_hit calls answers mid es' hit touched did i j k e d = also_done did i j k e (reply_by_hit calls answers mid es' hit touched) d
 

@@ -1,7 +1,6 @@
 -- What `begin`, a closure's run and `finish` say together.
 use Rattle.std.proofs.Common.{◌≡◌, ◌↔◌, inl, inr, Bool, true, false, List, [], Result, Ok, Err, IfOk, IfErr, OnErr, refl, sym, ap, subst}
 use Rattle.std.specs.Borrow.{MutBor}
-use Rattle.comemo_base.specs.Answers.{Respects}
 use Rattle.comemo_track.specs.Recording.{Recording}
 use Rattle.comemo.specs.Meaning.{Meaning, Invocation, run}
 use Rattle.comemo.specs.Cache.{Entries, Stands}
@@ -33,11 +32,11 @@ pub mapped_err : {A E P Q : Type 0} → (P → Q) → (r : Result A E) → OnErr
 mapped_err f (Ok a) p = tt
 mapped_err f (Err e) p = f p
 
--- the sink of a call of a function whose calls are reads alone, which failed, was broken off at some pairs
-pub at_some_pairs : {K C R O I P : Type 0} {M : Meaning K C R O} {es : Entries K C R O} {call : Invocation K C R} {did : I → I → List C → Type 0} {recording : P → Recording C R} {post : MutBor I → MutBor P → Result O Fault → MutBor I → MutBor P → Type 0} {input : I} → (broken : List (C × R) → Type 0) {after : List (C × R) → List C → Type 0} → IsBroken M es call did recording post input broken after → ((c : C) → M.is_write c ≡ false) → (pairs : List (C × R)) × broken pairs
-at_some_pairs broken (inl begun) reads = (begun.pairs, begun.is_broken)
-at_some_pairs broken (inr (inl (j, is))) reads = absurd (never_refused is reads)
-at_some_pairs broken (inr (inr (output, t, ran, whole, is))) reads = (is.given, is.is_broken)
+-- a call of a function whose calls are reads alone, which failed, left the entries as they were, and its sink broken off at some pairs
+pub at_some_pairs : {K C R O I P : Type 0} {M : Meaning K C R O} {es : Entries K C R O} {call : Invocation K C R} {did : I → I → List C → Type 0} {recording : P → Recording C R} {post : MutBor I → MutBor P → Result O Fault → MutBor I → MutBor P → Type 0} {input : I} → (broken : List (C × R) → Type 0) {after : List (C × R) → List C → Type 0} {es' : Entries K C R O} → IsBroken M es call did recording post input broken after es' → ((c : C) → M.is_write c ≡ false) → (es' ≡ es) × ((pairs : List (C × R)) × broken pairs)
+at_some_pairs broken (inl (same, inl begun)) reads = (same, (begun.pairs, begun.is_broken))
+at_some_pairs broken (inl (same, inr (output, t, ran, whole, is))) reads = (same, (is.given, is.is_broken))
+at_some_pairs broken (inr (touched, j, is)) reads = absurd (never_refused is reads)
 
 -- a sink that took nothing is left as by a call that did not begin
 took_nothing : {K C R O : Type 0} (M : Meaning K C R O) (es : Entries K C R O) (call : Invocation K C R) {broken : List (C × R) → Type 0} → broken [] → IsBrokenOff M es call broken
@@ -57,12 +56,12 @@ module _ {K C R O : Type 0} {M : Meaning K C R O} {es : Entries K C R O} {call :
     failed S (Ok output) has (Err fault.Incomplete) h never f = inr (inr (inl (refl, output, t, has, h.0 refl)))
     failed S (Err g) has (Err e) h never f = inr (inr (inr (t, subst (λ x. Ran M es call did recording post input (Err x) t) (sym (ap (fault_or e) f.0)) has)))
 
-    -- how the sink of a call that failed is left whose run ended so
-    pub left_broken : (broken : List (C × R) → Type 0) (after : List (C × R) → List C → Type 0) {S : Type 0} → (S → broken []) → (X : Type 0) (ran : Result O Fault) → Ran M es call did recording post input ran t → (w : Bool) → t.whole ≡ w → (r : Result (Reply O) Fault) → IfErr ran (λ f. (r ≡ Err f) × S) → (t.whole ≡ false → S) → OnErr r (X × BreaksOffRun M broken t.pairs) → OnErr r (X × IsBroken M es call did recording post input broken after)
-    left_broken broken after spoils X ran has w e (Ok reply) given_up spoiled b = tt
-    left_broken broken after spoils X (Err f) has w e (Err g) given_up spoiled b = (b.0, inl (took_nothing M es call (spoils given_up.1)))
-    left_broken broken after spoils X (Ok output) has false e (Err g) given_up spoiled b = (b.0, inl (took_nothing M es call (spoils (spoiled e))))
-    left_broken broken after spoils X (Ok output) has true e (Err g) given_up spoiled b = (b.0, inr (inr (output, t, has, e, b.1)))
+    -- how a call that failed is left whose run ended so
+    pub left_broken : (broken : List (C × R) → Type 0) (after : List (C × R) → List C → Type 0) {S : Type 0} → (S → broken []) → (es' : Entries K C R O) (ran : Result O Fault) → Ran M es call did recording post input ran t → (w : Bool) → t.whole ≡ w → (r : Result (Reply O) Fault) → IfErr ran (λ f. (r ≡ Err f) × S) → (t.whole ≡ false → S) → OnErr r ((es' ≡ es) × BreaksOffRun M broken t.pairs) → OnErr r (IsBroken M es call did recording post input broken after es')
+    left_broken broken after spoils es' ran has w e (Ok reply) given_up spoiled b = tt
+    left_broken broken after spoils es' (Err f) has w e (Err g) given_up spoiled b = inl (b.0, inl (took_nothing M es call (spoils given_up.1)))
+    left_broken broken after spoils es' (Ok output) has false e (Err g) given_up spoiled b = inl (b.0, inl (took_nothing M es call (spoils (spoiled e))))
+    left_broken broken after spoils es' (Ok output) has true e (Err g) given_up spoiled b = inl (b.0, inr (output, t, has, e, b.1))
 
     -- what a call gave whose run was finished
     pub ended : {sent : List (C × R) → List C → Type 0} {output : O} {reply : Reply O} {es' : Entries K C R O} → Ran M es call did recording post input (Ok output) t → Stands M (came_to (recorded begun t) output) → Finished M es (recorded begun t) sent output reply es' → Ended M es call (Ran M es call did recording post input) sent reply.output reply.how es'

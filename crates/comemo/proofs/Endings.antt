@@ -34,7 +34,7 @@ module _ {K C R O : Type 0} {M : Meaning K C R O} (calls : IsEquivalence M.same_
 module _ {K C R O : Type 0} (M : Meaning K C R O) (calls : IsEquivalence M.same_call) (es : Entries K C R O) (key : K) (pairs : List (C × R)) (output kept : O) (is : M.is_clone output kept) (writes copies : List C) (same : SameWrites M.same_call writes copies) where
   pub Ends-cloned : (h : How) (es' : Entries K C R O) → Ends (exactly M) es (run key pairs kept copies) h es' → Ends M es (run key pairs output writes) h es'
   Ends-cloned how.Hit es' e = e
-  Ends-cloned how.Stored es' e = (e.0, e.1, record { kept = e.2.kept; is_clone = subst (λ o. M.is_clone output o) (sym e.2.is_clone) is; same_writes = SameWrites-joined calls writes copies e.2.kept.writes same e.2.same_writes; adds = e.2.adds })
+  Ends-cloned how.Stored es' e = (e.0, e.1, record { kept = e.2.kept; is_clone = subst (λ o. M.is_clone output o) (sym e.2.is_clone) is; same_writes = SameWrites-joined calls writes copies e.2.kept.writes same e.2.same_writes; is_new = e.2.is_new; adds = e.2.adds })
   Ends-cloned how.AlreadyExists es' e = e
   Ends-cloned how.MissingCall es' e = e
   Ends-cloned how.NotStored es' e = e

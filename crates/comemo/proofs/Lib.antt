@@ -10,6 +10,9 @@ pub mod RecordersMut
 pub mod Calls
 pub mod Closures
 pub mod Growing
+pub mod Touching
+pub mod Aging
+pub mod Stepping
 pub mod JoinedHits
 pub mod ThroughMaps
 pub mod Again

@@ -98,7 +98,7 @@ module _ {C R : Type 0} {eq : C → C → Bool} {same : R → R → Bool} (calls
       rw n.2 (All-append (λ p. w p.0 ≡ false) n.0 (outside eq n.0 s) front (All-filter (λ p. not (is_some (lookup (eq p.0) n.0))) (λ p. w p.0 ≡ false) s reads))
 
 -- the entry that is stored is legal, at each key at which the output is right wherever it is so at the run's
-pub IsLegal-stored : {K C R O : Type 0} (M : Meaning K C R O) (calls : IsEquivalence M.same_call) (answers : IsEquivalence M.same_answer) (us : Entries K C R O) (key own : K) (s path : List (C × R)) (output : O) (writes : List C) → ((x y : C) → IsTrue (M.same_call x y) → M.is_write x ≡ M.is_write y) → ((m : C → R) → Respects M.same_call M.same_answer m → M.def key m output writes → M.def own m output writes) → HasDistinctCalls M.same_call s → All (λ p. M.is_write p.0 ≡ false) s → All (λ c. M.is_write c ≡ true) writes → Stands M (run key s output writes) → IsNewPath M.same_call M.same_answer us s path → IsLegal M (stored own path (record { output = output; writes = writes }))
+pub IsLegal-stored : {K C R O : Type 0} (M : Meaning K C R O) (calls : IsEquivalence M.same_call) (answers : IsEquivalence M.same_answer) (us : Entries K C R O) (key own : K) (s path : List (C × R)) (output : O) (writes : List C) → ((x y : C) → IsTrue (M.same_call x y) → M.is_write x ≡ M.is_write y) → ((m : C → R) → Respects M.same_call M.same_answer m → M.def key m output writes → M.def own m output writes) → HasDistinctCalls M.same_call s → All (λ p. M.is_write p.0 ≡ false) s → All (λ c. M.is_write c ≡ true) writes → Stands M (run key s output writes) → IsNewPath M.same_call M.same_answer us s path → IsLegal M (stored own path (record { output = output; writes = writes; age = 0 }))
 IsLegal-stored M calls answers us key own s path output writes kind right d reads written stands n = record {
   stands = λ m r a. right m r (stands m r (agrees_new_path calls answers us s path d n m r a));
   reads = reads_new_path calls answers us s path M.is_write kind reads n;
@@ -111,6 +111,6 @@ by_result (Ok x) p q f g = f p
 by_result (Err e) p q f g = g q
 
 -- what an insertion says, told as what a store does
-pub stores : {K C R O : Type 0} (M : Meaning K C R O) → IsEquivalence M.same_call → (es : Entries K C R O) (key : K) (s : List (C × R)) (output : O) (writes : List C) (es' : Entries K C R O) {T E : Type 0} (r : Result T E) → OnOk r ((¬ Exists M.same_call M.same_answer (under M.same_key es key) s) × (¬ Misses M.same_call M.same_answer (under M.same_key es key) s)) → OnOk r (Adds M.same_call M.same_answer M.same_key es key s (record { output = output; writes = writes }) es') → OnOk r (Stores (exactly M) es (run key s output writes) es')
-stores M calls es key s output writes es' (Ok x) a b = (a.0, a.1, record { kept = record { output = output; writes = writes }; is_clone = refl; same_writes = SameWrites-itself calls writes; adds = b })
+pub stores : {K C R O : Type 0} (M : Meaning K C R O) → IsEquivalence M.same_call → (es : Entries K C R O) (key : K) (s : List (C × R)) (output : O) (writes : List C) (es' : Entries K C R O) {T E : Type 0} (r : Result T E) → OnOk r ((¬ Exists M.same_call M.same_answer (under M.same_key es key) s) × (¬ Misses M.same_call M.same_answer (under M.same_key es key) s)) → OnOk r (Adds M.same_call M.same_answer M.same_key es key s (record { output = output; writes = writes; age = 0 }) es') → OnOk r (Stores (exactly M) es (run key s output writes) es')
+stores M calls es key s output writes es' (Ok x) a b = (a.0, a.1, record { kept = record { output = output; writes = writes; age = 0 }; is_clone = refl; same_writes = SameWrites-itself calls writes; is_new = refl; adds = b })
 stores M calls es key s output writes es' (Err e) a b = tt

@@ -1,8 +1,7 @@
 -- What a recorder of a value that is written knows of its recording.
 use Rattle.std.specs.Prelude.{⊤}
-use Rattle.std.proofs.Common.{◌≡◌, ◌∙◌, ℕ, zero, suc, Bool, true, false, List, [], ◌∷◌, ◌++◌, IsTrue, Result, Ok, Err, IfOk, OnErr, IsErr, IsErrAnd, arith, refl, sym, ap, subst, append-nil, inl, inr}
+use Rattle.std.proofs.Common.{◌≡◌, ◌∙◌, suc, Bool, true, false, List, [], ◌∷◌, ◌++◌, IsTrue, Result, Ok, Err, IfOk, OnErr, IsErr, arith, sym, ap, subst, append-nil, inl, inr}
 use Rattle.std.specs.List.{All}
-use Rattle.std.specs.Borrow.{MutBor}
 use Rattle.std.specs.Cmp.{IsEquivalence}
 use Rattle.comemo_base.specs.Answers.{Respects, Agrees}
 use Rattle.comemo_base.proofs.Paths.{turned, joined}
@@ -18,7 +17,6 @@ use Rattle.comemo.specs.declared.pending.Reply.{Reply}
 use Rattle.comemo.specs.Begin.{Reaches}
 use Rattle.comemo.specs.FunctionMut.{Lent, Goes, TellsMut, IsFailed}
 use Rattle.comemo.specs.declared.pending.Fault.{Fault}
-use Rattle.comemo.specs.declared.pending.Fault.TheVariants as fault
 use Rattle.comemo.proofs.Recorders.{still_agrees, fitted, fits_taken}
 
 module _ {C R : Type 0} {w : C → Bool} {same : R → R → Bool} (answers : IsEquivalence same) (m n : C → R) where

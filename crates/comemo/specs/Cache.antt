@@ -1,23 +1,47 @@
 -- What a cache keeps, and when an entry is legal.
-use Rattle.std.specs.Prelude.{◌≡◌, Bool, ◌⊎◌, true, false, List, Option, None, refl, IsTrue}
+use Rattle.std.specs.Prelude.{◌≡◌, ℕ, ◌+◌, nat_lt, Bool, ◌⊎◌, true, false, List, ◌∷◌, Option, None, map, filter, refl, IsTrue}
 use Rattle.std.specs.List.{All, Any}
-use Rattle.std.specs.Coded.{Coded, code_by, coded×, coded_list}
+use Rattle.std.specs.List.Sorted.{IsPermutation}
+use Rattle.std.specs.Coded.{Coded, code_by, coded×, coded_list, coded_ℕ}
 use Rattle.comemo_base.specs.Answers.{Respects, Agrees}
 use Rattle.comemo_base.specs.Tree.{Stored, IsSamePath}
 use Rattle.comemo_base.specs.Lookup.{under, IsAsked, IsRefused}
+use Rattle.comemo_tree.specs.Change.{HasAnswers, Changes}
 use Rattle.comemo.specs.Meaning.{Meaning, Invocation, Run, run, SameWrites}
 
--- the output of a run, and the writes that it did
+-- the output of a run, the writes that it did, and how many evictions it outlived since it was stored or last hit
 pub record Kept (O C : Type 0) : Type 0 where
   pub output : O
   pub writes : List C
+  pub age : ℕ
 
 abbrev pub kept_code : {O C : Type 0} → Coded O → Coded C → Coded (Kept O C)
-kept_code {O} {C} o c = code_by (O × List C) (coded× o (coded_list c)) (λ x. (x.output, x.writes)) (λ p. record { output = p.0; writes = p.1 }) (λ _. refl)
+kept_code {O} {C} o c = code_by (O × (List C × ℕ)) (coded× o (coded× (coded_list c) coded_ℕ)) (λ x. (x.output, (x.writes, x.age))) (λ p. record { output = p.0; writes = p.1.0; age = p.1.1 }) (λ _. refl)
 
 -- what a cache keeps of a memoized function
 abbrev pub Entries : Type 0 → Type 0 → Type 0 → Type 0 → Type 0
 Entries K C R O = List (Stored K C R (Kept O C))
+
+-- an entry, but that its age is 0
+abbrev pub young : {K C R O : Type 0} → Stored K C R (Kept O C) → Stored K C R (Kept O C)
+young e = record e { value = record e.value { age = 0 } }
+
+-- an entry, but one older
+abbrev pub older : {K C R O : Type 0} → Stored K C R (Kept O C) → Stored K C R (Kept O C)
+older e = record e { value = record e.value { age = e.value.age + 1 } }
+
+-- the entries whose age is below a bound, each one older
+abbrev pub aged : {K C R O : Type 0} → ℕ → Entries K C R O → Entries K C R O
+aged bound es = map older (filter (λ e. nat_lt e.value.age bound) es)
+
+-- the entries after an eviction, in whatever order
+abbrev pub Evicts : {K C R O : Type 0} → ℕ → Entries K C R O → Entries K C R O → Type 0
+Evicts bound es es' = IsPermutation (aged bound es) es'
+
+-- the entry under a key whose path has just these answers has age 0, and the others are as they were; where there is none, all are
+abbrev pub TouchesAt : {K C R O : Type 0} → (R → R → Bool) → (K → K → Bool) → K → List R → Entries K C R O → Entries K C R O → Type 0
+TouchesAt same eqk key answers es es' =
+    Changes same eqk (λ old new. new ≡ record old { age = 0 }) key answers es es' ⊎ (All (λ e. ¬ HasAnswers same e.path answers) (under eqk es key) × (es' ≡ es))
 
 -- clones of keys and of answers are equal, and the definition of a memoized function tells apart, at answers that tell no
 -- equal calls apart, neither equal keys, nor equal writes, nor an output from its clone
@@ -53,6 +77,10 @@ module _ {K C R O : Type 0} (M : Meaning K C R O) where
     abbrev pub Has : Run K C R O → Type 0
     Has ran = Any (IsEntryOf call.answers ran) (under M.same_key es call.key)
 
+    -- so it is, and it has this age
+    abbrev pub HasAged : Run K C R O → ℕ → Type 0
+    HasAged ran age = Any (λ e. IsEntryOf call.answers ran e × (e.value.age ≡ age)) (under M.same_key es call.key)
+
     -- a look-up for the call asked this, was answered as the call's input answers, and found nothing
     abbrev pub IsMiss : List (C × R) → Type 0
     IsMiss asked = Agrees M.same_answer call.answers asked × IsAsked M.same_call M.same_answer (under M.same_key es call.key) asked (let none : Option (Kept O C) = None in none)
@@ -64,6 +92,12 @@ module _ {K C R O : Type 0} (M : Meaning K C R O) where
         ((asked : List (C × R)) × (next : C) × Agrees M.same_answer call.answers asked × IsRefused M.same_call M.same_answer (under M.same_key es call.key) asked next)
         ⊎ Any (λ e. Agrees M.same_answer call.answers e.path) (under M.same_key es call.key)
 
--- the entries after a hit: none came and none went
-pub record Touches {E : Type 0} (es es' : List E) : Type 0 where
-  pub same : es' ≡ es
+    -- the entries after a hit: the one under the call's key that agrees with the call's answers has age 0, and the others are as
+    -- they were
+    pub record Touches (es' : Entries K C R O) : Type 0 where
+      pub entry : Stored K C R (Kept O C)
+      pub others : List (Stored K C R (Kept O C))
+      pub before : IsPermutation (entry ∷ others) es
+      pub has_key : IsTrue (M.same_key entry.key call.key)
+      pub agrees : Agrees M.same_answer call.answers entry.path
+      pub after : IsPermutation (young entry ∷ others) es'

@@ -1,9 +1,9 @@
 -- What a memoized function replies to a call.
-use Rattle.std.specs.Prelude.{◌≡◌, ◌↔◌, ◌⊎◌, ◌++◌, true, false, List, IsTrue}
+use Rattle.std.specs.Prelude.{◌≡◌, ◌↔◌, ◌⊎◌, ◌++◌, true, false, List, map, IsTrue}
 use Rattle.std.specs.List.Sorted.{IsPermutation}
 use Rattle.comemo_base.specs.Answers.{Agrees}
 use Rattle.comemo.specs.Meaning.{Meaning, Invocation, Run, run}
-use Rattle.comemo.specs.Cache.{Entries, Stands, HasNone, Has, Touches}
+use Rattle.comemo.specs.Cache.{Entries, Stands, HasNone, Has, Touches, young}
 use Rattle.comemo.specs.Finish.{Ends, Gives}
 use Rattle.comemo.specs.declared.pending.Reply.{Reply}
 use Rattle.comemo.specs.declared.pending.How.{How}
@@ -14,7 +14,7 @@ module _ {K C R O : Type 0} (M : Meaning K C R O) (call : Invocation K C R) wher
   pub record CameByHit (es : Entries K C R O) (found : Run K C R O) (es' : Entries K C R O) : Type 0 where
     pub is_enabled : call.enabled ≡ true
     pub kept : Has M es call found
-    pub touched : Touches es es'
+    pub touched : Touches M es call es'
 
   -- no entry of es has the key and agrees with the answers; a run came to this, and ended so, which took the entries from mid
   -- to es'
@@ -35,6 +35,6 @@ module _ {K C R O : Type 0} (M : Meaning K C R O) (call : Invocation K C R) wher
     pub gives : Gives M sent pairs writes
     pub came : ((reply.how ≡ how.Hit) × CameByHit es (run call.key pairs reply.output writes) es') ⊎ CameByRun es mid (run call.key pairs reply.output writes) reply.how es'
 
--- no entry was lost, and some may have come
-abbrev pub Grows : {E : Type 0} → List E → List E → Type 0
-Grows {E} es es' = (more : List E) × IsPermutation (more ++ es) es'
+-- but for ages, no entry was lost, and some may have come
+abbrev pub Grows : {K C R O : Type 0} → Entries K C R O → Entries K C R O → Type 0
+Grows {K} {C} {R} {O} es es' = (more : Entries K C R O) × IsPermutation (map young (more ++ es)) (map young es')

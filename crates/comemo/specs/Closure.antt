@@ -3,7 +3,7 @@ use Rattle.std.specs.Prelude.{◌≡◌, ◌↔◌, ◌⊎◌, ⊤, true, false,
 use Rattle.std.specs.Borrow.{MutBor}
 use Rattle.comemo_track.specs.Recording.{Recording}
 use Rattle.comemo.specs.Meaning.{Meaning, Invocation, run}
-use Rattle.comemo.specs.Cache.{Entries, Stands, HasNone}
+use Rattle.comemo.specs.Cache.{Entries, Stands, HasNone, Touches}
 use Rattle.comemo.specs.Begin.{IsBrokenOff, IsStopped}
 use Rattle.comemo.specs.Finish.{Ends, Gives, BreaksOffRun}
 use Rattle.comemo.specs.declared.pending.Fault.{Fault}
@@ -38,10 +38,13 @@ module _ {K C R O : Type 0} (M : Meaning K C R O) (es : Entries K C R O) (call :
       IsFault f =
           (f ≡ fault.Memory) ⊎ ((f ≡ fault.Write) × (j : I) × IsStopped M es call (did input j) (λ _ _. ⊤)) ⊎ ((f ≡ fault.Incomplete) × (output : O) × (t : Recording C R) × Ran (Ok output) t × (t.whole ≡ false)) ⊎ ((t : Recording C R) × Ran (Err f) t)
 
-      -- how the sink of a call that failed is left: as by a call that did not begin, so as it was where the closure failed or its
-      -- recording is spoiled; or the closure gave an output, and its recording, which is whole, was broken off; or a hit stopped
-      abbrev pub IsBroken : (List (C × R) → Type 0) → (List (C × R) → List C → Type 0) → Type 0
-      IsBroken broken after = IsBrokenOff M es call broken ⊎ ((j : I) × IsStopped M es call (did input j) after) ⊎ ((output : O) × (t : Recording C R) × Ran (Ok output) t × (t.whole ≡ true) × BreaksOffRun M broken t.pairs)
+      -- how the sink and the entries of a call that failed are left: the entries as they were, and the sink as by a call that did not
+      -- begin, so as it was where the closure failed or its recording is spoiled; or the closure gave an output, and its recording,
+      -- which is whole, was broken off; or a hit was touched, and stopped
+      abbrev pub IsBroken : (List (C × R) → Type 0) → (List (C × R) → List C → Type 0) → Entries K C R O → Type 0
+      IsBroken broken after es' =
+          ((es' ≡ es) × (IsBrokenOff M es call broken ⊎ ((output : O) × (t : Recording C R) × Ran (Ok output) t × (t.whole ≡ true) × BreaksOffRun M broken t.pairs)))
+          ⊎ (Touches M es call es' × (j : I) × IsStopped M es call (did input j) after)
 
   -- the closure, whose runs are these, ran and gave the output; its recording, which is whole, went to the sink, and became of
   -- the entries what the reply says

@@ -5,6 +5,9 @@ pub mod Begin
 pub mod Begun
 pub mod Finish
 pub mod Called
+pub mod Found
+pub mod Steps
+pub mod StepLaws
 pub mod Closure
 pub mod Function
 pub mod FunctionMut
@@ -18,6 +21,7 @@ pub use Rattle.comemo_track.specs.Multi
 pub use Rattle.comemo_track.specs.Mapped
 pub use Rattle.comemo_track.specs.MultiLaws
 pub use Rattle.comemo_track.specs.MappedLaws
+pub use Rattle.comemo_tree.specs.Change
 pub use Rattle.comemo_base.specs.Answers
 pub use Rattle.comemo_base.specs.Tree
 pub use Rattle.comemo_base.specs.Lookup

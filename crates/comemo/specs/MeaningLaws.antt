@@ -1,6 +1,5 @@
 -- Laws of what functions mean, which traits ask. They say nothing that a reader must believe.
 use Rattle.std.proofs.Common.{◌≡◌, ◌∙◌, Bool, List, [], ◌∷◌, IsTrue, refl, sym, ap, subst}
-use Rattle.comemo_base.specs.Answers.{Respects}
 use Rattle.comemo.specs.Meaning.{SameWrites}
 use Rattle.comemo.specs.Cache.{MemoLaws}
 use Rattle.comemo.specs.FunctionMut.{LawsMut}

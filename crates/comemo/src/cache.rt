@@ -1,11 +1,12 @@
 //! Memoized functions, and the cache of what their runs gave.
-ghost use Rattle.std.specs.Prelude.{◌≡◌, ◌⊎◌, [], List, true, false, IsTrue, option_map, IfOk, IfErr, OnOk, OnErr, IfSome, IfNone, MatchOption, length};
+ghost use Rattle.std.specs.Prelude.{◌≡◌, ◌⊎◌, ◌+◌, nat_lt, [], List, true, false, IsTrue, option_map, IfOk, IfErr, OnOk, OnErr, IfSome, IfNone, MatchOption, length};
 ghost use Rattle.std.specs.List.{All, Any};
 ghost use Rattle.comemo_base.specs.Answers.{Agrees};
 ghost use Rattle.comemo_base.specs.Lookup.{under, IsAsked, IsRefused, FindsAgreeingPath};
 ghost use Rattle.comemo_base.specs.Insertion.{IsReason};
 ghost use Rattle.comemo.specs.Meaning.{Meaning, exactly, invocation, run};
-ghost use Rattle.comemo.specs.Cache.{MemoLaws, Stands, HasNone, Has, IsMiss, IsRefusedLook};
+ghost use Rattle.comemo.specs.Cache.{MemoLaws, Stands, HasNone, Has, HasAged, IsMiss, IsRefusedLook, TouchesAt, Evicts};
+ghost use Rattle.comemo_base.specs.Tree.{IsTree};
 ghost use Rattle.comemo.specs.Finish.{Stores};
 
 use comemo_base::{CallSequence, InsertError};
@@ -66,6 +67,7 @@ impl<M: Memo> Meant for M {
 struct KeptRun<M: Memo> {
     output: M::Out,
     writes: Vec<M::Call>,
+    age: usize,
 }
 
 impl<M: Memo> Model for KeptRun<M> {
@@ -75,7 +77,7 @@ impl<M: Memo> Model for KeptRun<M> {
 
     ghost coded = { kept_code M.Out.code M.Call.code };
 
-    ghost view = { λ s. record { output = s.output; writes = s.writes.items } };
+    ghost view = { λ s. record { output = s.output; writes = s.writes.items; age = s.age } };
 }
 
 /// A cache of one memoized function: outputs under the keys and the paths of calls of their runs.
@@ -83,7 +85,7 @@ impl<M: Memo> Model for KeptRun<M> {
 /// Contracts see it as a list of entries, of whose order no clause speaks. Its type keeps that each entry is legal:
 /// whichever answers agree with its path, its output and its writes are right at its key. It keeps keys, calls, answers
 /// and outputs themselves. All entries under a key share two copies of it, and those whose paths have an equal front share its
-/// calls and answers. It drops no entry as long as it lives. comemo's `CacheData`.
+/// calls and answers. It drops entries in `evict` alone. comemo's `CacheData`.
 #[derive(Drop)]
 pub struct CacheData<M: Memo> {
     tree: CallTree<M::Key, M::Call, M::Answer, KeptRun<M>>,
@@ -124,6 +126,8 @@ pub struct Found<M: Memo> {
     pub output: M::Out,
     /// The writes that the run did, in order.
     pub writes: Vec<M::Call>,
+    /// How many evictions the entry outlived since it was stored or last hit.
+    pub age: usize,
 }
 
 /// The path under a key of a tree of reads that an input's answers agree with, its calls cloned, with its value.
@@ -202,6 +206,10 @@ impl<M: Memo> CacheData<M> {
         ensures asked { IfOk result (λ found. IfNone found ((asked : List (M.Call × M.Answer))
             × IsMiss ⟦<M as Meant>⟧.meaning self.now
             (invocation key.now (In.answers input.old) true) asked)) }
+        ensures ages { IfOk result (λ found. IfSome found (λ f.
+            HasAged ⟦<M as Meant>⟧.meaning self.now
+            (invocation key.now (In.answers input.old) true)
+            (run key.now f.pairs.items f.output f.writes.items) f.age)) }
         ensures stands { IfOk result (λ found. IfSome found (λ f.
             Stands ⟦<M as Meant>⟧.meaning
             (run key.now f.pairs.items f.output f.writes.items))) }
@@ -223,6 +231,7 @@ impl<M: Memo> CacheData<M> {
             pairs,
             output,
             writes,
+            age: kept.age,
         }))
     }
 
@@ -251,6 +260,56 @@ impl<M: Memo> CacheData<M> {
         ensures err { OnErr result (self.new ≡ self.old) }
     {
         sequence.has_distinct_calls();
-        self.tree.insert(key, sequence, KeptRun { output, writes })
+        let kept = KeptRun {
+            output,
+            writes,
+            age: 0,
+        };
+        self.tree.insert(key, sequence, kept)
+    }
+
+    /// Sets the age of the entry under a key whose path has just these answers, in order, to 0.
+    ///
+    /// Where there is none, nothing happens. It asks nothing and takes no memory, and the time of a look-up without its
+    /// questions. It is the second half of a hit of comemo's `memoize`.
+    pub fn touch(&mut self, key: &M::Key, answers: &[M::Answer])
+        ensures { TouchesAt M.Answer.eq M.Key.eq key.now answers.now self.old self.new }
+    {
+        let _ = self.tree.change(
+            key,
+            answers,
+            |kept: &mut KeptRun<M>|
+                ensures { kept.new ≡ record kept.old { age = 0 } }
+            { kept.age = 0 },
+        );
+    }
+
+    /// Drops the entries whose age is the bound or more; the others grow one older.
+    ///
+    /// So `evict(0)` drops all. Each age is compared before one is added, so the sum always fits. It takes no memory, and
+    /// the time of `CallTree::retain`, which is linear in the entries. comemo's `CacheData::evict`, which adds first.
+    pub fn evict(&mut self, max_age: usize)
+        ensures { Evicts max_age self.old self.new }
+    {
+        self.tree.retain(
+            |kept: &mut KeptRun<M>| -> bool
+                ensures stays { result ≡ nat_lt kept.old.age max_age }
+                ensures aged { result ≡ true
+                    → kept.new ≡ record kept.old { age = kept.old.age + 1 } }
+            {
+                if kept.age >= max_age {
+                    return false;
+                }
+                kept.age += 1;
+                true
+            },
+        );
+    }
+
+    /// What the type of the tree keeps, told to a proof.
+    pub(crate) fn is_tree(&self)
+        ensures { IsTree M.Call.eq M.Answer.eq M.Key.eq self.now }
+    {
+        self.tree.is_parted();
     }
 }

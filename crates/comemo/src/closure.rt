@@ -60,9 +60,9 @@ impl<C: Call, R: Clone + Ord> Record for Constraint<C, R> {
 /// The closure gets the input and the recording that what it asks has to go to. It is called only where no entry
 /// agrees, or none is looked for, and its output has to be right for all answers that agree with what it recorded. A
 /// fault of the closure is answered, and nothing is stored then. With `enabled` false there is no look-up, and nothing
-/// is stored. What it costs is what `begin`, the closure and `finish` cost. Every fault leaves the cache as it was and
-/// spoils the sink, to which a run that failed or is spoiled gives nothing. A function that calls itself takes `begin`
-/// and `finish` in its place. comemo's `memoize`.
+/// is stored. What it costs is what `begin`, the closure and `finish` cost. Every fault spoils the sink, to which a run
+/// that failed or is spoiled gives nothing, and leaves the cache as it was, but for `Write`: there the entry of the hit
+/// has age 0. A function that calls itself takes `begin` and `finish` in its place. comemo's `memoize`.
 pub fn memoize<
     M: Memo,
     In: Input<Call = M::Call, Key = M::Key, Answer = M::Answer> + Drop,
@@ -89,7 +89,8 @@ pub fn memoize<
     ensures hit { IfOk result (λ reply. reply.how ≡ How.Hit → ((j : In)
         × IsHit ⟦<M as Meant>⟧.meaning cache.old (⟦<In as Invoked>⟧.invoked input enabled)
         (In.did input j) (S.took sink.old sink.new) reply.output)
-        × Touches cache.old cache.new) }
+        × Touches ⟦<M as Meant>⟧.meaning cache.old
+        (⟦<In as Invoked>⟧.invoked input enabled) cache.new) }
     ensures run { IfOk result (λ reply. (reply.how ≡ How.Hit → ⊥)
         → Ended ⟦<M as Meant>⟧.meaning cache.old (⟦<In as Invoked>⟧.invoked input enabled)
         (Ran ⟦<M as Meant>⟧.meaning cache.old (⟦<In as Invoked>⟧.invoked input enabled)
@@ -98,10 +99,10 @@ pub fn memoize<
     ensures fault { IfErr result (λ fault.
         IsFault ⟦<M as Meant>⟧.meaning cache.old (⟦<In as Invoked>⟧.invoked input enabled)
         In.did P.recorded (F.post func) input fault) }
-    ensures err { OnErr result ((cache.new ≡ cache.old)
-        × IsBroken ⟦<M as Meant>⟧.meaning cache.old (⟦<In as Invoked>⟧.invoked input enabled)
+    ensures err { OnErr result
+        (IsBroken ⟦<M as Meant>⟧.meaning cache.old (⟦<In as Invoked>⟧.invoked input enabled)
         In.did P.recorded (F.post func) input (⟦<S as Breaking>⟧.breaks_off sink.old sink.new)
-        (⟦<S as Breaking>⟧.spoiled_after sink.old sink.new)) }
+        (⟦<S as Breaking>⟧.spoiled_after sink.old sink.new) cache.new) }
 {
     match begin(alloc, cache, &mut input, sink, enabled)? {
         Begun::Hit(output) => Ok(Reply {

@@ -38,6 +38,7 @@ pub mod function;
 pub mod function_mut;
 pub mod parts;
 pub mod pending;
+pub mod steps;
 
 pub use cache::{CacheData, Found, Meant, Memo};
 pub use closure::{Record, memoize};
@@ -51,3 +52,4 @@ pub use comemo_tree::CallTree;
 pub use function::{Function, FunctionOf, MemoOf, Recorder, Told, memoized};
 pub use function_mut::{FunctionMut, FunctionMutOf, MemoOfMut, RecorderMut, ToldMut, memoized_mut};
 pub use pending::{Begun, Fault, How, Invoked, Pending, Reply, begin};
+pub use steps::{Step, StepReply};

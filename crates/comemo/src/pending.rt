@@ -5,6 +5,8 @@ ghost use Rattle.std.specs.List.{All};
 ghost use Rattle.comemo_base.specs.Tree.{IsSamePath};
 ghost use Rattle.comemo.specs.Meaning.{Invocation, SameWrites, exactly, invocation, run};
 ghost use Rattle.comemo.specs.Cache.{Stands, Touches};
+ghost use Rattle.comemo.specs.Found.{TouchesFound};
+ghost use Rattle.comemo_tree.specs.Change.{HasAnswers};
 ghost use Rattle.comemo.specs.Begin.{Reaches, IsHit, IsRun, IsBrokenOff, IsStopped, came_to};
 ghost use Rattle.comemo.specs.Begun.{OnBegun, OnFault};
 ghost use Rattle.comemo.specs.Finish.{Ends, Gives, Finished, BreaksOffRun};
@@ -445,35 +447,71 @@ fn replay<In: Input, S: Sink<Call = In::Call, Answer = In::Answer>>(
     Ok(())
 }
 
-/// Gives what a look-up found: its path to the sink, its writes to the input and the sink, and its output.
+/// Clones of the answers of a path that was found, where its entry has an age; of none where it has none to lose.
+fn answers_of_aged<M: Memo>(alloc: Global, found: &Found<M>) -> Result<Vec<M::Answer>, AllocError>
+    ensures { IfOk result (λ answers. (found.now.age ≡ 0 → ⊥)
+        → HasAnswers M.Answer.eq found.now.pairs.items answers.items) }
+{
+    if found.age == 0 {
+        return Ok(Vec::new(alloc));
+    }
+    let mut answers = Vec::with_capacity(alloc, found.pairs.len())?;
+    for (_, answer) in &found.pairs {
+        answers.push(answer.clone()?)?;
+    }
+    Ok(answers)
+}
+
+/// Gives what a look-up found: its path to the sink, its writes to the input and the sink, and its output. Before the
+/// first write its entry is touched.
 fn give_found<
     M: Memo,
     In: Input<Call = M::Call, Key = M::Key, Answer = M::Answer>,
     S: Sink<Call = M::Call, Answer = M::Answer>,
->(found: Found<M>, input: &mut In, sink: &mut S) -> Result<M::Out, Fault>
+>(
+    alloc: Global,
+    cache: &mut CacheData<M>,
+    key: &M::Key,
+    found: Found<M>,
+    input: &mut In,
+    sink: &mut S,
+) -> Result<M::Out, Fault>
     requires reads { All (λ p. M.Call.is_write p.0 ≡ false) found.pairs.items }
     requires written { All (λ c. M.Call.is_write c ≡ true) found.writes.items }
     ensures output { IfOk result (λ output. output ≡ found.output) }
     ensures done { OnOk result (In.did input.old input.new found.writes.items) }
     ensures sent { OnOk result (S.took sink.old sink.new found.pairs.items found.writes.items) }
+    ensures touched { OnOk result
+        (TouchesFound M.Answer.eq M.Key.eq key.now found.pairs.items found.age
+        cache.old cache.new) }
     ensures err { IfErr result (λ fault. OnFault fault
-        (In.did input.old input.new []
+        ((cache.new ≡ cache.old) × In.did input.old input.new []
         × ⟦<S as Breaking>⟧.breaks_off sink.old sink.new found.pairs.items)
         ((front : List M.Call) × (next : M.Call) × (rest : List M.Call)
         × (found.writes.items ≡ front ++ next ∷ rest) × In.did input.old input.new front
         × ⟦<S as Breaking>⟧.spoiled_after sink.old sink.new found.pairs.items front
-        × (M.Call.is_write next ≡ true))) }
+        × (M.Call.is_write next ≡ true)
+        × TouchesFound M.Answer.eq M.Key.eq key.now found.pairs.items found.age
+        cache.old cache.new)) }
 {
+    let Ok(answers) = answers_of_aged(alloc, &found) else {
+        sink.spoil();
+        return Err(Fault::Memory);
+    };
     let Found {
         pairs: path,
         output,
         writes,
+        age,
     } = found;
     give_pairs(path, sink)?;
     let Ok(()) = sink.reserve(writes.len()) else {
         sink.spoil();
         return Err(Fault::Memory);
     };
+    if age > 0 {
+        cache.touch(key, answers.as_slice());
+    }
     replay(writes, input, sink)?;
     Ok(output)
 }
@@ -485,11 +523,12 @@ fn give_found<
 /// `Memory` comes where the key, an answer of the input, a clone of the entry found or the sink found no memory: then
 /// the cache is as it was, nothing was written to the input, and the sink is spoiled, after it took perhaps a beginning
 /// of the entry's path. `Write` comes where the input refused a write of a hit: then those before it were done and
-/// given to the sink, which is spoiled; the entry stays, and a next call of the same kind is a hit again.
+/// given to the sink, which is spoiled; the entry stays, of age 0, and a next call of the same kind is a hit again.
 ///
 /// It clones the key, and looks as `CacheData::look` does, which asks each call of one stored path once and finds its
 /// answer in an ordered map. On a hit it clones the calls of the entry's path, its output and its writes, and sends each
-/// pair of the path and each write to the sink. The first half of comemo's `memoize`.
+/// pair of the path and each write to the sink; where the entry has an age, it clones the path's answers too, and follows
+/// the path once more by these. The first half of comemo's `memoize`.
 pub fn begin<
     M: Memo,
     In: Input<Call = M::Call, Key = M::Key, Answer = M::Answer>,
@@ -505,7 +544,8 @@ pub fn begin<
         (λ output. IsHit ⟦<M as Meant>⟧.meaning cache.old
         (⟦<In as Invoked>⟧.invoked input.old enabled)
         (In.did input.old input.new) (S.took sink.old sink.new) output
-        × Touches cache.old cache.new)
+        × Touches ⟦<M as Meant>⟧.meaning cache.old
+        (⟦<In as Invoked>⟧.invoked input.old enabled) cache.new)
         (λ _. ⊤)) }
     ensures run { IfOk result (λ b. OnBegun b (λ _. ⊤)
         (λ run. IsRun ⟦<M as Meant>⟧.meaning cache.old
@@ -516,7 +556,8 @@ pub fn begin<
         ((cache.new ≡ cache.old) × In.did input.old input.new []
         × IsBrokenOff ⟦<M as Meant>⟧.meaning cache.old (⟦<In as Invoked>⟧.invoked input.old enabled)
         (⟦<S as Breaking>⟧.breaks_off sink.old sink.new))
-        (Touches cache.old cache.new
+        (Touches ⟦<M as Meant>⟧.meaning cache.old
+        (⟦<In as Invoked>⟧.invoked input.old enabled) cache.new
         × IsStopped ⟦<M as Meant>⟧.meaning cache.old (⟦<In as Invoked>⟧.invoked input.old enabled)
         (In.did input.old input.new) (⟦<S as Breaking>⟧.spoiled_after sink.old sink.new))) }
 {
@@ -530,7 +571,8 @@ pub fn begin<
             return Err(Fault::Memory);
         };
         if let Some(found) = looked {
-            let output = give_found(found, input, sink)?;
+            cache.is_tree();
+            let output = give_found(alloc, cache, &key, found, input, sink)?;
             return Ok(Begun::Hit(output));
         }
     }

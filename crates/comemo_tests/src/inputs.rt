@@ -51,6 +51,7 @@ pub fn look_location(
         pairs: _,
         output,
         writes: _,
+        age: _,
     } = found;
     Ok(Some(output))
 }

@@ -9,6 +9,8 @@ mod again;
 #[cfg(test)]
 mod again_tests;
 #[cfg(test)]
+mod age_tests;
+#[cfg(test)]
 mod closed_runs;
 #[cfg(test)]
 mod closures;

@@ -6,6 +6,7 @@
 #![tactic(auto)]
 
 mod counting;
+mod evictions;
 mod hashing;
 mod inputs;
 mod lengths;

@@ -2,6 +2,7 @@
 //! again. Of a large input of `calc` all is timed: there the commands are made as they are carried out.
 
 use crate::counting::{CountMemo, Numbers, count_up};
+use crate::evictions::evict;
 use crate::hashing::{bytes, fold_numbers, text};
 use crate::inputs::Input;
 use crate::lengths::{length_by_kept_number, length_by_number, length_of};
@@ -42,6 +43,7 @@ pub fn run<R: Clock>(
         Workload::HitWrites { levels } => hit_writes(rt, alloc, levels, operations),
         Workload::MissWrites { levels } => miss_writes(rt, alloc, levels, operations),
         Workload::Retain { layout, keeps } => retain(rt, alloc, layout, keeps, operations),
+        Workload::Evict { layout, left } => evict(rt, alloc, layout, left, operations),
         Workload::InsertScattered => insert_scattered(rt, alloc, operations),
         Workload::TextItself => text_itself(rt, alloc, operations),
         Workload::TextByNumber => text_by_number(rt, alloc, operations),

@@ -1,5 +1,6 @@
 //! The workloads: what each is called, and how often it is done.
 
+use crate::evictions::Left;
 use crate::inputs::Input;
 use crate::tree_runs::Layout;
 use std::alloc::{AllocError, Global};
@@ -27,6 +28,8 @@ pub enum Workload {
     MissWrites { levels: u32 },
     /// A retention by the call tree alone, of entries that lie so. It keeps all of them, or drops all.
     Retain { layout: Layout, keeps: bool },
+    /// An eviction from a cache whose entries lie so, which leaves so many.
+    Evict { layout: Layout, left: Left },
     /// Different answers to one call, which come in a scattered order to the call tree alone.
     InsertScattered,
     /// The kept length of a text, under the text.
@@ -40,7 +43,7 @@ pub enum Workload {
 }
 
 /// All workloads, in the order in which they are done.
-pub const WORKLOADS: [Workload; 41] = [
+pub const WORKLOADS: [Workload; 48] = [
     Workload::Sip { bytes: 16 },
     Workload::Sip { bytes: 64 },
     Workload::Sip { bytes: 1024 },
@@ -91,6 +94,34 @@ pub const WORKLOADS: [Workload; 41] = [
         layout: Layout::OneKey,
         keeps: false,
     },
+    Workload::Evict {
+        layout: Layout::Keys { calls: 1 },
+        left: Left::All,
+    },
+    Workload::Evict {
+        layout: Layout::Keys { calls: 1 },
+        left: Left::Half,
+    },
+    Workload::Evict {
+        layout: Layout::Keys { calls: 1 },
+        left: Left::Nothing,
+    },
+    Workload::Evict {
+        layout: Layout::Keys { calls: 10 },
+        left: Left::All,
+    },
+    Workload::Evict {
+        layout: Layout::Keys { calls: 10 },
+        left: Left::Nothing,
+    },
+    Workload::Evict {
+        layout: Layout::OneKey,
+        left: Left::All,
+    },
+    Workload::Evict {
+        layout: Layout::OneKey,
+        left: Left::Nothing,
+    },
     Workload::InsertScattered,
     Workload::TextItself,
     Workload::TextByNumber,
@@ -127,6 +158,7 @@ impl Workload {
                 format!(in alloc; "miss {levels} levels that write")
             }
             Workload::Retain { layout, keeps } => retain_name(alloc, layout, keeps),
+            Workload::Evict { layout, left } => evict_name(alloc, layout, left),
             Workload::InsertScattered => String::from_str(alloc, "tree insert, scattered answers"),
             Workload::TextItself => String::from_str(alloc, "text 1 MiB as a key, kept itself"),
             Workload::TextByNumber => String::from_str(alloc, "text 1 MiB by its number"),
@@ -155,7 +187,7 @@ impl Workload {
             Workload::HitAmong { .. } | Workload::HitAmongKeys { .. } => 400_000,
             Workload::HitWrites { levels: 0..=3 } => 300_000,
             Workload::HitWrites { .. } => 150_000,
-            Workload::Retain { .. } | Workload::InsertScattered => 100_000,
+            Workload::Retain { .. } | Workload::Evict { .. } | Workload::InsertScattered => 100_000,
             Workload::TextItself | Workload::TextByNumber => 20,
             Workload::TextByKeptNumber => 500_000,
             Workload::Calc { input } => input.moderate(),
@@ -204,5 +236,18 @@ fn retain_name(alloc: Global, layout: Layout, keeps: bool) -> Result<String, All
     match layout {
         Layout::Keys { calls } => format!(in alloc; "tree {does} all, {calls} calls, keys"),
         Layout::OneKey => format!(in alloc; "tree {does} all, 1 calls, one key"),
+    }
+}
+
+/// What an eviction is called.
+fn evict_name(alloc: Global, layout: Layout, left: Left) -> Result<String, AllocError> {
+    let kept = match left {
+        Left::All => "all",
+        Left::Half => "half",
+        Left::Nothing => "none",
+    };
+    match layout {
+        Layout::Keys { calls } => format!(in alloc; "evict keeps {kept}, {calls} calls, keys"),
+        Layout::OneKey => format!(in alloc; "evict keeps {kept}, 1 calls, one key"),
     }
 }

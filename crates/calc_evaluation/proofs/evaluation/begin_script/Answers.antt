@@ -1,4 +1,4 @@
-use Rattle.std.proofs.Common.{rules, arith, refl, sym, subst, ◌<◌}
+use Rattle.std.proofs.Common.{rules, arith, inl, inr, refl, sym, subst, ◌<◌}
 use Rattle.comemo.proofs.Calls.{reply_by_hit, broke_at_begin, of_memory, never_stops}
 use Rattle.comemo.proofs.KeyedViews.{keyed_calls, keyed_answers}
 use Rattle.calc_scripts.specs.Meaning.{Means, Deep, no_room}
@@ -23,6 +23,16 @@ pub returns-in_default-begin-clause-err : goal.returns-in_default-begin-clause-e
 returns-in_default-begin-clause-err g c =
     let memory = of_memory c.in_default-begin.field-0 _ c.in_default-begin.ensures.err (λ write. never_stops (files_respect c.fork.result) (λ output writes d. d.0) write.1) in
     broke_at_begin (rw c.fork.ensures at memory).2
+
+pub returns-in_default-begin-clause-err_keeps : goal.returns-in_default-begin-clause-err_keeps
+returns-in_default-begin-clause-err_keeps g c =
+    let memory = of_memory c.in_default-begin.field-0 _ c.in_default-begin.ensures.err (λ write. never_stops (files_respect c.fork.result) (λ output writes d. d.0) write.1) in
+    inl memory.0
+
+pub returns-then-outcome-limit-clause-err_keeps : goal.returns-then-outcome-limit-clause-err_keeps
+returns-then-outcome-limit-clause-err_keeps g c =
+    let (hit, touched) = rw (c.in-Hit.is, c.fork.ensures) at c.in-Ok-begin.ensures.hit in
+    inr (c.in-Ok.key, c.in-Ok.ensures.ok, touched)
 
 pub returns-then-outcome-limit-clause-err : goal.returns-then-outcome-limit-clause-err
 returns-then-outcome-limit-clause-err g c =

@@ -1,7 +1,7 @@
 use Rattle.std.proofs.Common.{Ok, [], refl, inl, inr}
-use Rattle.comemo.proofs.Calls.{run_seen, fault_is, stopped_so}
+use Rattle.comemo.proofs.Calls.{run_seen, fault_is, on_fault, stopped_so}
 use Rattle.comemo.proofs.Closures.{mapped, ran_from, ended, failed, left_broken}
-use Rattle.comemo.proofs.Sendings.{breaks_at_once}
+use Rattle.comemo.proofs.Sendings.{on_err, breaks_at_once}
 use Rattle.comemo.proofs.closure.memoize.Goals as goal
 
 pub end-requires : goal.end-requires
@@ -42,3 +42,7 @@ func-ran-requires g c =
       writes = c.empty-recording.ensures.writes;
       whole = c.empty-recording.ensures.whole;
     })
+
+pub returns-in_err-output-clause-err : goal.returns-in_err-output-clause-err
+returns-in_err-output-clause-err g c =
+    on_err c.from_residual.result (on_fault c.in_err-output.field-0.0 c.in_err-output.ensures.err (λ memory. inl (memory.0, inl memory.2)) (λ write. inr (write.0, c.begin.new.input, write.1)))

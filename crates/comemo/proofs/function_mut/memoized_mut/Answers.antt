@@ -1,4 +1,4 @@
-use Rattle.std.proofs.Common.{rules, ◌∙◌, [], inl, inr, sym, subst}
+use Rattle.std.proofs.Common.{rules, [], inl, inr, sym, subst}
 use Rattle.comemo_base.specs.Answers.{Agrees}
 use Rattle.comemo_track.specs.Writing.{Done}
 use Rattle.comemo.proofs.Sendings.{on_err, breaks_at_once}

@@ -4,6 +4,7 @@ use Rattle.comemo.specs.Meaning.{Meaning, run, invocation}
 use Rattle.comemo.specs.Cache.{Has, Stands}
 use Rattle.comemo.proofs.Calls.{on_fault, fault_handed}
 use Rattle.comemo.proofs.Sendings.{breaks_at_once}
+use Rattle.comemo.proofs.Touching.{touched_by, Touches-alike}
 use Rattle.comemo.proofs.Entries.{Has-alike, HasNone-alike, Agrees-found}
 use Rattle.comemo.proofs.pending.begin.Goals as goal
 use Rattle.comemo.proofs.pending.begin.Goals.{then-enabled+in-Ok-look+in_default-looked, else-enabled}
@@ -15,6 +16,7 @@ returns-in-Some-clause-hit g c =
     let alike = turned g.met.M.Key.Eq.laws _ _ c.in-Ok.ensures in
     let found = rw c.in-Some.is at c.in-Ok-look.ensures.found in
     let stands = rw c.in-Some.is at c.in-Ok-look.ensures.stands in
+    let aged = rw c.in-Some.is at c.in-Ok-look.ensures.ages in
     let respects = g.met.In.Input.alike c.args.input.now in
     let ran = run c.in-Ok.key c.in-Some.found.pairs.items c.in-Some.found.output c.in-Some.found.writes.items in
     let agrees = Agrees-found M g.met.M.Call.Eq.laws g.met.M.Answer.Eq.laws m respects ran _ found in
@@ -30,7 +32,7 @@ returns-in-Some-clause-hit g c =
         are_sent = c.in_ok-output.ensures.sent;
         right = g.met.M.Memo.laws.keys c.in-Ok.key _ m c.in-Some.found.output c.in-Some.found.writes.items respects alike (stands m respects agrees);
       },
-      record { same = refl },
+      Touches-alike M g.met.M.Key.Eq.laws c.args.cache.now c.give_found.new.cache c.in-Ok.key _ alike m true c.args.enabled (touched_by M g.met.M.Answer.Eq.laws g.met.M.Key.Eq.laws c.args.cache.now c.give_found.new.cache (invocation c.in-Ok.key m true) c.is_tree.ensures ran c.in-Some.found.age aged c.in_ok-output.ensures.touched),
     )
 
 pub returns-clause-run : goal.returns-clause-run
@@ -74,6 +76,7 @@ returns-in_err-output-clause-err g c =
     let alike = turned g.met.M.Key.Eq.laws _ _ c.in-Ok.ensures in
     let found = rw c.in-Some.is at c.in-Ok-look.ensures.found in
     let stands = rw c.in-Some.is at c.in-Ok-look.ensures.stands in
+    let aged = rw c.in-Some.is at c.in-Ok-look.ensures.ages in
     let ran = run c.in-Ok.key c.in-Some.found.pairs.items c.in-Some.found.output c.in-Some.found.writes.items in
     let respects = g.met.In.Input.alike c.args.input.now in
     let agrees = Agrees-found M g.met.M.Call.Eq.laws g.met.M.Answer.Eq.laws m respects ran _ found in
@@ -85,12 +88,12 @@ returns-in_err-output-clause-err g c =
     let right : Stands M (run key pairs output c.in-Some.found.writes.items) = λ n r a. g.met.M.Memo.laws.keys c.in-Ok.key key n output c.in-Some.found.writes.items r alike (stands n r a) in
     fault_handed c.from_residual.result c.in_err-output.field-0.0 c.from_residual.ensures.1 _ _ _ _ c.in_err-output.ensures.err
     (λ memory. (
-      refl,
-      g.met.In.Input.joins _ _ _ [] [] same memory.0,
-      record { pairs = pairs; found = inr (output, c.in-Some.found.writes.items, kept); agrees = agrees; is_broken = memory.1 },
+      memory.0,
+      g.met.In.Input.joins _ _ _ [] [] same memory.1,
+      record { pairs = pairs; found = inr (output, c.in-Some.found.writes.items, kept); agrees = agrees; is_broken = memory.2 },
     ))
     (λ stop. (
-      record { same = refl },
+      Touches-alike M g.met.M.Key.Eq.laws c.args.cache.now c.give_found.new.cache c.in-Ok.key key alike m true c.args.enabled (touched_by M g.met.M.Answer.Eq.laws g.met.M.Key.Eq.laws c.args.cache.now c.give_found.new.cache (invocation c.in-Ok.key m true) c.is_tree.ensures ran c.in-Some.found.age aged stop.7),
       record {
         pairs = pairs;
         output = output;
@@ -119,7 +122,7 @@ returns-in-Some-clause-reached g c = (c.in-Some.found.writes.items, g.met.In.Inp
 pub returns-in_err-output-clause-reached : goal.returns-in_err-output-clause-reached
 returns-in_err-output-clause-reached g c =
     on_fault c.in_err-output.field-0.0 c.in_err-output.ensures.err
-    (λ memory. ([], g.met.In.Input.joins _ _ _ [] [] c.look.ensures.same memory.0))
+    (λ memory. ([], g.met.In.Input.joins _ _ _ [] [] c.look.ensures.same memory.1))
     (λ stop. (stop.0, g.met.In.Input.joins _ _ _ [] stop.0 c.look.ensures.same stop.4))
 
 pub returns-clause-reached : goal.returns-clause-reached

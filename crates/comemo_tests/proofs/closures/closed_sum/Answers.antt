@@ -3,4 +3,4 @@ use Rattle.comemo.proofs.Closures.{mapped_err, at_some_pairs}
 use Rattle.comemo_tests.proofs.closures.closed_sum.Goals as goal
 
 pub returns-clause-err : goal.returns-clause-err
-returns-clause-err g c = mapped_err (λ failed. (failed.0, at_some_pairs _ failed.1 (λ c. refl))) c.memoize.result c.memoize.ensures.err
+returns-clause-err g c = mapped_err (λ failed. at_some_pairs _ failed (λ c. refl)) c.memoize.result c.memoize.ensures.err

@@ -1,4 +1,4 @@
-use Rattle.std.proofs.Common.{◌∙◌, inr, sym, subst}
+use Rattle.std.proofs.Common.{◌∙◌, inr, sym, ap, subst}
 use Rattle.comemo_base.proofs.Under.{Any-from_under}
 use Rattle.comemo.specs.Meaning.{Meaning}
 use Rattle.comemo.specs.Cache.{Kept, IsLegal}
@@ -31,6 +31,14 @@ returns-clause-found g c =
     let output = subst (λ (v : Kept _ _). g.M.Out.Clone.is_clone v.output c.in_ok-output.output) value c.in_ok-output.ensures.cases in
     let writes = subst (λ (v : Kept _ _). SameWrites g.M.Call.PartialEq.eq v.writes c.in_ok-writes.writes.items) value (SameWrites-cloned g.M.Call.PartialEq.eq g.M.Call.Clone.is_clone g.met.M.Call.Call.clones _ _ c.in_ok-writes.ensures.cases.0) in
     (h.0, h.1, h.2, h.3, (h.4.0, h.4.1, output, writes))
+
+pub returns-clause-ages : goal.returns-clause-ages
+returns-clause-ages g c =
+    let h = rw (c.self.view_is, c.in-Some.is) at c.in_ok-found.ensures.found in
+    let value = c.kept.view_is ∙ sym h.4.2 in
+    let output = subst (λ (v : Kept _ _). g.M.Out.Clone.is_clone v.output c.in_ok-output.output) value c.in_ok-output.ensures.cases in
+    let writes = subst (λ (v : Kept _ _). SameWrites g.M.Call.PartialEq.eq v.writes c.in_ok-writes.writes.items) value (SameWrites-cloned g.M.Call.PartialEq.eq g.M.Call.Clone.is_clone g.met.M.Call.Call.clones _ _ c.in_ok-writes.ensures.cases.0) in
+    (h.0, h.1, h.2, h.3, ((h.4.0, h.4.1, output, writes), sym (ap (λ (v : Kept _ _). v.age) value)))
 
 pub returns-clause-stands : goal.returns-clause-stands
 returns-clause-stands g c =
