@@ -1,5 +1,6 @@
 -- What the program of the rows prints, and its status.
-use Rattle.std.specs.Prelude.{◌≡◌, ℕ, List, [], ◌∷◌, ◌++◌, Bool, false, Option, None, Some, IfSome, Contains, String, codes, string_bytes, bytes_eq}
+use Rattle.std.specs.Prelude.{◌≡◌, ℕ, ◌<◌, ◌≤◌, ◌^◌, List, [], ◌∷◌, ◌++◌, Bool, true, false, Option, None, Some, IfSome, Contains, String, codes, decimal, string_bytes, bytes_eq}
+use Rattle.std.specs.Str.Parse.{IsNumeral, digits_value}
 use Rattle.std.specs.Global.{Global}
 use Rattle.calc_lines.specs.Started.{WritesFront}
 
@@ -8,11 +9,26 @@ abbrev pub asks_for_rows : List (String Global) → Bool
 asks_for_rows (word ∷ []) = bytes_eq (string_bytes word) (codes "rows")
 asks_for_rows _ = false
 
+-- the text is digits alone, at least one, which write n, and a `u64` holds it
+abbrev pub IsNumber : List ℕ → ℕ → Type 0
+IsNumber digits n = IsNumeral 10 digits × (digits_value 10 digits ≡ n) × (n < 2 ^ 64)
+
+-- the words after the program's name ask for so many steps from a seed
+abbrev pub AsksForFuzz : List (String Global) → ℕ → ℕ → Type 0
+AsksForFuzz (word ∷ first ∷ second ∷ []) seed steps =
+    (bytes_eq (string_bytes word) (codes "fuzz") ≡ true) × IsNumber (string_bytes first) seed × IsNumber (string_bytes second) steps × (steps < 2 ^ 32)
+AsksForFuzz _ seed steps = ⊥
+
+-- they ask for nothing that there is
+abbrev pub AsksForNothing : List (String Global) → Type 0
+AsksForNothing words = (asks_for_rows words ≡ false) × ((seed steps : ℕ) → ¬ AsksForFuzz words seed steps)
+
 -- the numbers of the rows that run, in their order
 abbrev pub row_numbers : List (List ℕ)
 row_numbers =
-    codes "1" ∷ codes "2" ∷ codes "3" ∷ codes "4" ∷ codes "5" ∷ codes "6" ∷ codes "7" ∷ codes "8" ∷ codes "9" ∷ codes "11"
-    ∷ codes "13" ∷ codes "14" ∷ codes "16" ∷ codes "17" ∷ codes "18" ∷ codes "19" ∷ codes "22" ∷ codes "23" ∷ codes "24" ∷ codes "25" ∷ []
+    codes "1" ∷ codes "2" ∷ codes "3" ∷ codes "4" ∷ codes "5" ∷ codes "6" ∷ codes "7" ∷ codes "8" ∷ codes "9"
+    ∷ codes "10" ∷ codes "11" ∷ codes "12" ∷ codes "13" ∷ codes "14" ∷ codes "16" ∷ codes "17" ∷ codes "18"
+    ∷ codes "19" ∷ codes "21" ∷ codes "22" ∷ codes "23" ∷ codes "24" ∷ codes "25" ∷ codes "R13" ∷ []
 
 -- what is printed where the row of this number failed first, or none did
 abbrev pub verdict : Option (List ℕ) → List ℕ
@@ -28,6 +44,21 @@ status_of (Some number) = 1
 abbrev pub RanRows : Option (List ℕ) → Option (List ℕ) → ℕ → Type 0
 RanRows before after status =
     (failed : Option (List ℕ)) × IfSome failed (Contains row_numbers) × (status ≡ status_of failed) × WritesFront before after (verdict failed)
+
+-- what is printed where this step was the first that both didn't answer the same, or there is none
+abbrev pub fuzz_verdict : Option ℕ → List ℕ
+fuzz_verdict None = codes "fuzz ok\n"
+fuzz_verdict (Some step) = codes "step " ++ decimal step ++ codes " failed\n"
+
+-- the status then
+abbrev pub fuzz_status : Option ℕ → ℕ
+fuzz_status None = 0
+fuzz_status (Some step) = 1
+
+-- one of so many steps failed first, or none did, and that is what the status says, and what was written as far as the device took it
+abbrev pub RanFuzz : ℕ → Option (List ℕ) → Option (List ℕ) → ℕ → Type 0
+RanFuzz steps before after status =
+    (failed : Option ℕ) × IfSome failed (λ step. (1 ≤ step) × (step ≤ steps)) × (status ≡ fuzz_status failed) × WritesFront before after (fuzz_verdict failed)
 
 -- what is said where the words ask for nothing that there is
 abbrev pub usage : List ℕ

@@ -21,25 +21,33 @@
 //! ```
 #![tactic(auto)]
 
+mod ages;
 mod broken;
 mod calls;
 mod chains;
+mod comparison;
 mod fibonacci;
 mod hashes;
+mod list;
 mod numbers;
 mod orders;
 mod outcome;
 mod place;
 mod places;
 mod program;
+mod random;
 mod recordings;
 mod sessions;
+mod steps;
 mod table;
 mod texts;
 mod trees;
 mod writes;
 
 pub use broken::Broken;
+pub use comparison::{Machine, compare, fuzz};
+pub use list::PlainList;
 pub use outcome::Outcome;
 pub use program::start;
+pub use steps::{Anything, Numbered};
 pub use table::run_rows;

@@ -1,8 +1,9 @@
 //! The program: words in, a verdict out.
-ghost use Rattle.std.specs.Prelude.{◌≡◌, true, false};
-ghost use Rattle.bench_rows.specs.Started.{asks_for_rows, RanRows, usage};
+ghost use Rattle.std.specs.Prelude.{◌≡◌, true, ℕ, MatchOption};
+ghost use Rattle.bench_rows.specs.Started.{asks_for_rows, IsNumber, AsksForFuzz, AsksForNothing, RanRows, RanFuzz, fuzz_verdict, fuzz_status, usage};
 ghost use Rattle.calc_lines.specs.Started.{WritesFront};
 
+use crate::comparison::fuzz;
 use crate::table::run_rows;
 use calc_lines::put_message;
 use std::alloc::Global;
@@ -18,12 +19,58 @@ fn are_rows(words: &[String]) -> bool
     }
 }
 
+/// The number that digits alone write, where a `u64` holds it.
+fn number_of(digits: &str) -> Option<u64>
+    ensures { MatchOption result ((n : ℕ) → ¬ IsNumber digits.now n) (IsNumber digits.now) }
+{
+    if digits.starts_with('+') {
+        return None;
+    }
+    digits.parse().ok()
+}
+
+/// The seed and the number of steps for which the words after the program's name ask.
+fn fuzz_of(words: &[String]) -> Option<(u64, u32)>
+    ensures { MatchOption result ((seed steps : ℕ) → ¬ AsksForFuzz words.now seed steps)
+        (λ asked. AsksForFuzz words.now asked.0 asked.1) }
+{
+    let [word, seed, steps] = words else {
+        return None;
+    };
+    if word.as_str() != "fuzz" {
+        return None;
+    }
+    let seed = number_of(seed.as_str())?;
+    let steps = number_of(steps.as_str())?;
+    Some((seed, u32::try_from(steps).ok()?))
+}
+
+/// Prints `fuzz ok`, or `step N failed` with the number of the first step that failed, and gives the program's status.
+fn report_fuzz<W: Write>(alloc: Global, failed: Option<u32>, writer: &mut W) -> u8
+    ensures status { result ≡ fuzz_status failed }
+    ensures written { WritesFront (W.contents writer.old) (W.contents writer.new)
+        (fuzz_verdict failed) }
+{
+    let Some(step) = failed else {
+        let _ = put_message(writer, "fuzz ok", "", "\n");
+        return 0;
+    };
+    if let Ok(number) = format!(in alloc; "{step}") {
+        let _ = put_message(writer, "step ", number.as_str(), " failed\n");
+    }
+    1
+}
+
 /// All of the program but its streams: `words` are the arguments after its name. It gives the program's status.
 ///
 /// The one word `rows` has it run each row; it prints `rows ok`, and the status is 0, or `row N failed` with the number
-/// of the first that failed, and the status is 1. With any other words it writes how it is called on `errors` and does
-/// nothing else, and the status is 2. A failure of `writer` or `errors` changes nothing but what is written there. It
-/// costs what `run_rows` costs; the messages take no memory. This project's own.
+/// of the first that failed, and the status is 1. The words `fuzz SEED STEPS`, of which SEED writes a `u64` and STEPS a
+/// `u32` by digits alone, have it do as many steps from that seed by a cache and by a plain list; it prints `fuzz ok`,
+/// and the status is 0, or `step N failed` with the number of the first that both didn't answer the same, and the status
+/// is 1. With any other words it writes how it is called on `errors` and does nothing else, and the status is 2. A
+/// failure of `writer` or `errors` changes nothing but what is written there. It costs what `run_rows` or `fuzz` costs;
+/// of the messages only the number of a step takes memory, and where there is none the line isn't written. This
+/// project's own.
 pub fn start<W: Write, E: Write>(
     alloc: Global,
     words: &[String],
@@ -33,15 +80,22 @@ pub fn start<W: Write, E: Write>(
     ensures rows { asks_for_rows words.now ≡ true
         → RanRows (W.contents writer.old) (W.contents writer.new) result }
     ensures rows_keep_errors { asks_for_rows words.now ≡ true → errors.new ≡ errors.old }
-    ensures usage { asks_for_rows words.now ≡ false → result ≡ 2 }
-    ensures usage_written { asks_for_rows words.now ≡ false
+    ensures fuzz { (seed steps : ℕ) → AsksForFuzz words.now seed steps
+        → RanFuzz steps (W.contents writer.old) (W.contents writer.new) result }
+    ensures fuzz_keeps_errors { (seed steps : ℕ) → AsksForFuzz words.now seed steps
+        → errors.new ≡ errors.old }
+    ensures usage { AsksForNothing words.now → result ≡ 2 }
+    ensures usage_written { AsksForNothing words.now
         → WritesFront (E.contents errors.old) (E.contents errors.new) usage }
-    ensures usage_keeps_writer { asks_for_rows words.now ≡ false → writer.new ≡ writer.old }
+    ensures usage_keeps_writer { AsksForNothing words.now → writer.new ≡ writer.old }
 {
-    if !are_rows(words) {
-        let forms = "bench rows | fuzz SEED STEPS | threads WORKERS CALLS";
-        let _ = put_message(errors, "usage: ", forms, "\n");
-        return 2;
+    if are_rows(words) {
+        return run_rows(alloc).report(writer);
     }
-    run_rows(alloc).report(writer)
+    if let Some((seed, steps)) = fuzz_of(words) {
+        return report_fuzz(alloc, fuzz(alloc, seed, steps), writer);
+    }
+    let forms = "bench rows | fuzz SEED STEPS | threads WORKERS CALLS";
+    let _ = put_message(errors, "usage: ", forms, "\n");
+    2
 }

@@ -1,51 +1,14 @@
 //! The row of recordings: what one holds that absorbed another, and what one holds of.
-ghost use Rattle.std.specs.Prelude.{◌≡◌, true, false};
-ghost use Rattle.std.proofs.Common.{rules};
 
 use crate::broken::Broken;
-use comemo::{Call, Constraint, Sink, Track};
+use crate::steps::{Numbered, read, write};
+use comemo::{Constraint, Sink, Track};
 use comemo_samples::{Context, ContextCall};
 use std::alloc::{AllocError, Global};
-use std::hash::Hash;
-
-/// A call by a letter: a read, or a write.
-#[derive(Clone, Copy, Drop, Debug, PartialEq, Eq, Hash)]
-struct Lettered {
-    letter: u8,
-    writes: bool,
-}
-
-impl Call for Lettered {
-    ghost is_write = { λ call. call.writes };
-
-    ghost same_kind = { λ x y h. Prim.search rules };
-
-    ghost clones = { λ x y h. Prim.search rules };
-
-    fn is_mutable(&self) -> bool {
-        self.writes
-    }
-}
-
-/// The read of a letter.
-fn read(letter: u8) -> Lettered
-    ensures { result.writes ≡ false }
-{
-    let writes = false;
-    Lettered { letter, writes }
-}
-
-/// The write of a letter.
-fn write(letter: u8) -> Lettered
-    ensures { result.writes ≡ true }
-{
-    let writes = true;
-    Lettered { letter, writes }
-}
 
 /// Records two reads, with their answers, and a write.
 fn record(
-    recording: &mut Constraint<Lettered, u64>,
+    recording: &mut Constraint<Numbered, u64>,
     first: (u8, u64),
     second: (u8, u64),
     written: u8,

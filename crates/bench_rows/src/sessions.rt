@@ -2,7 +2,7 @@
 
 use crate::broken::Broken;
 use calc_sessions::{run, start};
-use std::alloc::Global;
+use std::alloc::{AllocError, Global};
 
 /// Whether a new session prints this for these lines.
 fn prints(alloc: Global, lines: &str, wanted: &str) -> Result<bool, Broken> {
@@ -27,6 +27,34 @@ pub(crate) fn a_value_is_kept_until_its_files_change(alloc: Global) -> Result<bo
         eval eval alpha.calc\n";
     let wanted = "miss 7\nmiss 5\nhit 7\nmiss 46\nmiss 48\nmiss 86\n";
     prints(alloc, lines, wanted)
+}
+
+/// The lines that write `1` to the file `f0`, and to each of 127 others the script that asks for the one before it.
+fn files_in_a_row(alloc: Global) -> Result<String, AllocError> {
+    let mut lines = String::from_str(alloc, "write f0 1\n")?;
+    for before in 0..127_u32 {
+        let place = before + 1;
+        let line = format!(in alloc; "write f{place} eval f{before}\n")?;
+        lines.push_str(line.as_str())?;
+    }
+    Ok(lines)
+}
+
+/// Whether a script that is too high is told so whatever is kept, and gives up what it was about to keep.
+pub(crate) fn a_script_too_high_is_told_so(alloc: Global) -> Result<bool, Broken> {
+    let mut lines = files_in_a_row(alloc)?;
+    lines.push_str(
+        "eval eval f126\n\
+        eval eval f127\n\
+        eval eval f126\n\
+        evict 0\n\
+        eval eval f127\n\
+        eval eval f125\n\
+        write loop eval loop\n\
+        eval eval loop\n",
+    )?;
+    let wanted = "miss 1\ntoo deep\nhit 1\ntoo deep\nmiss 1\ntoo deep\n";
+    prints(alloc, lines.as_str(), wanted)
 }
 
 /// Whether a script without a number says why, and what is no command is said to be none.

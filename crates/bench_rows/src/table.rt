@@ -2,6 +2,7 @@
 ghost use Rattle.std.specs.Prelude.{IfSome, Contains};
 ghost use Rattle.bench_rows.specs.Started.{row_numbers};
 
+use crate::ages::{hits_stay_young, touches_go_by_answers, touches_stay_young};
 use crate::chains::chains_share_what_is_kept;
 use crate::hashes::{a_kept_hash_follows_its_item, two_pieces_hash_as_the_whole};
 use crate::numbers::numbers_are_kept;
@@ -10,8 +11,8 @@ use crate::outcome::Outcome;
 use crate::places::a_thousand_places_are_kept;
 use crate::recordings::recordings_absorb_and_hold;
 use crate::sessions::{
-    a_script_without_a_number_says_why, a_value_is_kept_until_its_files_change,
-    the_bytes_of_files_are_counted,
+    a_script_too_high_is_told_so, a_script_without_a_number_says_why,
+    a_value_is_kept_until_its_files_change, the_bytes_of_files_are_counted,
 };
 use crate::texts::{functions_are_kept, two_kinds_of_questions};
 use crate::trees::{
@@ -39,16 +40,20 @@ pub fn run_rows(alloc: Global) -> Outcome
     rows.row("7", a_call_that_was_taken_out_stays_seen(alloc));
     rows.row("8", two_kinds_of_questions(alloc));
     rows.row("9", a_value_is_kept_until_its_files_change(alloc));
+    rows.row("10", a_script_too_high_is_told_so(alloc));
     rows.row("11", a_script_without_a_number_says_why(alloc));
+    rows.row("12", hits_stay_young(alloc));
     rows.row("13", hits_write_again(alloc));
     rows.row("14", a_thousand_places_are_kept(alloc));
     rows.row("16", runs_in_another_order(alloc));
     rows.row("17", numbers_are_kept(alloc));
     rows.row("18", chains_share_what_is_kept(alloc));
     rows.row("19", recordings_absorb_and_hold(alloc));
+    rows.row("21", touches_stay_young(alloc));
     rows.row("22", two_pieces_hash_as_the_whole(alloc));
     rows.row("23", a_kept_hash_follows_its_item(alloc));
     rows.row("24", the_bytes_of_files_are_counted(alloc));
     rows.row("25", functions_are_kept(alloc));
+    rows.row("R13", touches_go_by_answers(alloc));
     rows
 }

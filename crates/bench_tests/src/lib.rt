@@ -1,5 +1,7 @@
-//! Tests of the program of the rows.
+//! Tests of the program of the rows, and of the comparison of a cache with other machines.
 #![tactic(auto)]
 
+#[cfg(test)]
+mod faults;
 #[cfg(test)]
 mod program;

@@ -69,15 +69,48 @@ fn a_row_that_fails_after_the_others_is_named(rt: HostRuntime) -> Result<(), Fai
 }
 
 #[test]
+fn a_cache_and_a_plain_list_answer_alike(rt: HostRuntime) -> Result<(), Fail> {
+    let alloc = rt.alloc();
+    let calls = [
+        ("1", "10000"),
+        ("2", "10000"),
+        ("18446744073709551615", "0010"),
+        ("0", "0"),
+    ];
+    for (seed, steps) in calls {
+        let mut words = Vec::new(alloc);
+        for word in ["fuzz", seed, steps] {
+            words.push(String::from_str(alloc, word)?)?;
+        }
+        let mut printed: Vec<u8> = Vec::new(alloc);
+        let mut errors: Vec<u8> = Vec::new(alloc);
+        let status = start(alloc, words.as_slice(), &mut printed, &mut errors);
+        assert_eq!(rt; printed.as_slice(), b"fuzz ok\n".as_slice());
+        assert_eq!(rt; status, 0);
+        assert!(rt; errors.is_empty());
+    }
+    Ok(())
+}
+
+#[test]
 fn other_words_are_told_how_to_call(rt: HostRuntime) -> Result<(), Fail> {
     let alloc = rt.alloc();
-    let calls: [&[&str]; 6] = [
+    let calls: [&[&str]; 15] = [
         &[],
         &["row"],
         &["rows "],
         &["rows", "rows"],
-        &["fuzz", "1", "2"],
         &[""],
+        &["fuzz"],
+        &["fuzz", "1"],
+        &["fuzz", "1", "2", "3"],
+        &["fuzz", "+1", "2"],
+        &["fuzz", "1", "-2"],
+        &["fuzz", "", "2"],
+        &["fuzz", "1", " 2"],
+        &["fuzz", "18446744073709551616", "2"],
+        &["fuzz", "1", "4294967296"],
+        &["threads", "1", "2"],
     ];
     for call in calls {
         let mut words = Vec::new(alloc);

@@ -32,4 +32,8 @@ returns c =
     let upto17 = next _ _ _ _ c.row-18.ensures.held c.row-18.ensures.earlier c.row-18.ensures.failed (17, omega arith, refl) upto16 in
     let upto18 = next _ _ _ _ c.row-19.ensures.held c.row-19.ensures.earlier c.row-19.ensures.failed (18, omega arith, refl) upto17 in
     let upto19 = next _ _ _ _ c.row-20.ensures.held c.row-20.ensures.earlier c.row-20.ensures.failed (19, omega arith, refl) upto18 in
-    upto19
+    let upto20 = next _ _ _ _ c.row-21.ensures.held c.row-21.ensures.earlier c.row-21.ensures.failed (20, omega arith, refl) upto19 in
+    let upto21 = next _ _ _ _ c.row-22.ensures.held c.row-22.ensures.earlier c.row-22.ensures.failed (21, omega arith, refl) upto20 in
+    let upto22 = next _ _ _ _ c.row-23.ensures.held c.row-23.ensures.earlier c.row-23.ensures.failed (22, omega arith, refl) upto21 in
+    let upto23 = next _ _ _ _ c.row-24.ensures.held c.row-24.ensures.earlier c.row-24.ensures.failed (23, omega arith, refl) upto22 in
+    upto23
