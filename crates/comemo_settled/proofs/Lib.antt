@@ -1,4 +1,4 @@
 pub mod Sets
 pub mod Left
 pub mod Runs
-pub mod Steps
+pub mod StepLists

@@ -1,3 +1,3 @@
 pub mod Runs
 pub mod Sets
-pub mod Steps
+pub mod StepLists

@@ -9,7 +9,7 @@ ghost use Rattle.comemo_tree.specs.Retain.{Retains, ReturnsAtMut};
 ghost use Rattle.comemo_tree.specs.Shape.{IsShape};
 ghost use Rattle.comemo_settled.specs.Runs.{AsksLaws, IsRun, IsSettled, IsRunReason};
 ghost use Rattle.comemo_settled.specs.Sets.{HasSet, FindsSet, HasEachSetOnce, AddsSet};
-ghost use Rattle.comemo_settled.specs.Steps.{InsertsRun, IsStep, AreSteps, KeepsSets, StoresAllSets};
+ghost use Rattle.comemo_settled.specs.StepLists.{InsertsRun, IsStep, AreSteps, KeepsSets, StoresAllSets};
 
 use crate::steps::{Keep, TreeOp, TreeReply};
 use comemo_base::{CallSequence, InsertError};

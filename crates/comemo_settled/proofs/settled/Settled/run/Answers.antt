@@ -1,8 +1,8 @@
 use Rattle.std.proofs.Common.{◌≡◌, ◌<◌, suc, ◌∷◌, List, length, ap, arith}
 use Rattle.std.specs.List.{All}
-use Rattle.comemo_settled.specs.Steps.{InsertsRun}
+use Rattle.comemo_settled.specs.StepLists.{InsertsRun}
 use Rattle.comemo_base.proofs.Absorbed.{nil-from_length}
-use Rattle.comemo_settled.proofs.Steps.{Completes-first, Completes-step, Completes-last, StoresAllSets-steps, KeepsSets-steps}
+use Rattle.comemo_settled.proofs.StepLists.{Completes-first, Completes-step, Completes-last, StoresAllSets-steps, KeepsSets-steps}
 use Rattle.comemo_settled.proofs.settled.Settled.run.Goals as goal
 
 All-rest : {X : Type 0} (P : X → Type 0) (x : X) (xs all : List X) → all ≡ x ∷ xs → All P all → All P xs

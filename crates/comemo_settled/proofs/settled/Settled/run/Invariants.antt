@@ -1,9 +1,9 @@
 use Rattle.std.proofs.Common.{◌≡◌, ◌+◌, ◌≤◌, length, vec_len, vec_capacity}
 use Rattle.std.specs.List.{All}
 use Rattle.std.specs.Vec.Iter.{into_iter_items, into_iter_len}
-use Rattle.comemo_settled.specs.Steps.{InsertsRun}
+use Rattle.comemo_settled.specs.StepLists.{InsertsRun}
 use Rattle.comemo_settled.specs.Runs.{IsSettled}
-use Rattle.comemo_settled.proofs.Steps.{Completes}
+use Rattle.comemo_settled.proofs.StepLists.{Completes}
 use Rattle.comemo_settled.proofs.settled.Settled.run.Given as goal
 
 -- the steps done so far, that what is left inserts runs, and that there is room for its replies

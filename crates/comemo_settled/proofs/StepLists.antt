@@ -10,7 +10,7 @@ use Rattle.comemo_base.specs.Lookup.{under}
 use Rattle.comemo_base.proofs.Paths.{joined}
 use Rattle.comemo_base.proofs.Under.{Any-here, Any-later, Any-split, Any-weaker, none-from_nothing, Any-under, Any-from_under}
 use Rattle.comemo_settled.specs.Sets.{HasSamePairs, HasSet, AddsSet}
-use Rattle.comemo_settled.specs.Steps.{IsStep, AreSteps, InsertsSet, IsInsert, FoundRoom, StoresAllSets, StaysThrough, KeepsSets}
+use Rattle.comemo_settled.specs.StepLists.{IsStep, AreSteps, InsertsSet, IsInsert, FoundRoom, StoresAllSets, StaysThrough, KeepsSets}
 use Rattle.comemo_settled.specs.declared.steps.TreeOp.{TreeOp}
 use Rattle.comemo_settled.specs.declared.steps.TreeOp.TheVariants.{Insert, Retain}
 use Rattle.comemo_settled.specs.declared.steps.TreeReply.{TreeReply}
