@@ -1,4 +1,6 @@
 //! Lists of steps on a tree.
+ghost use Rattle.std.specs.Prelude.{Bool};
+
 use comemo_base::CallSequence;
 use std::hash::Hash;
 

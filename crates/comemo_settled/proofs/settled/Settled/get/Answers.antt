@@ -2,6 +2,9 @@ use Rattle.std.specs.Prelude.{option_copied}
 use Rattle.comemo_settled.proofs.Runs.{get-found}
 use Rattle.comemo_settled.proofs.settled.Settled.get.Goals as goal
 
+pub get-requires : goal.get-requires
+get-requires g c = rw (← c.self.view_is) at c.requires
+
 pub returns-clause-asked : goal.returns-clause-asked
 returns-clause-asked g c = rw c.self.view_is at c.get.ensures.asked
 
