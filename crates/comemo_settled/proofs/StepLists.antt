@@ -58,7 +58,7 @@ module _ {K C R T : Type 0} {eq : C → C → Bool} {same : R → R → Bool} {e
       let Q : Stored K C R T → Type 0 = λ e. IsTrue (eqk e.key k) × HasSamePairs eq same e.path ps in
       let entry = stored adds.own adds.path value in
       elim (Any-split Q entry old (Any-permutation Q new (entry ∷ old) (IsPermutation-sym _ _ adds.added) (anywhere new k ps has))) [
-        | inl h ↦ inr (keys.congr adds.own key k adds.is_key ∙ h.0, HasSamePairs-joined calls answers s adds.path ps (HasSamePairs-turned calls answers adds.path s adds.pairs) h.1)
+        | inl h ↦ inr (sym (keys.congr adds.own key k adds.is_key) ∙ h.0, HasSamePairs-joined calls answers s adds.path ps (HasSamePairs-turned calls answers adds.path s adds.pairs) h.1)
         | inr h ↦ inl (HasSet-anywhere old k ps h)
       ]
 
