@@ -1,2 +1,1 @@
 pub mod LetterCalls
-pub mod PlaceCalls

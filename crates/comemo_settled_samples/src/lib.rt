@@ -2,5 +2,4 @@
 #![tactic(auto)]
 
 pub mod letters;
-pub mod places;
 pub mod sequences;
