@@ -169,10 +169,7 @@ impl<A: Asks, T: Drop> Settled<A, T> {
         self.tree.retain(f);
     }
 
-    fn step<P: Keep<T> + Drop>(
-        &mut self,
-        op: TreeOp<A::Key, A::Call, A::Answer, T, P>,
-    ) -> TreeReply
+    fn step<P: Keep<T> + Drop>(&mut self, op: TreeOp<A::Key, A::Call, A::Answer, T, P>) -> TreeReply
         requires { InsertsRun A.Call.eq A.Answer.eq A.asks op }
         ensures settled { IsSettled A.Call.eq A.Answer.eq A.asks self.new }
         ensures step { IsStep A.Call.eq A.Answer.eq A.Key.eq P.keeps op result self.old self.new }

@@ -37,12 +37,12 @@ impl Asks for Letters {
     ghost asks = { λ k m c. AsksLetter m c };
 
     ghost laws = { record {
-        respect = λ k k' m. elim [
-            A ↦ elim [ A ↦ λ e f a. a | B ↦ λ e f a. tt | C ↦ λ e f a. Prim.search rules ]
-            | B ↦ elim [ A ↦ λ e f a. tt | B ↦ λ e f a. a | C ↦ λ e f a. Prim.search rules ]
-            | C ↦ elim [ A ↦ λ e f a. tt | B ↦ λ e f a. tt | C ↦ λ e f a. a ]
-        ];
-        clones = λ x y h. Prim.search rules
+      respect = λ k k' m. elim [
+        | A ↦ elim [ A ↦ λ e f a. a | B ↦ λ e f a. tt | C ↦ λ e f a. Prim.search rules ]
+        | B ↦ elim [ A ↦ λ e f a. tt | B ↦ λ e f a. a | C ↦ λ e f a. Prim.search rules ]
+        | C ↦ elim [ A ↦ λ e f a. tt | B ↦ λ e f a. tt | C ↦ λ e f a. a ]
+      ];
+      clones = λ x y h. Prim.search rules;
     } };
 }
 

@@ -1,8 +1,8 @@
 //! The worked example of reordering.
+use comemo_base::InsertError;
+use comemo_settled::Settled;
 use comemo_settled_samples::letters::Letter::{self, A, B, C};
 use comemo_settled_samples::letters::{Letters, insert};
-use comemo_settled::Settled;
-use comemo_base::InsertError;
 use std::alloc::{AllocError, Global};
 use std::test::Fail;
 
