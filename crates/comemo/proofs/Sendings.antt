@@ -50,3 +50,8 @@ breaks_at_once starts s u all spoiled = record { front = []; rest = all; parts =
 pub on_err : {T E P : Type 0} (r : Result T E) → P → OnErr r P
 on_err (Ok x) p = tt
 on_err (Err e) p = p
+
+-- what ended with an output ended as that output's
+pub ended_so : {T X E F : Type 0} {P : T → X → Type 0} (output : T) (ran : Result T E) → ran ≡ Ok output → (r : Result X F) → IfOk r (P output) → IfOk r (λ x. (o : T) × (ran ≡ Ok o) × P o x)
+ended_so output ran is (Ok x) p = (output, is, p)
+ended_so output ran is (Err e) p = tt

@@ -1,7 +1,16 @@
 use Rattle.std.proofs.Common.{refl}
-use Rattle.comemo.proofs.Sendings.{breaks_at_once}
+use Rattle.comemo.proofs.Sendings.{breaks_at_once, ended_so}
 use Rattle.comemo.proofs.Endings.{broken_itself}
 use Rattle.comemo.proofs.pending.Pending.end.Goals as goal
 
 pub returns-in-Err-clause-err : goal.returns-in-Err-clause-err
 returns-in-Err-clause-err g c = (refl, broken_itself g.met.M.Call.Eq.laws g.met.M.Answer.Eq.laws c.args.self.recording.pairs (breaks_at_once g.met.S.Sink.starts _ _ _ c.give_up.ensures))
+
+pub finish-requires : goal.finish-requires
+finish-requires g c = c.requires c.in-Ok.output c.in-Ok.is
+
+pub returns-in-Ok-clause-finished : goal.returns-in-Ok-clause-finished
+returns-in-Ok-clause-finished g c = ended_so c.in-Ok.output c.args.ran c.in-Ok.is c.finish.result c.finish.ensures.finished
+
+pub returns-in-Ok-clause-incomplete : goal.returns-in-Ok-clause-incomplete
+returns-in-Ok-clause-incomplete g c = rw c.in-Ok.is c.finish.ensures.incomplete
