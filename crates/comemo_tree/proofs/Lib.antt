@@ -1,5 +1,6 @@
 pub mod Passes
 pub mod Pruned
+pub mod Whole
 pub mod Rising
 pub mod Empty
 pub mod Forest

@@ -209,6 +209,17 @@ module _ {K C R T S : Type 0} {eqk : K → K → Bool} (keys : IsEquivalence eqk
           let b : has_node inner leaves s.first ≡ true = ap (has_node inner leaves) one ∙ t in
           ap (option_map (λ (s : Start K). s.first)) (get_kept key ∙ ap (option_filter (λ (s : Start K). has_node inner leaves s.first)) f ∙ ap (λ x. cond x (Some s) None) b) ∙ two
 
+-- ---- the paths of the leaves that stay
+module _ {C R : Type 0} {eq : C → C → Bool} {same : R → R → Bool} {K T S : Type 0} {eqk : K → K → Bool} {inner : slab.Slab (InnerNode C R)} {before : slab.Slab (LeafNode K T)} {starts : HashMap K (Start K) S} (forest : IsForest eq same eqk None inner before starts) (leaves : slab.Slab (LeafNode K T)) (of : AreOf before leaves) where
+  -- before anything is pruned they are as they were
+  pub led_was : (at : ℕ) (leaf : LeafNode K T) → slab.get leaves at ≡ Some leaf → LeadsFrom inner eqk starts (arc_value leaf.key) (path_of inner at leaf) (Leaf at) × HasDistinctCalls eq (path_of inner at leaf)
+  led_was at leaf is =
+      let w = of.was at leaf is in
+      let path : path_of inner at w.0 ≡ path_of inner at leaf = ap (λ n. (origin inner n (Leaf at) w.0.parent).1) (sym w.4) ∙ ap (λ o. (origin inner leaf.depth (Leaf at) o).1) (sym w.3) in (
+        subst (λ ps. LeadsFrom inner eqk starts (arc_value leaf.key) ps (Leaf at)) path (subst (λ k. LeadsFrom inner eqk starts k (path_of inner at w.0) (Leaf at)) (ap arc_value (sym w.2)) (forest.led at w.0 w.1)),
+        subst (λ ps. HasDistinctCalls eq ps) path (forest.distinct at w.0 w.1),
+      )
+
 -- ---- the tree stands
 module _ {C R : Type 0} {eq : C → C → Bool} {same : R → R → Bool} {K T S : Type 0} {eqk : K → K → Bool} (keys : IsEquivalence eqk) {inner : slab.Slab (InnerNode C R)} {before : slab.Slab (LeafNode K T)} {starts : HashMap K (Start K) S} (forest : IsForest eq same eqk None inner before starts) (leaves : slab.Slab (LeafNode K T)) (of : AreOf before leaves) (inner' : slab.Slab (InnerNode C R)) (pruned : IsPruned inner inner' leaves) (starts' : HashMap K (Start K) S) (unique : hash.IsUnique eqk starts) (entries : starts'.entries ≡ filter (λ e. has_node inner' leaves e.1.first) starts.entries) where
   -- a node that is there is where it was
@@ -270,21 +281,12 @@ module _ {C R : Type 0} {eq : C → C → Bool} {same : R → R → Bool} {K T S
       let one : leaf ≡ k.1.0 = cc in
       ap (λ (x : LeafNode K T). path_of inner' at x) one ∙ ap (λ n. (origin inner' n (Leaf at) k.1.0.parent).1) k.1.3 ∙ ap (λ o. (origin inner' (length ps) (Leaf at) o).1) k.1.2 ∙ ap (λ (x : Node × List (C × R)). x.1) k.2
 
-  -- each path stays
-  led_was : (at : ℕ) (leaf : LeafNode K T) → slab.get leaves at ≡ Some leaf → LeadsFrom inner eqk starts (arc_value leaf.key) (path_of inner at leaf) (Leaf at) × HasDistinctCalls eq (path_of inner at leaf)
-  led_was at leaf is =
-      let w = of.was at leaf is in
-      let path : path_of inner at w.0 ≡ path_of inner at leaf = ap (λ n. (origin inner n (Leaf at) w.0.parent).1) (sym w.4) ∙ ap (λ o. (origin inner leaf.depth (Leaf at) o).1) (sym w.3) in (
-        subst (λ ps. LeadsFrom inner eqk starts (arc_value leaf.key) ps (Leaf at)) path (subst (λ k. LeadsFrom inner eqk starts k (path_of inner at w.0) (Leaf at)) (ap arc_value (sym w.2)) (forest.led at w.0 w.1)),
-        subst (λ ps. HasDistinctCalls eq ps) path (forest.distinct at w.0 w.1),
-      )
-
   leaf_there : (at : ℕ) (leaf : LeafNode K T) → slab.get leaves at ≡ Some leaf → has_node inner' leaves (Leaf at) ≡ true
   leaf_there at leaf is = ap is_some is
 
   path_kept : (at : ℕ) (leaf : LeafNode K T) → slab.get leaves at ≡ Some leaf → path_of inner' at leaf ≡ path_of inner at leaf
   path_kept at leaf is =
-      path_led (arc_value leaf.key) (path_of inner at leaf) at leaf (leads_from_kept (arc_value leaf.key) (path_of inner at leaf) (Leaf at) (led_was at leaf is).0 (leaf_there at leaf is)) is
+      path_led (arc_value leaf.key) (path_of inner at leaf) at leaf (leads_from_kept (arc_value leaf.key) (path_of inner at leaf) (Leaf at) (led_was forest leaves of at leaf is).0 (leaf_there at leaf is)) is
 
   pub IsForest-pruned : IsForest eq same eqk None inner' leaves starts'
   IsForest-pruned = record {
@@ -294,9 +296,9 @@ module _ {C R : Type 0} {eq : C → C → Bool} {same : R → R → Bool} {K T S
     start = start';
     shared = λ key start e. forest.shared key start (start_was keys inner' leaves starts starts' unique entries key start e).0;
     apart = λ k l first e f. forest.apart k l first (first_was keys inner' leaves starts starts' unique entries k first e).0 (first_was keys inner' leaves starts starts' unique entries l first f).0;
-    led = λ at leaf is. subst (λ ps. LeadsFrom inner' eqk starts' (arc_value leaf.key) ps (Leaf at)) (sym (path_kept at leaf is)) (leads_from_kept (arc_value leaf.key) (path_of inner at leaf) (Leaf at) (led_was at leaf is).0 (leaf_there at leaf is));
+    led = λ at leaf is. subst (λ ps. LeadsFrom inner' eqk starts' (arc_value leaf.key) ps (Leaf at)) (sym (path_kept at leaf is)) (leads_from_kept (arc_value leaf.key) (path_of inner at leaf) (Leaf at) (led_was forest leaves of at leaf is).0 (leaf_there at leaf is));
     below = λ at node is. (let a = pruned.grounded at node is in (Leaf a.low, a.pairs, (leads_kept (Inner at) a.pairs (Leaf a.low) a.leads (leaf_there a.low a.leaf a.there)).1, tt));
-    distinct = λ at leaf is. subst (λ ps. HasDistinctCalls eq ps) (sym (path_kept at leaf is)) (led_was at leaf is).1;
+    distinct = λ at leaf is. subst (λ ps. HasDistinctCalls eq ps) (sym (path_kept at leaf is)) (led_was forest leaves of at leaf is).1;
     unmarked = λ at node is. (let w = pruned.was at node is in ap (λ (m : InnerNode C R). m.kept) w.2 ∙ forest.unmarked at w.0 w.1);
   }
 

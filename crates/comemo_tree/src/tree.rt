@@ -314,13 +314,17 @@ impl<K: Eq + Hash, C: Eq + Hash, R: Ord, T> CallTree<K, C, R, T> {
 impl<K: Eq + Hash + Drop, C: Eq + Hash + Drop, R: Ord + Drop, T: Drop> CallTree<K, C, R, T> {
     /// Shows each value to a test, which may change it, and drops the entries that it answers false of.
     ///
-    /// It takes no memory, and time linear in the nodes that the tree has room for; a child that goes from among many costs
-    /// the logarithm of their number at most. comemo's `CallTree::retain`.
+    /// It takes no memory, and time linear in the nodes that the tree has room for, or in the leaves where none goes; a
+    /// child that goes from among many costs the logarithm of their number at most. comemo's `CallTree::retain`.
     pub fn retain<F: Fn(&mut T) -> bool>(&mut self, f: F)
         requires { F.IsAlwaysCallable f }
         ensures { Retains (ReturnsAtMut F.Fn f) self.old self.new }
     {
+        let before = self.leaves.len();
         retain_leaves(&mut self.leaves, f);
+        if self.leaves.len() == before {
+            return;
+        }
         prune(self.alloc, &mut self.inner, &self.leaves);
         retain_starts(&mut self.starts, &self.inner, &self.leaves);
     }
