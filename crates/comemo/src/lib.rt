@@ -34,6 +34,7 @@
 
 pub mod cache;
 pub mod closure;
+pub mod eviction;
 pub mod function;
 pub mod function_mut;
 pub mod parts;
@@ -49,6 +50,7 @@ pub use comemo_track::{
     TrackedMutWith, TrackedWith, Written,
 };
 pub use comemo_tree::CallTree;
+pub use eviction::Caches;
 pub use function::{Function, FunctionOf, MemoOf, Recorder, Told, memoized};
 pub use function_mut::{FunctionMut, FunctionMutOf, MemoOfMut, RecorderMut, ToldMut, memoized_mut};
 pub use pending::{Begun, Fault, How, Invoked, Pending, Reply, begin};
