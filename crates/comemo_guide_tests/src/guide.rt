@@ -1,7 +1,7 @@
 //! The functions at work: which calls ran, and which were answered from the cache. The rows of `bench_rows` have those
 //! that are neither here nor in `writing`.
 
-use comemo::{CacheData, Fault, Function, How, MemoOf, Reply, Top, Track, memoized};
+use comemo::{CacheData, Caches, Fault, Function, How, MemoOf, Reply, Top, Track, memoized};
 use comemo_guide::both_pass::BothPass;
 use comemo_guide::numbers::{DoubleFlat, Flat};
 use comemo_guide::orders::{Both, Either, Exceeds, Turn};
@@ -147,6 +147,24 @@ fn what_a_called_function_asked_counts_for_its_caller(rt: HostRuntime) -> Result
     let small = town(90, 4);
     let fourth = report(alloc, &mut cache, &mut kept, &small)?;
     expect(&rt, fourth, 7, How::Stored);
+    Ok(())
+}
+
+#[test]
+fn caches_of_one_function_are_evicted_together(rt: HostRuntime) -> Result<(), Fail> {
+    let alloc = rt.alloc();
+    let mut cache: CacheData<MemoOf<Report>> = CacheData::new(alloc);
+    let mut kept = (CacheData::new(alloc), CacheData::new(alloc));
+    let warm = town(900, 21);
+    let first = report(alloc, &mut cache, &mut kept, &warm)?;
+    expect(&rt, first, 21, How::Stored);
+    kept.evict_all(1);
+    assert_eq!(rt; kept.0.len(), 1);
+    assert_eq!(rt; kept.1.len(), 1);
+    kept.evict_all(1);
+    assert_eq!(rt; kept.0.len(), 0);
+    assert_eq!(rt; kept.1.len(), 0);
+    assert_eq!(rt; cache.len(), 1);
     Ok(())
 }
 
