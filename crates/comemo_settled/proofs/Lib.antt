@@ -1,0 +1,4 @@
+pub mod Sets
+pub mod Left
+pub mod Runs
+pub mod StepLists

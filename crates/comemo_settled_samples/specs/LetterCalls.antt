@@ -1,0 +1,10 @@
+-- What a function for examples asks.
+use Rattle.std.specs.Prelude.{◌≡◌, ℕ, List, [], ◌∷◌, IsTrue, nat_eq, Bool, true, false, refl}
+use Rattle.comemo_settled_samples.specs.declared.letters.Letter.{Letter}
+use Rattle.comemo_settled_samples.specs.declared.letters.Letter.TheVariants.{A, B, C}
+
+-- A and B are asked, and C too where A is answered 1
+abbrev pub AsksLetter : (Letter → ℕ) → Letter → Type 0
+AsksLetter m A = Unit {0}
+AsksLetter m B = Unit {0}
+AsksLetter m C = IsTrue (nat_eq (m A) 1)

@@ -1,0 +1,62 @@
+//! A function for examples: under every key it asks A and B, in whatever order, and C too where A is answered 1.
+ghost use Rattle.std.specs.Prelude.{◌≢◌, [], nat_eq, IfErr};
+ghost use Rattle.comemo_base.specs.Sequence.{absorbed};
+ghost use Rattle.comemo_base.specs.declared.insertion.InsertError.TheVariants.{MissingCall};
+ghost use Rattle.comemo_settled.specs.Runs.{IsRun};
+ghost use Rattle.comemo_settled_samples.specs.LetterCalls.{AsksLetter};
+ghost use Rattle.comemo_settled_samples.specs.declared.letters.Letter.TheVariants.{A, B, C};
+ghost use Rattle.std.proofs.Common.{rules};
+
+use crate::sequences::sequence_of;
+use comemo_base::InsertError;
+use comemo_settled::{Asks, Settled};
+use std::alloc::Global;
+
+/// A call.
+#[derive(Clone, Copy, Debug, PartialEq, Eq, Hash)]
+pub enum Letter {
+    /// It is asked always.
+    A,
+    /// It is asked always.
+    B,
+    /// It is asked where A is answered 1.
+    C,
+}
+
+/// What the function asks.
+#[derive(Drop)]
+pub struct Letters;
+
+impl Asks for Letters {
+    type Key = u128;
+
+    type Call = Letter;
+
+    type Answer = u128;
+
+    ghost asks = { λ k m c. AsksLetter m c };
+
+    ghost laws = { record {
+      respect = λ k k' m. elim [
+        | A ↦ elim [ A ↦ λ e f a. a | B ↦ λ e f a. tt | C ↦ λ e f a. Prim.search rules ]
+        | B ↦ elim [ A ↦ λ e f a. tt | B ↦ λ e f a. a | C ↦ λ e f a. Prim.search rules ]
+        | C ↦ elim [ A ↦ λ e f a. tt | B ↦ λ e f a. tt | C ↦ λ e f a. a ]
+      ];
+      clones = λ x y h. Prim.search rules;
+    } };
+}
+
+/// Stores a value under the key 0 and the run of the pairs.
+pub fn insert(
+    alloc: Global,
+    tree: &mut Settled<Letters, char>,
+    pairs: Vec<(Letter, u128)>,
+    value: char,
+) -> Result<(), InsertError>
+    requires { IsRun ⟦<Letter as PartialEq>⟧.eq nat_eq (λ m c. AsksLetter m c)
+        (absorbed ⟦<Letter as PartialEq>⟧.eq [] pairs.items) }
+    ensures { IfErr result (λ e. e ≢ MissingCall) }
+{
+    let sequence = sequence_of(alloc, pairs)?;
+    tree.insert(0, sequence, value)
+}

@@ -1,0 +1,5 @@
+//! A function for examples of [`comemo_settled::Settled`], and how its caller shows that what it stores is a run.
+#![tactic(auto)]
+
+pub mod letters;
+pub mod sequences;
