@@ -36,6 +36,7 @@ pub mod cache;
 pub mod closure;
 pub mod function;
 pub mod function_mut;
+pub mod hold;
 pub mod parts;
 pub mod pending;
 pub mod steps;
@@ -51,5 +52,6 @@ pub use comemo_track::{
 pub use comemo_tree::CallTree;
 pub use function::{Function, FunctionOf, MemoOf, Recorder, Told, memoized};
 pub use function_mut::{FunctionMut, FunctionMutOf, MemoOfMut, RecorderMut, ToldMut, memoized_mut};
+pub use hold::Hold;
 pub use pending::{Begun, Fault, How, Invoked, Pending, Reply, begin};
 pub use steps::{Step, StepReply};
