@@ -15,7 +15,7 @@ module _ {E : Type 0} where
   -- P leads from the entries that are told to those that are told then; where none are, from some that the cache had to others
   abbrev pub Leads : Option E → Option E → (E → E → Type 0) → Type 0
   Leads (Some es) (Some es') P = P es es'
-  Leads (Some es) None P = (one : E) × (two : E) × P one two
+  Leads (Some es) None P = (two : E) × P es two
   Leads None after P = (one : E) × (two : E) × P one two
 
   -- so it does, by way of those in between

@@ -5,6 +5,7 @@ use Rattle.comemo.proofs.Sendings.{on_err, breaks_at_once}
 use Rattle.comemo.proofs.Calls.{run_seen, reply_by_done_hit, reply_by_done_run, stopped_as, broke_at_begin, broke_by_run, on_fault}
 use Rattle.comemo.proofs.RecordersMut.{done_at}
 use Rattle.comemo.proofs.Closures.{mapped, mapped_by, mapped_err}
+use Rattle.comemo.proofs.Holding.{some_held, some_led, stayed, led_by, led_from, leads_same, leads_map}
 use Rattle.comemo.proofs.function_mut.memoized_mut.Goals as goal
 
 pub end-requires : goal.end-requires
