@@ -96,7 +96,7 @@ module _ {K C R O : Type 0} (M : Meaning K C R O) (calls : IsEquivalence M.same_
 
 -- so it is after a call by any holder
 pub held_keeps : {K C R O : Type 0} (M : Meaning K C R O) → IsEquivalence M.same_call → IsEquivalence M.same_answer → (o mid o' : Option (Entries K C R O)) (call : Invocation K C R) → Respects M.same_call M.same_answer call.answers → (s t : Recording C R) → IsRecorded M.same_answer call.answers s → ((output : O) (writes : List C) → M.def call.key call.answers output writes → writes ≡ []) → {E : Type 0} (X : Type 0) (r : Result (Reply O) E) → IfOk r (λ reply. HeldReply M call o mid (Took M.same_call s t) reply o') → OnErr r (X × BrokeOff M.same_answer call.answers (BreaksOff (Took M.same_call) Spoiled s t)) → IsRecorded M.same_answer call.answers t
-held_keeps M calls answers o mid o' call respects s t before reads X (Ok reply) k e =
+held_keeps M calls answers o mid o' call respects s t before reads {E = E} X (Ok reply) k e =
     let is = some_by o mid o' _ k in
-    called_keeps M calls answers is.0 is.1 is.2 call respects s t before reads X (Ok reply) is.3 e
+    called_keeps M calls answers is.0 is.1 is.2 call respects s t before reads {E = E} X (Ok reply) is.3 e
 held_keeps M calls answers o mid o' call respects s t before reads X (Err x) k e = called_keeps M calls answers [] [] [] call respects s t before reads X (Err x) tt e
