@@ -43,15 +43,16 @@ pub returns-clause-reply : goal.returns-clause-reply
 returns-clause-reply g c =
     let run = rw c.in-Run.is at c.in_ok-output.ensures.run in
     let t = c.run_recorded-ran.result.1 in
-    mapped_by (λ so reply done.
-    let whole = done.2.whole in
+    mapped_by (λ so reply done. led_by (g.H.Hold.entries c.args.cache.now) (g.H.Hold.entries c.args.cache.now) (g.H.Hold.entries c.end.new.cache) _ _ _ (λ es mid es' began fin.
+    let is = run_seen c.pending.view_is began in
+    let whole = fin.whole in
     let did = subst (λ v. Done g.T.Track.wrote g.T.Call.Call.is_write g.T.Answer.PartialEq.eq g.T.Track.answers v c.run_recorded-ran.new.of t.writes) run.1.0 (c.run_recorded-ran.ensures.done whole) in
     reply_by_done_run t is
     (subst (λ v. Agrees g.T.Answer.PartialEq.eq (g.T.Track.answers v) t.pairs) run.1.0 (c.run_recorded-ran.ensures.agrees whole))
     (λ m r a.
     let right = (rw done.1 at c.run_recorded-ran.ensures.right) m (record { whole = whole; respects = r; agrees = a }) in
     g.met.M.Memo.laws.keys c.args.key c.pending.inside.key m done.0 t.writes r is.has_key (subst (λ k. g.M.Memo.def k m done.0 t.writes) run.1.2 right))
-    fin (Done g.T.Track.wrote g.T.Call.Call.is_write g.T.Answer.PartialEq.eq g.T.Track.answers) c.args.of.now c.run_recorded-ran.new.of _ so did) c.end.result (rw run.3 at (rw run.2 at c.end.ensures.finished)) (search rules)
+    fin (Done g.T.Track.wrote g.T.Call.Call.is_write g.T.Answer.PartialEq.eq g.T.Track.answers) c.args.of.now c.run_recorded-ran.new.of _ so did) run.0 done.2) c.end.result (rw (stayed (g.H.Hold.entries c.args.cache.now) (g.H.Hold.entries c.begin-begun.new.cache) run.3) at (rw run.2 at c.end.ensures.finished)) (search rules)
 
 pub returns-clause-reached : goal.returns-clause-reached
 returns-clause-reached g c =
