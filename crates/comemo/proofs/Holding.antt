@@ -49,6 +49,10 @@ module _ {E : Type 0} where
   some_led (Some es) None P h = (es, h.0, h.1)
   some_led None o' P h = h
 
+  -- what follows whichever entries it led between
+  pub of_led : (o o' : Option E) (P : E → E → Type 0) {X : Type 0} → ((es es' : E) → P es es' → X) → Leads o o' P → X
+  of_led o o' P f h = let k = some_led o o' P h in f k.0 k.1 k.2
+
   -- where the entries stay, what holds of them leads from them to themselves
   pub held_leads : (o o' : Option E) (P : E → Type 0) (Q : E → E → Type 0) → Stays o o' → ((es : E) → P es → Q es es) → Held o P → Leads o o' Q
   held_leads (Some es) (Some es') P Q e f h = subst (λ x. Q es x) (sym e) (f es h)

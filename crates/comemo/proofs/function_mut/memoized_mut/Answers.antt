@@ -5,7 +5,7 @@ use Rattle.comemo.proofs.Sendings.{on_err, breaks_at_once}
 use Rattle.comemo.proofs.Calls.{run_seen, reply_by_done_hit, reply_by_done_run, stopped_as, broke_at_begin, broke_by_run, on_fault}
 use Rattle.comemo.proofs.RecordersMut.{done_at}
 use Rattle.comemo.proofs.Closures.{mapped, mapped_by, mapped_err}
-use Rattle.comemo.proofs.Holding.{some_held, some_led, stayed, led_by, led_from, leads_same, leads_map}
+use Rattle.comemo.proofs.Holding.{some_held, some_led, of_led, stayed, led_by, led_from, leads_same, leads_map}
 use Rattle.comemo.proofs.function_mut.memoized_mut.Goals as goal
 
 pub end-requires : goal.end-requires
@@ -18,8 +18,7 @@ end-requires g c =
 
 pub returns-in-Hit-clause-right : goal.returns-in-Hit-clause-right
 returns-in-Hit-clause-right g c =
-    let hit = (some_led (g.H.Hold.entries c.args.cache.now) (g.H.Hold.entries c.begin-begun.new.cache) _ (rw c.in-Hit.is at c.in_ok-output.ensures.hit)).2.0 in
-    (hit.writes, hit.right, done_at (Done g.T.Track.wrote g.T.Call.Call.is_write g.T.Answer.PartialEq.eq g.T.Track.answers) c.args.of.now c.begin-begun.new.input.value.now _ hit.writes (search rules) hit.are_done.0)
+    of_led (g.H.Hold.entries c.args.cache.now) (g.H.Hold.entries c.begin-begun.new.cache) _ (λ es es' found. (found.0.writes, found.0.right, done_at (Done g.T.Track.wrote g.T.Call.Call.is_write g.T.Answer.PartialEq.eq g.T.Track.answers) c.args.of.now c.begin-begun.new.input.value.now _ found.0.writes (search rules) found.0.are_done.0)) (rw c.in-Hit.is at c.in_ok-output.ensures.hit)
 
 pub returns-in-Hit-clause-reply : goal.returns-in-Hit-clause-reply
 returns-in-Hit-clause-reply g c =
