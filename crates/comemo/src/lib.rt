@@ -38,6 +38,7 @@ pub mod function;
 pub mod function_mut;
 pub mod parts;
 pub mod pending;
+pub mod recursive;
 pub mod steps;
 
 pub use cache::{CacheData, Found, Meant, Memo};
@@ -52,4 +53,5 @@ pub use comemo_tree::CallTree;
 pub use function::{Function, FunctionOf, MemoOf, Recorder, Told, memoized};
 pub use function_mut::{FunctionMut, FunctionMutOf, MemoOfMut, RecorderMut, ToldMut, memoized_mut};
 pub use pending::{Begun, Fault, How, Invoked, Pending, Reply, begin};
+pub use recursive::{Inner, MemoOfRecursive, ReadsAlone, Recursive, Start};
 pub use steps::{Step, StepReply};
