@@ -1,5 +1,5 @@
 -- How pairs go to a sink one after the other.
-use Rattle.std.proofs.Common.{◌≡◌, ◌∙◌, suc, Bool, false, List, [], ◌∷◌, ◌++◌, refl, sym, ap, subst, Result, Ok, Err, OnErr, arith, append_assoc, append-nil}
+use Rattle.std.proofs.Common.{◌≡◌, ◌∙◌, suc, Bool, false, List, [], ◌∷◌, ◌++◌, refl, sym, ap, subst, Result, Ok, Err, IfOk, OnErr, arith, append_assoc, append-nil}
 use Rattle.std.specs.List.{All}
 use Rattle.comemo_track.specs.Sending.{BreaksOff}
 
@@ -52,6 +52,6 @@ on_err (Ok x) p = tt
 on_err (Err e) p = p
 
 -- what ended with an output ended as that output's
-pub ended_so : {T X E F : Type 0} {P : T → X → Type 0} (output : T) (ran : Result T E) → ran ≡ Ok output → (r : Result X F) → IfOk r (P output) → IfOk r (λ x. (o : T) × (ran ≡ Ok o) × P o x)
-ended_so output ran is (Ok x) p = (output, is, p)
-ended_so output ran is (Err e) p = tt
+pub ended_so : {T X E F : Type 0} (P : T → X → Type 0) (output : T) (ran : Result T E) → ran ≡ Ok output → (r : Result X F) → IfOk r (P output) → IfOk r (λ x. (o : T) × (ran ≡ Ok o) × P o x)
+ended_so P output ran is (Ok x) p = (output, is, p)
+ended_so P output ran is (Err e) p = tt
