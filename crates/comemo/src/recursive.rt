@@ -180,21 +180,20 @@ impl<'a, T: Track> Recorder<'a, T> {
             key,
             view: self.view.fork(alloc),
         };
-        match begin(alloc, cache, &mut input, &mut self.recording, true)? {
-            Begun::Hit(output) => Ok(Start::Hit(output)),
-            Begun::Run(pending) => {
-                let Pending {
-                    alloc: _,
-                    key: own,
-                    enabled: _,
-                    recording: _,
-                } = pending;
-                Ok(Start::Run(Inner {
-                    recorder: Recorder::new(alloc, self.view.fork(alloc)),
-                    own,
-                }))
-            }
-        }
+        let pending = match begin(alloc, cache, &mut input, &mut self.recording, true)? {
+            Begun::Hit(output) => return Ok(Start::Hit(output)),
+            Begun::Run(pending) => pending,
+        };
+        let Pending {
+            alloc: _,
+            key: own,
+            enabled: _,
+            recording: _,
+        } = pending;
+        Ok(Start::Run(Inner {
+            recorder: Recorder::new(alloc, self.view.fork(alloc)),
+            own,
+        }))
     }
 
     /// Finishes a run that was started here, with its output, and keeps it.
