@@ -46,7 +46,7 @@ tells_now m x r w agrees a = a.told m (record { whole = a.whole ∙ w; respects 
 
 module _ {K C R O : Type 0} (M : Meaning K C R O) (calls : IsEquivalence M.same_call) (answers : IsEquivalence M.same_answer) (m : C → R) (respects : Respects M.same_call M.same_answer m) {V : Type 0} {s t : Recorded V C R} (before : s.recording.whole ≡ true → Agrees M.same_answer m s.recording.pairs) (pairs : List (C × R)) (writes : List C) (agrees : Agrees M.same_answer m pairs) (gives : Gives M (Took M.same_call s.recording t.recording) pairs writes) where
   -- a call that rests on pairs with which the present answers agree, and which went to the recorder, tells what is right by these
-  pub own_given : (output : O) {P : O → (C → R) → Type 0} → t.value ≡ s.value → ((n : C → R) → Respects M.same_call M.same_answer n → Agrees M.same_answer n pairs → P output n) → TellsOwn (Fits M.same_call M.same_answer) s t (Ok output) P
+  pub own_given : {X : Type 0} (output : X) {P : X → (C → R) → Type 0} → t.value ≡ s.value → ((n : C → R) → Respects M.same_call M.same_answer n → Agrees M.same_answer n pairs → P output n) → TellsOwn (Fits M.same_call M.same_answer) s t (Ok output) P
   own_given output value right =
       let taken = (gives.agreeing m respects).1 agrees in
       record {
@@ -60,3 +60,7 @@ module _ {K C R O : Type 0} (M : Meaning K C R O) (calls : IsEquivalence M.same_
   -- the present answers agree with what the recorder has then
   pub given_agrees : t.recording.whole ≡ true → Agrees M.same_answer m t.recording.pairs
   given_agrees w = still_agrees calls answers m respects gives.given writes gives.are_sent ((gives.agreeing m respects).1 agrees) before w
+
+-- a recorder that took nothing is as it was
+pub same_recorder : {V C R : Type 0} (v : V) {s t : Recording C R} {u : Recorded V C R} → t ≡ s → record { value = v; recording = s } ≡ u → record { value = v; recording = t } ≡ u
+same_recorder v e is = rw e is

@@ -39,7 +39,7 @@ module _ {K C R O : Type 0} (M : Meaning K C R O) (es : Entries K C R O) where
 
   -- a run that came to this was finished: its pairs went to the recorder that started it, and it was stored, or it is said why not
   pub record FinishedAs (sent : List (C × R) → List C → Type 0) (ran : Run K C R O) (es' : Entries K C R O) : Type 0 where
-    pub how : How
-    pub enabled : how ≡ how.Disabled → ⊥
-    pub ends : Ends M es ran how es'
+    pub became : How
+    pub enabled : became ≡ how.Disabled → ⊥
+    pub ends : Ends M es ran became es'
     pub gives : Gives M sent ran.pairs ran.writes
