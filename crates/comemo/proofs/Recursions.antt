@@ -1,5 +1,5 @@
 -- For the authors of functions that call themselves: what their calls tell, and what a recorder keeps on the way.
-use Rattle.std.proofs.Common.{◌≡◌, ◌∙◌, Bool, true, false, List, [], Result, Ok, Err, IfOk, OnErr, IfErr, OnOk, IsErrAnd, refl, sym, subst}
+use Rattle.std.proofs.Common.{◌≡◌, ◌∙◌, Bool, true, false, List, [], ◌++◌, Result, Ok, Err, IfOk, OnErr, IfErr, OnOk, IsErrAnd, refl, sym, ap}
 use Rattle.std.specs.Cmp.{IsEquivalence}
 use Rattle.comemo_base.specs.Answers.{Respects, Agrees}
 use Rattle.comemo_track.specs.Recording.{Recording, Took}
@@ -57,10 +57,13 @@ module _ {K C R O : Type 0} (M : Meaning K C R O) (calls : IsEquivalence M.same_
         fault = tt;
       }
 
-  -- the present answers agree with what the recorder has then
-  pub given_agrees : t.recording.whole ≡ true → Agrees M.same_answer m t.recording.pairs
-  given_agrees w = still_agrees calls answers m respects gives.given writes gives.are_sent ((gives.agreeing m respects).1 agrees) before w
-
 -- a recorder that took nothing is as it was
 pub same_recorder : {V C R : Type 0} (v : V) {s t : Recording C R} {u : Recorded V C R} → t ≡ s → record { value = v; recording = s } ≡ u → record { value = v; recording = t } ≡ u
 same_recorder v e is = rw e is
+
+-- a recorder that took what the present answers agree with, and no writes, keeps what it kept
+pub given_keeps : {K C R O : Type 0} (M : Meaning K C R O) → IsEquivalence M.same_call → IsEquivalence M.same_answer → (m : C → R) → Respects M.same_call M.same_answer m → (s t : Recording C R) → IsRecorded M.same_answer m s → (pairs : List (C × R)) (writes : List C) → Agrees M.same_answer m pairs → writes ≡ [] → Gives M (Took M.same_call s t) pairs writes → IsRecorded M.same_answer m t
+given_keeps M calls answers m respects s t before pairs writes agrees none gives = record {
+  agrees = still_agrees calls answers m respects gives.given writes gives.are_sent ((gives.agreeing m respects).1 agrees) before.agrees;
+  no_writes = gives.are_sent.writes ∙ ap (λ V. V ++ writes) before.no_writes ∙ none;
+}

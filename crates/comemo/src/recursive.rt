@@ -206,24 +206,24 @@ impl<'a, T: Track> Recorder<'a, T> {
         &mut self,
         cache: &mut CacheData<G>,
         key: &G::Key,
-        run: Inner<'_, G::Key, T>,
+        inner: Inner<'_, G::Key, T>,
         output: G::Out,
     ) -> Result<G::Out, Fault>
-        requires own { IsTrue (G.Key.eq key.now run.own) }
-        requires value { run.recorder.value ≡ self.now.value }
-        requires whole { run.recorder.recording.whole ≡ true }
+        requires own { IsTrue (G.Key.eq key.now inner.own) }
+        requires value { inner.recorder.value ≡ self.now.value }
+        requires whole { inner.recorder.recording.whole ≡ true }
         requires right { (m : T.Call → T.Answer)
-            → ⟦<T as Told>⟧.fits run.recorder.recording m → G.def key.now m output [] }
+            → ⟦<T as Told>⟧.fits inner.recorder.recording m → G.def key.now m output [] }
         ensures tells { TellsOwn ⟦<T as Told>⟧.fits self.old self.new result
             (λ out m. G.def key.now m out []) }
         ensures finished { IfOk result (λ out. (out ≡ output)
             × FinishedAs ⟦<G as Meant>⟧.meaning cache.old
             (⟦<T as Told>⟧.took self.old self.new)
-            (run run.entry.own run.entry.recorder.recording.pairs output []) cache.new) }
+            (run inner.entry.own inner.entry.recorder.recording.pairs output []) cache.new) }
         ensures err { IfErr result (λ fault. (fault ≡ Fault.Memory) × (cache.new ≡ cache.old)
             × ⟦<T as Told>⟧.broke_off self.old self.new) }
     {
-        let Inner { recorder, own } = run;
+        let Inner { recorder, own } = inner;
         let Recorder {
             alloc,
             view: _,
