@@ -1,5 +1,5 @@
 -- For the authors of functions that call themselves: what their calls tell, and what a recorder keeps on the way.
-use Rattle.std.proofs.Common.{◌≡◌, ◌∙◌, Bool, true, false, List, [], ◌++◌, Result, Ok, Err, IfOk, OnErr, IfErr, OnOk, IsErrAnd, refl, sym, ap}
+use Rattle.std.proofs.Common.{◌≡◌, ◌∙◌, Bool, true, false, ◌↔◌, List, [], ◌++◌, Result, Ok, Err, IfOk, OnErr, IfErr, OnOk, IsErrAnd, refl, sym, ap, subst}
 use Rattle.std.specs.Cmp.{IsEquivalence}
 use Rattle.comemo_base.specs.Answers.{Respects, Agrees}
 use Rattle.comemo_track.specs.Recording.{Recording, Took}
@@ -67,3 +67,14 @@ given_keeps M calls answers m respects s t before pairs writes agrees none gives
   agrees = still_agrees calls answers m respects gives.given writes gives.are_sent ((gives.agreeing m respects).1 agrees) before.agrees;
   no_writes = gives.are_sent.writes ∙ ap (λ V. V ++ writes) before.no_writes ∙ none;
 }
+
+-- a fault that is no write's, of a run of which nothing is lost
+pub is_memory : {A : Type 0} (f : Fault) {w : Bool} → w ≡ true → (f ≡ fault.Write → ⊥) → (let r : Result A Fault = Err f in r ≡ Err fault.Incomplete) ↔ (w ≡ false) → f ≡ fault.Memory
+is_memory fault.Memory w never is = refl
+is_memory fault.Write w never is = absurd (never refl)
+is_memory fault.Incomplete w never is = let no : true ≡ false = sym w ∙ is.0 refl in cc
+
+-- what holds of a fault, where it is handed on
+pub handed : {A : Type 0} (r : Result A Fault) (f : Fault) → IsErrAnd r (λ x. x ≡ f) → {X : Fault → Type 0} → X f → IfErr r X
+handed (Ok y) f e x = tt
+handed (Err g) f e {X = X} x = subst X (sym e) x
