@@ -75,6 +75,6 @@ is_memory fault.Write w never is = absurd (never refl)
 is_memory fault.Incomplete w never is = let no : true ≡ false = sym w ∙ is.0 refl in cc
 
 -- what holds of a fault, where it is handed on
-pub handed : {A : Type 0} (r : Result A Fault) (f : Fault) → IsErrAnd r (λ x. x ≡ f) → {X : Fault → Type 0} → X f → IfErr r X
-handed (Ok y) f e x = tt
-handed (Err g) f e {X = X} x = subst X (sym e) x
+pub handed : {A : Type 0} (r : Result A Fault) (f : Fault) → IsErrAnd r (λ x. x ≡ f) → (X : Fault → Type 0) → X f → IfErr r X
+handed (Ok y) f e X x = tt
+handed (Err g) f e X x = subst X (sym e) x

@@ -17,7 +17,7 @@ returns-in_err-reply-clause-err g c =
     let whole = ap (λ (s : Recorded _ _ _). s.recording.whole) c.recorder.view_is ∙ c.requires.whole in
     let agrees = subst (λ v. Agrees g.T.Answer.PartialEq.eq (g.T.Track.answers v) c.recorder.inside.recording.pairs) view (c.recorder.invariant.agrees whole) in
     let err = c.in_err-reply.ensures.err in
-    handed c.from_residual.result c.in_err-reply.field-0.0 c.from_residual.ensures.1 (is_memory c.in_err-reply.field-0.0 whole c.in_err-reply.ensures.fault c.in_err-reply.ensures.incomplete, err.0, rw (← c.self.view_is) (broke_at_end (record { same_call = g.T.Call.PartialEq.eq; same_answer = g.T.Answer.PartialEq.eq; same_key = g.G.Key.PartialEq.eq; is_write = g.T.Call.Call.is_write; is_clone = g.G.Out.Clone.is_clone; def = g.G.Memo.def }) m g.met.T.Call.Eq.laws g.met.T.Answer.Eq.laws (g.met.T.Track.alike c.self.inside.view) agrees err.1))
+    handed c.from_residual.result c.in_err-reply.field-0.0 c.from_residual.ensures.1 _ (is_memory c.in_err-reply.field-0.0 whole c.in_err-reply.ensures.fault c.in_err-reply.ensures.incomplete, err.0, rw (← c.self.view_is) (broke_at_end (record { same_call = g.T.Call.PartialEq.eq; same_answer = g.T.Answer.PartialEq.eq; same_key = g.G.Key.PartialEq.eq; is_write = g.T.Call.Call.is_write; is_clone = g.G.Out.Clone.is_clone; def = g.G.Memo.def }) m g.met.T.Call.Eq.laws g.met.T.Answer.Eq.laws (g.met.T.Track.alike c.self.inside.view) agrees err.1))
 
 pub invariant_of-self-2 : goal.invariant_of-self-2
 invariant_of-self-2 g c =
