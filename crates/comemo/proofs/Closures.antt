@@ -23,6 +23,10 @@ pub mapped : {A E : Type 0} {P Q : A → Type 0} → ((a : A) → P a → Q a) �
 mapped f (Ok a) p = f a p
 mapped f (Err e) p = tt
 
+-- the same, with a fact that does not depend on the result
+pub mapped_by : {A E X : Type 0} {P Q : A → Type 0} → (X → (a : A) → P a → Q a) → (r : Result A E) → IfOk r P → X → IfOk r Q
+mapped_by f r p x = mapped (f x) r p
+
 abbrev fault_or : {A : Type 0} → Fault → Result A Fault → Fault
 fault_or d (Ok x) = d
 fault_or d (Err f) = f

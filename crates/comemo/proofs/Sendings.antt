@@ -1,5 +1,5 @@
 -- How pairs go to a sink one after the other.
-use Rattle.std.proofs.Common.{◌≡◌, ◌∙◌, suc, Bool, false, List, [], ◌∷◌, ◌++◌, refl, sym, ap, subst, Result, Ok, Err, OnErr, arith, append_assoc, append-nil}
+use Rattle.std.proofs.Common.{◌≡◌, ◌∙◌, suc, Bool, false, List, [], ◌∷◌, ◌++◌, refl, sym, ap, subst, Result, Ok, Err, IfOk, OnErr, arith, append_assoc, append-nil}
 use Rattle.std.specs.List.{All}
 use Rattle.comemo_track.specs.Sending.{BreaksOff}
 
@@ -50,3 +50,8 @@ breaks_at_once starts s u all spoiled = record { front = []; rest = all; parts =
 pub on_err : {T E P : Type 0} (r : Result T E) → P → OnErr r P
 on_err (Ok x) p = tt
 on_err (Err e) p = p
+
+-- what ended with an output ended as that output's
+pub ended_so : {T X E F : Type 0} (P : T → X → Type 0) (output : T) (ran : Result T E) → ran ≡ Ok output → (r : Result X F) → IfOk r (P output) → IfOk r (λ x. (o : T) × (ran ≡ Ok o) × P o x)
+ended_so P output ran is (Ok x) p = (output, is, p)
+ended_so P output ran is (Err e) p = tt

@@ -139,7 +139,7 @@ impl<M: Memo> Pending<M> {
     /// is spoiled, after it took perhaps a beginning of the recorded pairs.
     ///
     /// It clones each recorded pair, each write and the output once, sends the pairs to the sink and then the writes,
-    /// and stores as `CacheData::store` does; with `enabled` false it sends them alone, and clones nothing itself. The
+    /// and stores as `CacheData::store` does; for a sink that keeps nothing it clones the output alone, and with `enabled` false it sends them alone, and clones nothing itself. The
     /// second half of comemo's `memoize`.
     pub fn finish<S: Sink<Call = M::Call, Answer = M::Answer>>(
         self,
@@ -385,7 +385,31 @@ fn keep<M: Memo>(
     }
 }
 
+/// Keeps a run in a cache with a clone of its output, and says what became of it.
+fn keep_copy<M: Memo>(
+    cache: &mut CacheData<M>,
+    key: M::Key,
+    reads: CallSequence<M::Call, M::Answer>,
+    output: &M::Out,
+    writes: Vec<M::Call>,
+) -> How
+    requires reads { All (λ p. M.Call.is_write p.0 ≡ false) reads.pairs }
+    requires written { All (λ c. M.Call.is_write c ≡ true) writes.items }
+    requires stands { Stands ⟦<M as Meant>⟧.meaning
+        (run key reads.pairs output.now writes.items) }
+    ensures ends { Ends ⟦<M as Meant>⟧.meaning cache.old
+        (run key reads.pairs output.now writes.items) result cache.new }
+    ensures enabled { result ≡ How.Disabled → ⊥ }
+{
+    let Ok(kept) = output.clone() else {
+        return How::NotStored;
+    };
+    keep(cache, key, reads, kept, writes)
+}
+
 /// Gives a run's pairs and writes to a sink and keeps it in a cache, and says what became of it.
+///
+/// It clones pairs and writes only for a sink that keeps them.
 fn end_run<M: Memo, S: Sink<Call = M::Call, Answer = M::Answer>>(
     alloc: Global,
     cache: &mut CacheData<M>,
@@ -409,6 +433,9 @@ fn end_run<M: Memo, S: Sink<Call = M::Call, Answer = M::Answer>>(
         × BreaksOffRun ⟦<M as Meant>⟧.meaning
         (⟦<S as Breaking>⟧.breaks_off sink.old sink.new) reads.pairs) }
 {
+    if sink.keeps_nothing() {
+        return Ok(keep_copy(cache, key, reads, output, writes));
+    }
     let Ok((pairs, kept, copies)) = copy_run::<M>(alloc, &reads, output, &writes) else {
         give_recording(reads, writes, sink)?;
         return Ok(How::NotStored);

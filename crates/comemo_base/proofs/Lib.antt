@@ -2,6 +2,7 @@ pub mod Bytes
 pub mod Short
 pub mod Whole
 pub mod Keeps
+pub mod Behind
 pub mod Slots
 pub mod Absorbed
 pub mod Under

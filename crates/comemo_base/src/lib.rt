@@ -28,6 +28,7 @@
 
 pub mod hashing;
 pub mod insertion;
+pub(crate) mod places;
 pub mod plain;
 pub mod sequence;
 pub mod sip;

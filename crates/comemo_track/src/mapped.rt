@@ -143,6 +143,10 @@ impl<'a, S: Sink<Call = M::To, Answer = M::ToAnswer>, M: CallMap> Sink for Mappe
     fn spoil(&mut self) {
         self.sink.spoil();
     }
+
+    fn keeps_nothing(&self) -> bool {
+        self.sink.keeps_nothing()
+    }
 }
 
 impl<'a, T: Track> Tracked<'a, T> {

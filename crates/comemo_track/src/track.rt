@@ -97,6 +97,17 @@ pub trait Sink {
     fn spoil(&mut self)
         ensures { spoils self.old self.new };
 
+    /// Whether the sink is the same whatever it takes, so that a caller need not make clones for it.
+    ///
+    /// A sink that keeps what it takes need not say so. This project's own.
+    fn keeps_nothing(&self) -> bool
+        ensures { IsTrue result
+            → (P : List (Self.Call × Self.Answer)) (W : List Self.Call)
+            → took self.now self.now P W }
+    {
+        false
+    }
+
     // nothing taken is nothing done
     ghost starts: { (s : Self) → took s s [] [] };
 
@@ -198,6 +209,10 @@ impl<S: Sink> Sink for &mut S {
     fn spoil(&mut self) {
         (**self).spoil();
     }
+
+    fn keeps_nothing(&self) -> bool {
+        (**self).keeps_nothing()
+    }
 }
 
 /// A sink that keeps nothing, for calls that no memoized function stands around. It takes no memory and refuses
@@ -259,6 +274,12 @@ impl<C: Call, R: Clone + Ord> Sink for Top<C, R> {
     }
 
     fn spoil(&mut self) {}
+
+    fn keeps_nothing(&self) -> bool
+        ensures { result ≡ true }
+    {
+        true
+    }
 }
 
 /// A value whose calls are tracked.

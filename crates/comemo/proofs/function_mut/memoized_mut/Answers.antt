@@ -4,7 +4,7 @@ use Rattle.comemo_track.specs.Writing.{Done}
 use Rattle.comemo.proofs.Sendings.{on_err, breaks_at_once}
 use Rattle.comemo.proofs.Calls.{run_seen, reply_by_done_hit, reply_by_done_run, stopped_as, broke_at_begin, broke_by_run, on_fault}
 use Rattle.comemo.proofs.RecordersMut.{done_at}
-use Rattle.comemo.proofs.Closures.{mapped, mapped_err}
+use Rattle.comemo.proofs.Closures.{mapped, mapped_by, mapped_err}
 use Rattle.comemo.proofs.function_mut.memoized_mut.Goals as goal
 
 pub end-requires : goal.end-requires
@@ -42,7 +42,7 @@ returns-clause-reply g c =
     let run = rw c.in-Run.is at c.in_ok-output.ensures.run in
     let is = run_seen c.pending.view_is run.0 in
     let t = c.run_recorded-ran.result.1 in
-    mapped (λ reply done.
+    mapped_by (λ so reply done.
     let whole = done.2.whole in
     let did = subst (λ v. Done g.T.Track.wrote g.T.Call.Call.is_write g.T.Answer.PartialEq.eq g.T.Track.answers v c.run_recorded-ran.new.of t.writes) run.1.0 (c.run_recorded-ran.ensures.done whole) in
     reply_by_done_run t is
@@ -50,7 +50,7 @@ returns-clause-reply g c =
     (λ m r a.
     let right = (rw done.1 at c.run_recorded-ran.ensures.right) m (record { whole = whole; respects = r; agrees = a }) in
     g.met.M.Memo.laws.keys c.args.key c.pending.inside.key m done.0 t.writes r is.has_key (subst (λ k. g.M.Memo.def k m done.0 t.writes) run.1.2 right))
-    done.2 (Done g.T.Track.wrote g.T.Call.Call.is_write g.T.Answer.PartialEq.eq g.T.Track.answers) c.args.of.now c.run_recorded-ran.new.of _ (search rules) did) c.end.result (rw run.3 at (rw run.2 at c.end.ensures.finished))
+    done.2 (Done g.T.Track.wrote g.T.Call.Call.is_write g.T.Answer.PartialEq.eq g.T.Track.answers) c.args.of.now c.run_recorded-ran.new.of _ so did) c.end.result (rw run.3 at (rw run.2 at c.end.ensures.finished)) (search rules)
 
 pub returns-clause-reached : goal.returns-clause-reached
 returns-clause-reached g c =

@@ -24,3 +24,9 @@ returns-clause-gives g c = given g.met.M.Call.Eq.laws g.met.M.Answer.Eq.laws _ c
 
 pub returns-in_err-give_run-clause-err : goal.returns-in_err-give_run-clause-err
 returns-in_err-give_run-clause-err g c = on_err c.from_residual-in_err-give_run.result (refl, record { given = _; alike = c.in-Ok.ensures.pairs; is_broken = c.in_err-give_run.ensures.err })
+
+pub returns-then-keeps_nothing-clause-gives : goal.returns-then-keeps_nothing-clause-gives
+returns-then-keeps_nothing-clause-gives g c = gives_itself g.met.M.Call.Eq.laws g.met.M.Answer.Eq.laws c.args.reads.pairs c.args.writes.items (c.keeps_nothing.ensures c.if-keeps_nothing.true c.args.reads.pairs c.args.writes.items).0
+
+pub keep-requires-clause-written : goal.keep-requires-clause-written
+keep-requires-clause-written g c = c.in-Ok.ensures.written c.requires.written

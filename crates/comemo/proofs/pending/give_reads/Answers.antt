@@ -1,5 +1,5 @@
 use Rattle.std.proofs.Common.{sym}
-use Rattle.comemo.proofs.Sendings.{reads_left, head_read, takes_more, took_all, breaks}
+use Rattle.comemo.proofs.Sendings.{reads_left, head_read, takes_more, took_all, took_none, breaks}
 use Rattle.comemo.proofs.pending.give_reads.Goals as goal
 
 pub emit-requires : goal.emit-requires
@@ -21,3 +21,6 @@ returns-clause-ok g c = took_all _ _ _ _ c.in_default.ensures.pairs.0 c.loop-rea
 
 pub returns-in_default-emit-clause-err : goal.returns-in_default-emit-clause-err
 returns-in_default-emit-clause-err g c = breaks g.met.S.Sink.joins _ _ _ _ _ _ c.loop-read.invariant.so_far c.in_default-emit.ensures.err c.spoil.ensures
+
+pub loop-read-init : goal.loop-read-init
+loop-read-init g c = record { reads = c.requires; so_far = took_none g.met.S.Sink.starts _ _ }

@@ -1,0 +1,124 @@
+//! Where the calls of a sequence lie: in a list while they are few, and those that come later in a map.
+ghost use Rattle.std.specs.Prelude.{◌≡◌, ◌≤◌, ◌<◌, ◌+◌, [], None, true, false, length, IsOk, OnOk, OnErr, MatchOption};
+ghost use Rattle.std.specs.List.{All, AllWithin, HoldsAt};
+ghost use Rattle.comemo_base.specs.Slots.{place_of, PutsAt, KeepsBut};
+
+use std::alloc::{AllocError, Global};
+use std::collections::HashMap;
+use std::hash::Hash;
+use std::marker::Model;
+
+/// How many calls lie in the list.
+///
+/// Most runs ask few calls. The first entry of a map asks for memory three times, and each call would be hashed, where a
+/// list asks once, and a comparison of calls is mostly that of a word or two.
+const FEW: usize = 8;
+
+/// The place of each call that was ever seen. No two of the calls are equal.
+#[derive(Drop)]
+pub(crate) struct Places<C: Eq + Hash> {
+    // The first calls, of which each is compared.
+    few: Vec<(C, usize)>,
+    // Those that came when the list was full.
+    many: HashMap<C, usize>,
+}
+
+impl<C: Eq + Hash> Model for Places<C> {
+    ghost use Rattle.std.specs.Prelude.{◌++◌, vec_len, vec_capacity};
+    ghost use Rattle.std.specs.HashMap.{spare};
+    ghost use Rattle.comemo_base.specs.Slots.{Places as Kept, places_code, room_of};
+
+    ghost Value = { Kept C };
+
+    ghost coded = { places_code C.code };
+
+    ghost view = { λ s. record {
+      entries = s.few.items ++ s.many.entries;
+      room = room_of (vec_len s.few) (vec_capacity s.few) (spare s.many);
+    } };
+}
+
+/// Where in a list a call stands.
+fn position<C: Eq>(list: &[(C, usize)], call: &C) -> Option<usize>
+    ensures { MatchOption result (All (λ e. C.eq call.now e.0 ≡ false) list.now)
+        (λ at. (at < length list.now) × AllWithin (λ e. C.eq call.now e.0 ≡ false) list.now 0 at
+        × HoldsAt (λ e. C.eq call.now e.0 ≡ true) list.now at) }
+{
+    for (at, entry) in list.iter().enumerate() {
+        if *call == entry.0 {
+            return Some(at);
+        }
+    }
+    None
+}
+
+impl<C: Eq + Hash> Places<C> {
+    /// No places. It takes no memory.
+    pub(crate) fn new(alloc: Global) -> Self
+        ensures { result.entries ≡ [] }
+    {
+        Places {
+            few: Vec::new(alloc),
+            many: HashMap::new(alloc),
+        }
+    }
+
+    /// The place of a call, or `None` where it was never seen. It takes constant expected time.
+    pub(crate) fn get(&self, call: &C) -> Option<usize>
+        ensures { result ≡ place_of C.eq self.now call.now }
+    {
+        if let Some(at) = position(self.few.as_slice(), call) {
+            return Some(self.few[at].1);
+        }
+        if self.many.is_empty() {
+            return None;
+        }
+        self.many.get(call).copied()
+    }
+
+    /// Makes room for more calls, so that to put them takes no memory.
+    pub(crate) fn reserve(&mut self, more: usize) -> Result<(), AllocError>
+        ensures same { (call : C) → place_of C.eq self.new call ≡ place_of C.eq self.old call }
+        ensures room { OnOk result (more ≤ self.new.room) }
+        ensures err { OnErr result (self.new.entries ≡ self.old.entries) }
+    {
+        let free = FEW.saturating_sub(self.few.len());
+        self.few.reserve(free)?;
+        self.many.reserve(more.saturating_sub(free))
+    }
+
+    /// Puts a call that was never seen at a place. Where there is no memory it answers `AllocError`, and no place
+    /// changes.
+    pub(crate) fn insert(&mut self, call: C, place: usize) -> Result<(), AllocError>
+    where
+        C: Drop,
+        requires new { place_of C.eq self.old call ≡ None }
+        ensures put { OnOk result (PutsAt C.eq call place self.old self.new) }
+        ensures room { self.old.room ≤ self.new.room + 1 }
+        ensures succeeds { 0 < self.old.room → IsOk result }
+        ensures err { OnErr result (self.new.entries ≡ self.old.entries) }
+    {
+        let len = self.few.len();
+        if len < FEW {
+            self.few.reserve(FEW - len)?;
+            self.few.push_reserved((call, place));
+            return Ok(());
+        }
+        self.many.insert(call, place)?;
+        Ok(())
+    }
+
+    /// Takes out the place of a call, and gives the call that stood there. Other places stay.
+    pub(crate) fn take(&mut self, call: &C) -> Option<C>
+        ensures found { MatchOption result (place_of C.eq self.old call.now ≡ None)
+            (λ known. C.eq call.now known ≡ true) }
+        ensures others { KeepsBut C.eq call.now self.old self.new }
+    {
+        if let Some(at) = position(self.few.as_slice(), call) {
+            let (known, _) = self.few.remove(at);
+            return Some(known);
+        }
+        let (known, _) = self.many.remove_entry(call)?;
+        Some(known)
+    }
+}
