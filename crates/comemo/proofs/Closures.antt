@@ -2,7 +2,7 @@
 use Rattle.std.proofs.Common.{◌≡◌, ◌↔◌, inl, inr, Bool, true, false, List, [], Result, Ok, Err, IfOk, IfErr, OnErr, refl, sym, ap, subst}
 use Rattle.std.specs.Borrow.{MutBor}
 use Rattle.comemo_track.specs.Recording.{Recording}
-use Rattle.comemo.specs.Meaning.{Meaning, Invocation, run}
+use Rattle.comemo.specs.Meaning.{Meaning, Invocation, Run, run}
 use Rattle.comemo.specs.Cache.{Entries, Stands}
 use Rattle.comemo.specs.Begin.{PendingRun, came_to, IsRun, IsBrokenOff}
 use Rattle.comemo.specs.Finish.{Ends, Finished, BreaksOffRun}
@@ -11,6 +11,8 @@ use Rattle.comemo.specs.Closure.{Ran, Ended, IsFault, IsBroken}
 use Rattle.comemo.specs.declared.pending.Fault.{Fault}
 use Rattle.comemo.specs.declared.pending.Fault.TheVariants as fault
 use Rattle.comemo.specs.declared.pending.Reply.{Reply}
+use Rattle.comemo.specs.declared.pending.How.{How}
+use Rattle.comemo.specs.declared.pending.How.TheVariants as how
 
 -- only a spoiled run is incomplete, so that one that is finished was whole
 pub whole_of_ok : {O : Type 0} (r : Result O Fault) (w : Bool) → (r ≡ Err fault.Incomplete) ↔ (w ≡ false) → IfOk r (λ _. w ≡ true)
@@ -68,15 +70,19 @@ module _ {K C R O : Type 0} {M : Meaning K C R O} {es : Entries K C R O} {call :
     left_broken broken after spoils es' (Ok output) has true e (Err g) given_up spoiled b = inl (b.0, inr (output, t, has, e, b.1))
 
     -- what a call gave whose run was finished
-    pub ended : {sent : List (C × R) → List C → Type 0} {output : O} {reply : Reply O} {es' : Entries K C R O} → Ran M es call did recording post input (Ok output) t → Stands M (came_to (recorded begun t) output) → Finished M es (recorded begun t) sent output reply es' → Ended M es call (Ran M es call did recording post input) sent reply.output reply.how es'
-    ended {output = output} {reply = reply} {es' = es'} ran stands done = record {
+    pub ended : {sent : List (C × R) → List C → Type 0} {output : O} {reply : Reply O} {mid es' : Entries K C R O} → Ran M es call did recording post input (Ok output) t → Stands M (came_to (recorded begun t) output) → Finished M mid (recorded begun t) sent output reply es' → Ended M mid call (Ran M es call did recording post input) sent reply.output reply.how es'
+    ended {output = output} {reply = reply} {mid = mid} {es' = es'} ran stands done = record {
       recording = t;
       has_run = subst (λ x. Ran M es call did recording post input (Ok x) t) (sym done.same) ran;
       whole = done.whole;
       own = begun.key;
       has_key = is.has_key;
       stands = subst (λ o. Stands M (run call.key t.pairs o t.writes)) (sym done.same) (stands_at_call is t.pairs output t.writes stands);
-      ends = subst (λ x. Ends M es (run begun.key t.pairs x t.writes) reply.how es') (sym done.same) done.ends;
+      ends = subst (λ x. Ends M mid (run begun.key t.pairs x t.writes) reply.how es') (sym done.same) done.ends;
       disabled = rw (← is.is_enabled) done.disabled;
       gives = done.gives;
     }
+
+-- what a run came to is no hit
+pub no_hit : {K C R O : Type 0} (M : Meaning K C R O) (es es' : Entries K C R O) (ran : Run K C R O) (reply : How) → Ends M es ran reply es' → reply ≡ how.Hit → ⊥
+no_hit M es es' ran reply e h = subst (λ x. Ends M es ran x es') h e

@@ -8,6 +8,7 @@ pub mod PartsAsked
 pub mod Recorders
 pub mod RecordersMut
 pub mod Calls
+pub mod Holding
 pub mod Closures
 pub mod Growing
 pub mod Touching

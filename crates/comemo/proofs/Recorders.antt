@@ -1,5 +1,5 @@
 -- What a recorder knows of its recording.
-use Rattle.std.proofs.Common.{◌≡◌, ◌∙◌, Bool, true, false, List, [], ◌∷◌, ◌++◌, IsTrue, Result, Ok, Err, IfOk, OnErr, IsErr, IsErrAnd, refl, sym, ap}
+use Rattle.std.proofs.Common.{Option, ◌≡◌, ◌∙◌, Bool, true, false, List, [], ◌∷◌, ◌++◌, IsTrue, Result, Ok, Err, IfOk, OnErr, IsErr, IsErrAnd, refl, sym, ap}
 use Rattle.std.specs.Cmp.{IsEquivalence}
 use Rattle.comemo_base.specs.Answers.{Respects, Agrees}
 use Rattle.comemo_base.proofs.Paths.{turned, joined}
@@ -8,6 +8,8 @@ use Rattle.comemo_track.specs.Sending.{Asks, BreaksOff}
 use Rattle.comemo.specs.Meaning.{Meaning, Invocation}
 use Rattle.comemo.specs.Cache.{Entries}
 use Rattle.comemo.specs.Called.{IsReply}
+use Rattle.comemo.specs.Held.{HeldReply}
+use Rattle.comemo.proofs.Holding.{some_by}
 use Rattle.comemo.specs.Finish.{BrokeOff}
 use Rattle.comemo.specs.Function.{Recorded, IsRecorded, Fits, Tells}
 use Rattle.comemo.specs.declared.pending.Fault.{Fault}
@@ -91,3 +93,10 @@ module _ {K C R O : Type 0} (M : Meaning K C R O) (calls : IsEquivalence M.same_
     no_writes = no_more_writes k.gives.given k.writes k.gives.are_sent (reads reply.output k.writes (k.stands call.answers respects k.agrees)) before.no_writes;
   }
   called_keeps s t before reads X (Err x) k e = broken_keeps s t before e.1
+
+-- so it is after a call by any holder
+pub held_keeps : {K C R O : Type 0} (M : Meaning K C R O) → IsEquivalence M.same_call → IsEquivalence M.same_answer → (o mid o' : Option (Entries K C R O)) (call : Invocation K C R) → Respects M.same_call M.same_answer call.answers → (s t : Recording C R) → IsRecorded M.same_answer call.answers s → ((output : O) (writes : List C) → M.def call.key call.answers output writes → writes ≡ []) → {E : Type 0} (X : Type 0) (r : Result (Reply O) E) → IfOk r (λ reply. HeldReply M call o mid (Took M.same_call s t) reply o') → OnErr r (X × BrokeOff M.same_answer call.answers (BreaksOff (Took M.same_call) Spoiled s t)) → IsRecorded M.same_answer call.answers t
+held_keeps M calls answers o mid o' call respects s t before reads {E = E} X (Ok reply) k e =
+    let is = some_by o mid o' _ k in
+    called_keeps M calls answers is.0 is.1 is.2 call respects s t before reads {E = E} X (Ok reply) is.3 e
+held_keeps M calls answers o mid o' call respects s t before reads X (Err x) k e = called_keeps M calls answers [] [] [] call respects s t before reads X (Err x) tt e

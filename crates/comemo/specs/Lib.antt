@@ -5,6 +5,7 @@ pub mod Begin
 pub mod Begun
 pub mod Finish
 pub mod Called
+pub mod Held
 pub mod Found
 pub mod Steps
 pub mod StepLaws

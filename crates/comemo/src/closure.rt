@@ -5,9 +5,11 @@ ghost use Rattle.comemo.specs.Begin.{IsHit};
 ghost use Rattle.comemo_track.specs.Recording.{Recording};
 ghost use Rattle.comemo.specs.Meaning.{run};
 ghost use Rattle.comemo.specs.Cache.{Stands, Touches};
+ghost use Rattle.comemo.specs.Held.{Held, Leads, LeadsBy};
 ghost use Rattle.comemo.specs.Closure.{Starts, Ran, Ended, IsFault, IsBroken};
 
-use crate::cache::{CacheData, Meant, Memo};
+use crate::cache::{Meant, Memo};
+use crate::hold::Hold;
 use crate::pending::{Begun, Fault, How, Invoked, Reply, begin};
 use comemo_track::constraint::Constraint;
 use comemo_track::input::Input;
@@ -65,44 +67,48 @@ impl<C: Call, R: Clone + Ord> Record for Constraint<C, R> {
 /// has age 0. A function that calls itself takes `begin` and `finish` in its place. comemo's `memoize`.
 pub fn memoize<
     M: Memo,
+    H: Hold<M>,
     In: Input<Call = M::Call, Key = M::Key, Answer = M::Answer> + Drop,
     S: Sink<Call = M::Call, Answer = M::Answer>,
     P: Record<Call = M::Call, Answer = M::Answer>,
     F: FnOnce(&mut In, &mut P) -> Result<M::Out, Fault>,
 >(
     alloc: Global,
-    cache: &mut CacheData<M>,
+    cache: &mut H,
     mut input: In,
     sink: &mut S,
     enabled: bool,
     func: F,
 ) -> Result<Reply<M::Out>, Fault>
     requires callable { (i : MutBor In) (p : MutBor P)
-        → Starts ⟦<M as Meant>⟧.meaning cache.now (⟦<In as Invoked>⟧.invoked input enabled)
-        In.did P.recorded input i p
+        → Held (H.entries cache.now) (λ es. Starts ⟦<M as Meant>⟧.meaning es
+        (⟦<In as Invoked>⟧.invoked input enabled) In.did P.recorded input i p)
         → F.pre func i p }
     requires right { (output : M.Out) (t : Recording M.Call M.Answer)
-        → Ran ⟦<M as Meant>⟧.meaning cache.now (⟦<In as Invoked>⟧.invoked input enabled)
-        In.did P.recorded (F.post func) input (Ok output) t
+        → Held (H.entries cache.now) (λ es. Ran ⟦<M as Meant>⟧.meaning es
+        (⟦<In as Invoked>⟧.invoked input enabled)
+        In.did P.recorded (F.post func) input (Ok output) t)
         → t.whole ≡ true
         → Stands ⟦<M as Meant>⟧.meaning (run (In.key_of input) t.pairs output t.writes) }
-    ensures hit { IfOk result (λ reply. reply.how ≡ How.Hit → ((j : In)
-        × IsHit ⟦<M as Meant>⟧.meaning cache.old (⟦<In as Invoked>⟧.invoked input enabled)
+    ensures hit { IfOk result (λ reply. reply.how ≡ How.Hit
+        → Leads (H.entries cache.old) (H.entries cache.new) (λ es es'. ((j : In)
+        × IsHit ⟦<M as Meant>⟧.meaning es (⟦<In as Invoked>⟧.invoked input enabled)
         (In.did input j) (S.took sink.old sink.new) reply.output)
-        × Touches ⟦<M as Meant>⟧.meaning cache.old
-        (⟦<In as Invoked>⟧.invoked input enabled) cache.new) }
+        × Touches ⟦<M as Meant>⟧.meaning es
+        (⟦<In as Invoked>⟧.invoked input enabled) es')) }
     ensures run { IfOk result (λ reply. (reply.how ≡ How.Hit → ⊥)
-        → Ended ⟦<M as Meant>⟧.meaning cache.old (⟦<In as Invoked>⟧.invoked input enabled)
-        (Ran ⟦<M as Meant>⟧.meaning cache.old (⟦<In as Invoked>⟧.invoked input enabled)
+        → LeadsBy (H.entries cache.old) (H.entries cache.old) (H.entries cache.new) (λ es mid es'.
+        Ended ⟦<M as Meant>⟧.meaning mid (⟦<In as Invoked>⟧.invoked input enabled)
+        (Ran ⟦<M as Meant>⟧.meaning es (⟦<In as Invoked>⟧.invoked input enabled)
         In.did P.recorded (F.post func) input)
-        (S.took sink.old sink.new) reply.output reply.how cache.new) }
-    ensures fault { IfErr result (λ fault.
-        IsFault ⟦<M as Meant>⟧.meaning cache.old (⟦<In as Invoked>⟧.invoked input enabled)
-        In.did P.recorded (F.post func) input fault) }
-    ensures err { OnErr result
-        (IsBroken ⟦<M as Meant>⟧.meaning cache.old (⟦<In as Invoked>⟧.invoked input enabled)
+        (S.took sink.old sink.new) reply.output reply.how es')) }
+    ensures fault { IfErr result (λ fault. Held (H.entries cache.old) (λ es.
+        IsFault ⟦<M as Meant>⟧.meaning es (⟦<In as Invoked>⟧.invoked input enabled)
+        In.did P.recorded (F.post func) input fault)) }
+    ensures err { OnErr result (Leads (H.entries cache.old) (H.entries cache.new) (λ es es'.
+        IsBroken ⟦<M as Meant>⟧.meaning es (⟦<In as Invoked>⟧.invoked input enabled)
         In.did P.recorded (F.post func) input (⟦<S as Breaking>⟧.breaks_off sink.old sink.new)
-        (⟦<S as Breaking>⟧.spoiled_after sink.old sink.new) cache.new) }
+        (⟦<S as Breaking>⟧.spoiled_after sink.old sink.new) es')) }
 {
     match begin(alloc, cache, &mut input, sink, enabled)? {
         Begun::Hit(output) => Ok(Reply {

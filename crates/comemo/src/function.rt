@@ -2,13 +2,14 @@
 ghost use Rattle.std.specs.Prelude.{◌≡◌, [], List, true, false, IsTrue, IfOk, IfErr, OnOk, OnErr};
 ghost use Rattle.comemo.specs.Meaning.{invocation, reading};
 ghost use Rattle.comemo.specs.MeaningLaws.{none_alike};
-ghost use Rattle.comemo.specs.Called.{IsReply};
+ghost use Rattle.comemo.specs.Held.{HeldReply, Stays};
 ghost use Rattle.comemo.specs.Finish.{BrokeOff};
 ghost use Rattle.comemo_track.specs.Recording.{Recording, Took, Spoiled};
 ghost use Rattle.comemo_track.specs.Sending.{Asks, BreaksOff};
 ghost use Rattle.comemo.specs.Function.{Recorded, Fits, Tells, Laws};
 
-use crate::cache::{CacheData, Meant, Memo};
+use crate::cache::{Meant, Memo};
+use crate::hold::Hold;
 use crate::pending::{Begun, Fault, How, Reply, begin};
 use comemo_track::constraint::Constraint;
 use comemo_track::input::Keyed;
@@ -144,18 +145,19 @@ impl<'a, T: Track> Recorder<'a, T> {
     /// A fault leaves the other's cache as it was, and the recording is spoiled: the run that is recorded can't be
     /// finished. It costs what `memoized` costs, with the recording as its sink. This project's own: in comemo it is a
     /// call like any.
-    pub fn call<G: FunctionOf<T>>(
+    pub fn call<G: FunctionOf<T>, H: Hold<G>>(
         &mut self,
-        cache: &mut CacheData<G>,
+        cache: &mut H,
         needs: &mut G::Needs,
         key: G::Key,
     ) -> Result<G::Out, Fault>
         ensures tells { Tells ⟦<T as Told>⟧.fits self.old self.new result
             (λ output m. G.def key m output []) }
         ensures reply { IfOk result (λ output. (reply : Reply G.Out) × (reply.output ≡ output)
-            × IsReply ⟦<G as Meant>⟧.meaning (invocation key (T.answers self.old.value) true)
-            cache.old cache.old (⟦<T as Told>⟧.took self.old self.new) reply cache.new) }
-        ensures err { OnErr result ((cache.new ≡ cache.old)
+            × HeldReply ⟦<G as Meant>⟧.meaning (invocation key (T.answers self.old.value) true)
+            (H.entries cache.old) (H.entries cache.old)
+            (⟦<T as Told>⟧.took self.old self.new) reply (H.entries cache.new)) }
+        ensures err { OnErr result (Stays (H.entries cache.old) (H.entries cache.new)
             × ⟦<T as Told>⟧.broke_off self.old self.new) }
     {
         let reply = memoized(
@@ -247,9 +249,14 @@ impl<F: Function> FunctionOf<F::Of> for MemoOf<F> {
 /// `enabled` false there is no look-up, and nothing is kept. A fault leaves the cache as it was and spoils the sink;
 /// what the run did to its needs stays. A hit costs what `begin` costs, any other call what `begin`, the run and
 /// `finish` cost. This project's own: a call of a function under comemo's `#[memoize]`.
-pub fn memoized<M: FunctionOf<T>, T: Track, S: Sink<Call = T::Call, Answer = T::Answer>>(
+pub fn memoized<
+    M: FunctionOf<T>,
+    H: Hold<M>,
+    T: Track,
+    S: Sink<Call = T::Call, Answer = T::Answer>,
+>(
     alloc: Global,
-    cache: &mut CacheData<M>,
+    cache: &mut H,
     needs: &mut M::Needs,
     key: M::Key,
     of: &Tracked<'_, T>,
@@ -257,10 +264,10 @@ pub fn memoized<M: FunctionOf<T>, T: Track, S: Sink<Call = T::Call, Answer = T::
     enabled: bool,
 ) -> Result<Reply<M::Out>, Fault>
     ensures right { IfOk result (λ reply. M.def key (T.answers of.now) reply.output []) }
-    ensures reply { IfOk result (λ reply. IsReply ⟦<M as Meant>⟧.meaning
-        (invocation key (T.answers of.now) enabled) cache.old cache.old
-        (S.took sink.old sink.new) reply cache.new) }
-    ensures err { OnErr result ((cache.new ≡ cache.old)
+    ensures reply { IfOk result (λ reply. HeldReply ⟦<M as Meant>⟧.meaning
+        (invocation key (T.answers of.now) enabled) (H.entries cache.old) (H.entries cache.old)
+        (S.took sink.old sink.new) reply (H.entries cache.new)) }
+    ensures err { OnErr result (Stays (H.entries cache.old) (H.entries cache.new)
         × BrokeOff T.Answer.eq (T.answers of.now)
         (⟦<S as Breaking>⟧.breaks_off sink.old sink.new)) }
 {

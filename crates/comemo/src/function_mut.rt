@@ -1,7 +1,7 @@
 //! The front door of functions that write: a memoized function of a key and a tracked value that its run writes to.
 ghost use Rattle.std.specs.Prelude.{◌≡◌, [], ◌∷◌, ◌++◌, List, true, false, IsTrue, IfOk, IfErr, OnOk, OnErr, ⊤};
 ghost use Rattle.comemo.specs.Meaning.{invocation};
-ghost use Rattle.comemo.specs.Called.{IsReply};
+ghost use Rattle.comemo.specs.Held.{Leads, HeldReply, Stays};
 ghost use Rattle.comemo.specs.Begin.{Reaches};
 ghost use Rattle.comemo.specs.Finish.{BrokeOff};
 ghost use Rattle.comemo.specs.FunctionMut.{Lent, lent, AgreesNow, Goes, TellsMut, LawsMut, IsFailed};
@@ -9,8 +9,9 @@ ghost use Rattle.comemo_base.specs.Answers.{Agrees};
 ghost use Rattle.comemo_track.specs.Recording.{Recording, Took, Spoiled};
 ghost use Rattle.comemo_track.specs.Sending.{Asks, BreaksOff, SpoiledAfter};
 
-use crate::cache::{CacheData, Meant, Memo};
+use crate::cache::{Meant, Memo};
 use crate::function::{FunctionOf, Told, memoized};
+use crate::hold::Hold;
 use crate::pending::{Begun, Fault, How, Reply, begin};
 use comemo_track::constraint::Constraint;
 use comemo_track::input::KeyedMut;
@@ -153,9 +154,9 @@ impl<'a, 'b, T: Track> RecorderMut<'a, 'b, T> {
     /// A fault leaves the other's cache as it was, and the recording is spoiled: the run that is recorded can't be
     /// finished. It costs what `memoized` costs, with the recording as its sink. This project's own: in comemo it is a
     /// call like any.
-    pub fn call<G: FunctionOf<T>>(
+    pub fn call<G: FunctionOf<T>, H: Hold<G>>(
         &mut self,
-        cache: &mut CacheData<G>,
+        cache: &mut H,
         needs: &mut G::Needs,
         key: G::Key,
     ) -> Result<G::Out, Fault>
@@ -168,10 +169,11 @@ impl<'a, 'b, T: Track> RecorderMut<'a, 'b, T> {
             (self.new.recording.now.writes ≡ self.old.recording.now.writes) }
         ensures value { self.new.value ≡ self.old.value }
         ensures reply { IfOk result (λ output. (reply : Reply G.Out) × (reply.output ≡ output)
-            × IsReply ⟦<G as Meant>⟧.meaning (invocation key (T.answers self.old.value.now) true)
-            cache.old cache.old
-            (Took T.Call.eq self.old.recording.now self.new.recording.now) reply cache.new) }
-        ensures err { OnErr result ((cache.new ≡ cache.old)
+            × HeldReply ⟦<G as Meant>⟧.meaning (invocation key (T.answers self.old.value.now) true)
+            (H.entries cache.old) (H.entries cache.old)
+            (Took T.Call.eq self.old.recording.now self.new.recording.now)
+            reply (H.entries cache.new)) }
+        ensures err { OnErr result (Stays (H.entries cache.old) (H.entries cache.new)
             × BrokeOff T.Answer.eq (T.answers self.old.value.now)
             (BreaksOff (Took T.Call.eq) Spoiled self.old.recording.now self.new.recording.now)) }
     {
@@ -185,9 +187,9 @@ impl<'a, 'b, T: Track> RecorderMut<'a, 'b, T> {
     /// A fault spoils the recording: the run that is recorded can't be finished. The writes that were done before it stay
     /// done. It costs what `memoized_mut` costs, with the recording as its sink. This project's own: in comemo it is a
     /// call like any.
-    pub fn call_mut<G: FunctionMutOf<T>>(
+    pub fn call_mut<G: FunctionMutOf<T>, H: Hold<G>>(
         &mut self,
-        cache: &mut CacheData<G>,
+        cache: &mut H,
         needs: &mut G::Needs,
         key: G::Key,
     ) -> Result<G::Out, Fault>
@@ -199,17 +201,18 @@ impl<'a, 'b, T: Track> RecorderMut<'a, 'b, T> {
             × (self.new.recording.now.writes ≡ self.old.recording.now.writes ++ writes)
             × G.def key m output writes) }
         ensures reply { IfOk result (λ output. (reply : Reply G.Out) × (reply.output ≡ output)
-            × IsReply ⟦<G as Meant>⟧.meaning (invocation key (T.answers self.old.value.now) true)
-            cache.old cache.old
+            × HeldReply ⟦<G as Meant>⟧.meaning (invocation key (T.answers self.old.value.now) true)
+            (H.entries cache.old) (H.entries cache.old)
             (λ P W. Took T.Call.eq self.old.recording.now self.new.recording.now P W
             × ⟦<T as Written>⟧.did self.old.value.now self.new.value.now W)
-            reply cache.new) }
-        ensures err { OnErr result (IsFailed ⟦<G as Meant>⟧.meaning cache.old
+            reply (H.entries cache.new)) }
+        ensures err { OnErr result (Leads (H.entries cache.old) (H.entries cache.new) (λ es es'.
+            IsFailed ⟦<G as Meant>⟧.meaning es
             (invocation key (T.answers self.old.value.now) true)
             (⟦<T as Written>⟧.did self.old.value.now self.new.value.now)
             (BreaksOff (Took T.Call.eq) Spoiled self.old.recording.now self.new.recording.now)
             (SpoiledAfter (Took T.Call.eq) Spoiled self.old.recording.now self.new.recording.now)
-            cache.new) }
+            es')) }
     {
         let reply = memoized_mut(
             self.alloc,
@@ -328,9 +331,14 @@ fn run_recorded<M: FunctionMutOf<T>, T: Track>(
 /// of a hit of which the value refused a write, or of the run: the writes before it are done. A hit costs what `begin`
 /// costs, any other call what `begin`, the run and `finish` cost. This project's own: a call of a function under
 /// comemo's `#[memoize]` that takes a `TrackedMut`.
-pub fn memoized_mut<M: FunctionMutOf<T>, T: Track, S: Sink<Call = T::Call, Answer = T::Answer>>(
+pub fn memoized_mut<
+    M: FunctionMutOf<T>,
+    H: Hold<M>,
+    T: Track,
+    S: Sink<Call = T::Call, Answer = T::Answer>,
+>(
     alloc: Global,
-    cache: &mut CacheData<M>,
+    cache: &mut H,
     needs: &mut M::Needs,
     key: M::Key,
     of: &mut T,
@@ -340,16 +348,17 @@ pub fn memoized_mut<M: FunctionMutOf<T>, T: Track, S: Sink<Call = T::Call, Answe
     ensures right { IfOk result (λ reply. (writes : List T.Call)
         × M.def key (T.answers of.old) reply.output writes
         × ⟦<T as Written>⟧.did of.old of.new writes) }
-    ensures reply { IfOk result (λ reply. IsReply ⟦<M as Meant>⟧.meaning
-        (invocation key (T.answers of.old) enabled) cache.old cache.old
+    ensures reply { IfOk result (λ reply. HeldReply ⟦<M as Meant>⟧.meaning
+        (invocation key (T.answers of.old) enabled) (H.entries cache.old) (H.entries cache.old)
         (λ P W. S.took sink.old sink.new P W × ⟦<T as Written>⟧.did of.old of.new W)
-        reply cache.new) }
+        reply (H.entries cache.new)) }
     ensures reached { Reaches ⟦<T as Written>⟧.did of.old of.new }
-    ensures err { OnErr result (IsFailed ⟦<M as Meant>⟧.meaning cache.old
+    ensures err { OnErr result (Leads (H.entries cache.old) (H.entries cache.new) (λ es es'.
+        IsFailed ⟦<M as Meant>⟧.meaning es
         (invocation key (T.answers of.old) enabled)
         (⟦<T as Written>⟧.did of.old of.new)
         (⟦<S as Breaking>⟧.breaks_off sink.old sink.new)
-        (⟦<S as Breaking>⟧.spoiled_after sink.old sink.new) cache.new) }
+        (⟦<S as Breaking>⟧.spoiled_after sink.old sink.new) es')) }
 {
     let mut input = KeyedMut { key, value: of };
     let begun = begin(alloc, cache, &mut input, sink, enabled);

@@ -1,13 +1,14 @@
 //! What a run asks of two tracked values that are one.
 ghost use Rattle.std.specs.Prelude.{◌≡◌, [], true, false, IsTrue, IfOk, IfErr, OnOk, OnErr};
 ghost use Rattle.comemo.specs.Meaning.{invocation};
-ghost use Rattle.comemo.specs.Called.{IsReply};
+ghost use Rattle.comemo.specs.Held.{HeldReply, Stays};
 ghost use Rattle.comemo_track.specs.Sending.{Asks};
 ghost use Rattle.comemo_track.specs.Mapped.{Through};
 ghost use Rattle.comemo.specs.Function.{Tells, OnPart};
 
-use crate::cache::{CacheData, Meant};
+use crate::cache::Meant;
 use crate::function::{FunctionOf, Recorder, Told, memoized};
+use crate::hold::Hold;
 use crate::pending::{Fault, Reply};
 use comemo_track::both::Both;
 use comemo_track::mapped::{CallMap, MappedSink};
@@ -21,11 +22,12 @@ impl<'a, T: Track> Recorder<'a, T> {
     fn call_through<
         A: Track,
         G: FunctionOf<A>,
+        H: Hold<G>,
         P: CallMap<From = A::Call, FromAnswer = A::Answer, To = T::Call, ToAnswer = T::Answer>
             + Drop,
     >(
         &mut self,
-        cache: &mut CacheData<G>,
+        cache: &mut H,
         needs: &mut G::Needs,
         key: G::Key,
         of: &Tracked<'_, A>,
@@ -37,11 +39,11 @@ impl<'a, T: Track> Recorder<'a, T> {
             (λ output m. OnPart (P.maps map) (P.maps_answer map) m
             (λ part. G.def key part output [])) }
         ensures reply { IfOk result (λ output. (reply : Reply G.Out) × (reply.output ≡ output)
-            × IsReply ⟦<G as Meant>⟧.meaning
-            (invocation key (A.answers of.now) true) cache.old cache.old
+            × HeldReply ⟦<G as Meant>⟧.meaning
+            (invocation key (A.answers of.now) true) (H.entries cache.old) (H.entries cache.old)
             (Through (P.maps map) (P.maps_answer map) (⟦<T as Told>⟧.took self.old self.new))
-            reply cache.new) }
-        ensures err { OnErr result ((cache.new ≡ cache.old)
+            reply (H.entries cache.new)) }
+        ensures err { OnErr result (Stays (H.entries cache.old) (H.entries cache.new)
             × ⟦<T as Told>⟧.broke_off self.old self.new) }
     {
         let alloc = self.alloc;
@@ -97,20 +99,20 @@ impl<'a, 'b, A: Track, B: Track> Recorder<'a, Both<'b, A, B>> {
 
     /// Calls a memoized function of the first value, and records what it asked as calls of both. Else it is as `call`.
     /// This project's own.
-    pub fn call_first<G: FunctionOf<A>>(
+    pub fn call_first<G: FunctionOf<A>, H: Hold<G>>(
         &mut self,
-        cache: &mut CacheData<G>,
+        cache: &mut H,
         needs: &mut G::Needs,
         key: G::Key,
     ) -> Result<G::Out, Fault>
         ensures tells { Tells ⟦<Both<'b, A, B> as Told>⟧.fits self.old self.new result
             (λ output m. OnPart first_call first_answer m (λ part. G.def key part output [])) }
         ensures reply { IfOk result (λ output. (reply : Reply G.Out) × (reply.output ≡ output)
-            × IsReply ⟦<G as Meant>⟧.meaning (invocation key (A.answers self.old.value.first) true)
-            cache.old cache.old
+            × HeldReply ⟦<G as Meant>⟧.meaning (invocation key (A.answers self.old.value.first) true)
+            (H.entries cache.old) (H.entries cache.old)
             (Through first_call first_answer
-            (⟦<Both<'b, A, B> as Told>⟧.took self.old self.new)) reply cache.new) }
-        ensures err { OnErr result ((cache.new ≡ cache.old)
+            (⟦<Both<'b, A, B> as Told>⟧.took self.old self.new)) reply (H.entries cache.new)) }
+        ensures err { OnErr result (Stays (H.entries cache.old) (H.entries cache.new)
             × ⟦<Both<'b, A, B> as Told>⟧.broke_off self.old self.new) }
     {
         let first = self.view.first(self.alloc);
@@ -119,20 +121,20 @@ impl<'a, 'b, A: Track, B: Track> Recorder<'a, Both<'b, A, B>> {
 
     /// Calls a memoized function of the second value, and records what it asked as calls of both. Else it is as `call`.
     /// This project's own.
-    pub fn call_second<G: FunctionOf<B>>(
+    pub fn call_second<G: FunctionOf<B>, H: Hold<G>>(
         &mut self,
-        cache: &mut CacheData<G>,
+        cache: &mut H,
         needs: &mut G::Needs,
         key: G::Key,
     ) -> Result<G::Out, Fault>
         ensures tells { Tells ⟦<Both<'b, A, B> as Told>⟧.fits self.old self.new result
             (λ output m. OnPart second_call second_answer m (λ part. G.def key part output [])) }
         ensures reply { IfOk result (λ output. (reply : Reply G.Out) × (reply.output ≡ output)
-            × IsReply ⟦<G as Meant>⟧.meaning (invocation key (B.answers self.old.value.second) true)
-            cache.old cache.old
+            × HeldReply ⟦<G as Meant>⟧.meaning (invocation key (B.answers self.old.value.second) true)
+            (H.entries cache.old) (H.entries cache.old)
             (Through second_call second_answer
-            (⟦<Both<'b, A, B> as Told>⟧.took self.old self.new)) reply cache.new) }
-        ensures err { OnErr result ((cache.new ≡ cache.old)
+            (⟦<Both<'b, A, B> as Told>⟧.took self.old self.new)) reply (H.entries cache.new)) }
+        ensures err { OnErr result (Stays (H.entries cache.old) (H.entries cache.new)
             × ⟦<Both<'b, A, B> as Told>⟧.broke_off self.old self.new) }
     {
         let second = self.view.second(self.alloc);

@@ -10,8 +10,10 @@ ghost use Rattle.comemo_tree.specs.Change.{HasAnswers};
 ghost use Rattle.comemo.specs.Begin.{Reaches, IsHit, IsRun, IsBrokenOff, IsStopped, came_to};
 ghost use Rattle.comemo.specs.Begun.{OnBegun, OnFault};
 ghost use Rattle.comemo.specs.Finish.{Ends, Gives, Finished, BreaksOffRun};
+ghost use Rattle.comemo.specs.Held.{Held, Leads, Stays};
 
-use crate::cache::{CacheData, Found, Meant, Memo};
+use crate::cache::{Found, Meant, Memo};
+use crate::hold::Hold;
 use comemo_base::{CallSequence, InsertError};
 use comemo_track::constraint::Constraint;
 use comemo_track::input::Input;
@@ -141,20 +143,22 @@ impl<M: Memo> Pending<M> {
     /// It clones each recorded pair, each write and the output once, sends the pairs to the sink and then the writes,
     /// and stores as `CacheData::store` does; for a sink that keeps nothing it clones the output alone, and with `enabled` false it sends them alone, and clones nothing itself. The
     /// second half of comemo's `memoize`.
-    pub fn finish<S: Sink<Call = M::Call, Answer = M::Answer>>(
+    pub fn finish<H: Hold<M>, S: Sink<Call = M::Call, Answer = M::Answer>>(
         self,
-        cache: &mut CacheData<M>,
+        cache: &mut H,
         sink: &mut S,
         output: M::Out,
     ) -> Result<Reply<M::Out>, Fault>
         requires { self.recording.whole ≡ true
             → Stands ⟦<M as Meant>⟧.meaning (came_to self output) }
-        ensures finished { IfOk result (λ reply. Finished ⟦<M as Meant>⟧.meaning cache.old self
-            (S.took sink.old sink.new) output reply cache.new) }
+        ensures finished { IfOk result (λ reply.
+            Leads (H.entries cache.old) (H.entries cache.new) (λ es es'.
+            Finished ⟦<M as Meant>⟧.meaning es self
+            (S.took sink.old sink.new) output reply es')) }
         ensures incomplete { (result ≡ Err Fault.Incomplete) ↔ (self.recording.whole ≡ false) }
         ensures fault { IfErr result (λ fault. fault ≡ Fault.Write → ⊥) }
         ensures spoils { self.recording.whole ≡ false → S.spoils sink.old sink.new }
-        ensures err { OnErr result ((cache.new ≡ cache.old)
+        ensures err { OnErr result (Stays (H.entries cache.old) (H.entries cache.new)
             × BreaksOffRun ⟦<M as Meant>⟧.meaning (⟦<S as Breaking>⟧.breaks_off sink.old sink.new)
             self.recording.pairs) }
     {
@@ -181,23 +185,24 @@ impl<M: Memo> Pending<M> {
     /// Ends the run as it went: finishes it with its output, or gives it up with its fault.
     ///
     /// It is as `finish` on an output, and as `give_up` on a fault, which it hands on. This project's own.
-    pub fn end<S: Sink<Call = M::Call, Answer = M::Answer>>(
+    pub fn end<H: Hold<M>, S: Sink<Call = M::Call, Answer = M::Answer>>(
         self,
-        cache: &mut CacheData<M>,
+        cache: &mut H,
         sink: &mut S,
         ran: Result<M::Out, Fault>,
     ) -> Result<Reply<M::Out>, Fault>
         requires { (output : M.Out) → ran ≡ Ok output → self.recording.whole ≡ true
             → Stands ⟦<M as Meant>⟧.meaning (came_to self output) }
         ensures finished { IfOk result (λ reply. (output : M.Out) × (ran ≡ Ok output)
-            × Finished ⟦<M as Meant>⟧.meaning cache.old self
-            (S.took sink.old sink.new) output reply cache.new) }
+            × Leads (H.entries cache.old) (H.entries cache.new) (λ es es'.
+            Finished ⟦<M as Meant>⟧.meaning es self
+            (S.took sink.old sink.new) output reply es')) }
         ensures incomplete { IfOk ran
             (λ _. (result ≡ Err Fault.Incomplete) ↔ (self.recording.whole ≡ false)) }
         ensures write { IfOk ran (λ _. IfErr result (λ fault. fault ≡ Fault.Write → ⊥)) }
         ensures fault { IfErr ran (λ fault. (result ≡ Err fault) × S.spoils sink.old sink.new) }
         ensures spoils { self.recording.whole ≡ false → S.spoils sink.old sink.new }
-        ensures err { OnErr result ((cache.new ≡ cache.old)
+        ensures err { OnErr result (Stays (H.entries cache.old) (H.entries cache.new)
             × BreaksOffRun ⟦<M as Meant>⟧.meaning (⟦<S as Breaking>⟧.breaks_off sink.old sink.new)
             self.recording.pairs) }
     {
@@ -363,8 +368,8 @@ fn give_reads<S: Sink>(
 }
 
 /// Keeps a run in a cache, and says what became of it.
-fn keep<M: Memo>(
-    cache: &mut CacheData<M>,
+fn keep<M: Memo, H: Hold<M>>(
+    cache: &mut H,
     key: M::Key,
     reads: CallSequence<M::Call, M::Answer>,
     output: M::Out,
@@ -373,8 +378,9 @@ fn keep<M: Memo>(
     requires reads { All (λ p. M.Call.is_write p.0 ≡ false) reads.pairs }
     requires written { All (λ c. M.Call.is_write c ≡ true) writes.items }
     requires stands { Stands ⟦<M as Meant>⟧.meaning (run key reads.pairs output writes.items) }
-    ensures ends { Ends (exactly ⟦<M as Meant>⟧.meaning) cache.old
-        (run key reads.pairs output writes.items) result cache.new }
+    ensures ends { Leads (H.entries cache.old) (H.entries cache.new) (λ es es'.
+        Ends (exactly ⟦<M as Meant>⟧.meaning) es
+        (run key reads.pairs output writes.items) result es') }
     ensures enabled { result ≡ How.Disabled → ⊥ }
 {
     match cache.store(key, reads, output, writes) {
@@ -386,8 +392,8 @@ fn keep<M: Memo>(
 }
 
 /// Keeps a run in a cache with a clone of its output, and says what became of it.
-fn keep_copy<M: Memo>(
-    cache: &mut CacheData<M>,
+fn keep_copy<M: Memo, H: Hold<M>>(
+    cache: &mut H,
     key: M::Key,
     reads: CallSequence<M::Call, M::Answer>,
     output: &M::Out,
@@ -397,8 +403,9 @@ fn keep_copy<M: Memo>(
     requires written { All (λ c. M.Call.is_write c ≡ true) writes.items }
     requires stands { Stands ⟦<M as Meant>⟧.meaning
         (run key reads.pairs output.now writes.items) }
-    ensures ends { Ends ⟦<M as Meant>⟧.meaning cache.old
-        (run key reads.pairs output.now writes.items) result cache.new }
+    ensures ends { Leads (H.entries cache.old) (H.entries cache.new) (λ es es'.
+        Ends ⟦<M as Meant>⟧.meaning es
+        (run key reads.pairs output.now writes.items) result es') }
     ensures enabled { result ≡ How.Disabled → ⊥ }
 {
     let Ok(kept) = output.clone() else {
@@ -410,9 +417,9 @@ fn keep_copy<M: Memo>(
 /// Gives a run's pairs and writes to a sink and keeps it in a cache, and says what became of it.
 ///
 /// It clones pairs and writes only for a sink that keeps them.
-fn end_run<M: Memo, S: Sink<Call = M::Call, Answer = M::Answer>>(
+fn end_run<M: Memo, H: Hold<M>, S: Sink<Call = M::Call, Answer = M::Answer>>(
     alloc: Global,
-    cache: &mut CacheData<M>,
+    cache: &mut H,
     sink: &mut S,
     key: M::Key,
     reads: CallSequence<M::Call, M::Answer>,
@@ -423,13 +430,15 @@ fn end_run<M: Memo, S: Sink<Call = M::Call, Answer = M::Answer>>(
     requires written { All (λ c. M.Call.is_write c ≡ true) writes.items }
     requires stands { Stands ⟦<M as Meant>⟧.meaning
         (run key reads.pairs output.now writes.items) }
-    ensures ends { IfOk result (λ how. Ends ⟦<M as Meant>⟧.meaning cache.old
-        (run key reads.pairs output.now writes.items) how cache.new) }
+    ensures ends { IfOk result (λ how.
+        Leads (H.entries cache.old) (H.entries cache.new) (λ es es'.
+        Ends ⟦<M as Meant>⟧.meaning es
+        (run key reads.pairs output.now writes.items) how es')) }
     ensures enabled { IfOk result (λ how. how ≡ How.Disabled → ⊥) }
     ensures gives { OnOk result
         (Gives ⟦<M as Meant>⟧.meaning (S.took sink.old sink.new) reads.pairs writes.items) }
     ensures fault { IfErr result (λ fault. fault ≡ Fault.Memory) }
-    ensures err { OnErr result ((cache.new ≡ cache.old)
+    ensures err { OnErr result (Stays (H.entries cache.old) (H.entries cache.new)
         × BreaksOffRun ⟦<M as Meant>⟧.meaning
         (⟦<S as Breaking>⟧.breaks_off sink.old sink.new) reads.pairs) }
 {
@@ -493,11 +502,12 @@ fn answers_of_aged<M: Memo>(alloc: Global, found: &Found<M>) -> Result<Vec<M::An
 /// first write its entry is touched.
 fn give_found<
     M: Memo,
+    H: Hold<M>,
     In: Input<Call = M::Call, Key = M::Key, Answer = M::Answer>,
     S: Sink<Call = M::Call, Answer = M::Answer>,
 >(
     alloc: Global,
-    cache: &mut CacheData<M>,
+    cache: &mut H,
     key: &M::Key,
     found: Found<M>,
     input: &mut In,
@@ -509,17 +519,17 @@ fn give_found<
     ensures done { OnOk result (In.did input.old input.new found.writes.items) }
     ensures sent { OnOk result (S.took sink.old sink.new found.pairs.items found.writes.items) }
     ensures touched { OnOk result
-        (TouchesFound M.Answer.eq M.Key.eq key.now found.pairs.items found.age
-        cache.old cache.new) }
+        (Leads (H.entries cache.old) (H.entries cache.new)
+        (TouchesFound M.Answer.eq M.Key.eq key.now found.pairs.items found.age)) }
     ensures err { IfErr result (λ fault. OnFault fault
-        ((cache.new ≡ cache.old) × In.did input.old input.new []
+        (Stays (H.entries cache.old) (H.entries cache.new) × In.did input.old input.new []
         × ⟦<S as Breaking>⟧.breaks_off sink.old sink.new found.pairs.items)
         ((front : List M.Call) × (next : M.Call) × (rest : List M.Call)
         × (found.writes.items ≡ front ++ next ∷ rest) × In.did input.old input.new front
         × ⟦<S as Breaking>⟧.spoiled_after sink.old sink.new found.pairs.items front
         × (M.Call.is_write next ≡ true)
-        × TouchesFound M.Answer.eq M.Key.eq key.now found.pairs.items found.age
-        cache.old cache.new)) }
+        × Leads (H.entries cache.old) (H.entries cache.new)
+        (TouchesFound M.Answer.eq M.Key.eq key.now found.pairs.items found.age))) }
 {
     let Ok(answers) = answers_of_aged(alloc, &found) else {
         sink.spoil();
@@ -558,35 +568,38 @@ fn give_found<
 /// the path once more by these. The first half of comemo's `memoize`.
 pub fn begin<
     M: Memo,
+    H: Hold<M>,
     In: Input<Call = M::Call, Key = M::Key, Answer = M::Answer>,
     S: Sink<Call = M::Call, Answer = M::Answer>,
 >(
     alloc: Global,
-    cache: &mut CacheData<M>,
+    cache: &mut H,
     input: &mut In,
     sink: &mut S,
     enabled: bool,
 ) -> Result<Begun<M>, Fault>
     ensures hit { IfOk result (λ b. OnBegun b
-        (λ output. IsHit ⟦<M as Meant>⟧.meaning cache.old
-        (⟦<In as Invoked>⟧.invoked input.old enabled)
+        (λ output. Leads (H.entries cache.old) (H.entries cache.new) (λ es es'.
+        IsHit ⟦<M as Meant>⟧.meaning es (⟦<In as Invoked>⟧.invoked input.old enabled)
         (In.did input.old input.new) (S.took sink.old sink.new) output
-        × Touches ⟦<M as Meant>⟧.meaning cache.old
-        (⟦<In as Invoked>⟧.invoked input.old enabled) cache.new)
+        × Touches ⟦<M as Meant>⟧.meaning es
+        (⟦<In as Invoked>⟧.invoked input.old enabled) es'))
         (λ _. ⊤)) }
     ensures run { IfOk result (λ b. OnBegun b (λ _. ⊤)
-        (λ run. IsRun ⟦<M as Meant>⟧.meaning cache.old
-        (⟦<In as Invoked>⟧.invoked input.old enabled) run
-        × In.did input.old input.new [] × (sink.new ≡ sink.old) × (cache.new ≡ cache.old))) }
+        (λ run. Held (H.entries cache.old) (λ es.
+        IsRun ⟦<M as Meant>⟧.meaning es (⟦<In as Invoked>⟧.invoked input.old enabled) run)
+        × In.did input.old input.new [] × (sink.new ≡ sink.old)
+        × Stays (H.entries cache.old) (H.entries cache.new))) }
     ensures reached { Reaches In.did input.old input.new }
     ensures err { IfErr result (λ fault. OnFault fault
-        ((cache.new ≡ cache.old) × In.did input.old input.new []
-        × IsBrokenOff ⟦<M as Meant>⟧.meaning cache.old (⟦<In as Invoked>⟧.invoked input.old enabled)
-        (⟦<S as Breaking>⟧.breaks_off sink.old sink.new))
-        (Touches ⟦<M as Meant>⟧.meaning cache.old
-        (⟦<In as Invoked>⟧.invoked input.old enabled) cache.new
-        × IsStopped ⟦<M as Meant>⟧.meaning cache.old (⟦<In as Invoked>⟧.invoked input.old enabled)
-        (In.did input.old input.new) (⟦<S as Breaking>⟧.spoiled_after sink.old sink.new))) }
+        (Stays (H.entries cache.old) (H.entries cache.new) × In.did input.old input.new []
+        × Held (H.entries cache.old) (λ es. IsBrokenOff ⟦<M as Meant>⟧.meaning es
+        (⟦<In as Invoked>⟧.invoked input.old enabled)
+        (⟦<S as Breaking>⟧.breaks_off sink.old sink.new)))
+        (Leads (H.entries cache.old) (H.entries cache.new) (λ es es'.
+        Touches ⟦<M as Meant>⟧.meaning es (⟦<In as Invoked>⟧.invoked input.old enabled) es'
+        × IsStopped ⟦<M as Meant>⟧.meaning es (⟦<In as Invoked>⟧.invoked input.old enabled)
+        (In.did input.old input.new) (⟦<S as Breaking>⟧.spoiled_after sink.old sink.new)))) }
 {
     let Ok(key) = input.key() else {
         sink.spoil();
@@ -598,7 +611,6 @@ pub fn begin<
             return Err(Fault::Memory);
         };
         if let Some(found) = looked {
-            cache.is_tree();
             let output = give_found(alloc, cache, &key, found, input, sink)?;
             return Ok(Begun::Hit(output));
         }

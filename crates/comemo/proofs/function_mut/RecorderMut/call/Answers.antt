@@ -3,23 +3,24 @@ use Rattle.comemo_track.specs.WritingLaws.{done_both}
 use Rattle.comemo.proofs.Sendings.{on_err}
 use Rattle.comemo.proofs.Recorders.{not_whole}
 use Rattle.comemo.proofs.RecordersMut.{tells_read, read_writes, tells_failed, read_agrees, spoiled_any}
+use Rattle.comemo.proofs.Holding.{some_by}
 use Rattle.comemo.proofs.function_mut.RecorderMut.call.Goals as goal
 
 pub returns-clause-tells : goal.returns-clause-tells
 returns-clause-tells g c =
     let s = c.args.self.now in
-    let k = rw c.track-view.ensures at c.in_ok-reply.ensures.reply in
+    let k = (some_by (g.H.Hold.entries c.args.cache.now) (g.H.Hold.entries c.args.cache.now) (g.H.Hold.entries c.memoized.new.cache) _ (rw c.track-view.ensures at c.in_ok-reply.ensures.reply)).3 in
     tells_read refl g.met.T.Call.Eq.laws g.met.T.Answer.Eq.laws (g.met.T.Track.alike s.value.now) refl c.requires.agrees c.in_ok-reply.reply k (g.met.G.FunctionOf.reads c.args.key (g.T.Track.answers s.value.now) c.in_ok-reply.reply.output k.writes (k.stands (g.T.Track.answers s.value.now) (g.met.T.Track.alike s.value.now) k.agrees))
 
 pub returns-clause-agrees : goal.returns-clause-agrees
 returns-clause-agrees g c =
     let s = c.args.self.now in
-    read_agrees g.met.T.Call.Eq.laws g.met.T.Answer.Eq.laws (g.met.T.Track.alike s.value.now) s.recording.now _ c.requires.agrees c.in_ok-reply.reply (rw c.track-view.ensures at c.in_ok-reply.ensures.reply)
+    read_agrees g.met.T.Call.Eq.laws g.met.T.Answer.Eq.laws (g.met.T.Track.alike s.value.now) s.recording.now _ c.requires.agrees c.in_ok-reply.reply (some_by (g.H.Hold.entries c.args.cache.now) (g.H.Hold.entries c.args.cache.now) (g.H.Hold.entries c.memoized.new.cache) _ (rw c.track-view.ensures at c.in_ok-reply.ensures.reply)).3
 
 pub returns-clause-writes : goal.returns-clause-writes
 returns-clause-writes g c =
     let s = c.args.self.now in
-    let k = rw c.track-view.ensures at c.in_ok-reply.ensures.reply in
+    let k = (some_by (g.H.Hold.entries c.args.cache.now) (g.H.Hold.entries c.args.cache.now) (g.H.Hold.entries c.memoized.new.cache) _ (rw c.track-view.ensures at c.in_ok-reply.ensures.reply)).3 in
     read_writes s.recording.now c.memoized.new.sink c.in_ok-reply.reply k (g.met.G.FunctionOf.reads c.args.key (g.T.Track.answers s.value.now) c.in_ok-reply.reply.output k.writes (k.stands (g.T.Track.answers s.value.now) (g.met.T.Track.alike s.value.now) k.agrees))
 
 pub returns-in_err-reply-clause-tells : goal.returns-in_err-reply-clause-tells

@@ -1,12 +1,17 @@
-use Rattle.std.proofs.Common.{◌≡◌, ◌∙◌, true, false, refl, sym, ap}
+use Rattle.std.proofs.Common.{[], ◌≡◌, ◌∙◌, true, false, refl, sym, ap}
 use Rattle.comemo.specs.Begin.{PendingRun}
 use Rattle.comemo.proofs.Sendings.{on_err, breaks_at_once}
 use Rattle.comemo.proofs.Endings.{gives_itself, broken_itself}
+use Rattle.comemo.proofs.Holding.{leads_map, leads_same, stays_same}
+use Rattle.comemo.specs.Begin.{came_to}
+use Rattle.comemo.specs.Finish.{Ends}
+use Rattle.comemo.specs.Held.{Leads}
+use Rattle.comemo.specs.Meaning.{Meaning}
 use Rattle.comemo.proofs.pending.Pending.finish.Goals as goal
 use Rattle.comemo.proofs.pending.Pending.finish.Goals.{then-enabled+in_ok-how, else-enabled+in_ok-give_recording}
 
 pub returns-then-not-is_whole-clause-err : goal.returns-then-not-is_whole-clause-err
-returns-then-not-is_whole-clause-err g c = (refl, broken_itself g.met.M.Call.Eq.laws g.met.M.Answer.Eq.laws c.args.self.recording.pairs (breaks_at_once g.met.S.Sink.starts _ _ _ c.spoil.ensures))
+returns-then-not-is_whole-clause-err g c = (stays_same (g.H.Hold.entries c.args.cache.now), broken_itself g.met.M.Call.Eq.laws g.met.M.Answer.Eq.laws c.args.self.recording.pairs (breaks_at_once g.met.S.Sink.starts _ _ _ c.spoil.ensures))
 
 pub end_run-requires-clause-reads : goal.end_run-requires-clause-reads
 end_run-requires-clause-reads g c = rw c.into_parts-reads.ensures.pairs c.into_parts-reads.ensures.are_reads
@@ -27,7 +32,7 @@ pub give_recording-requires-clause-written : goal.give_recording-requires-clause
 give_recording-requires-clause-written g c = rw c.into_parts-reads.ensures.writes c.into_parts-reads.ensures.are_writes
 
 pub returns-in_err-give_recording-clause-err : goal.returns-in_err-give_recording-clause-err
-returns-in_err-give_recording-clause-err g c = on_err c.from_residual-in_err-give_recording.result (refl, rw (← c.self.view_is, ← c.into_parts-reads.ensures.pairs) (broken_itself g.met.M.Call.Eq.laws g.met.M.Answer.Eq.laws c.into_parts-reads.result.0.pairs c.in_err-give_recording.ensures.err))
+returns-in_err-give_recording-clause-err g c = on_err c.from_residual-in_err-give_recording.result (stays_same (g.H.Hold.entries c.args.cache.now), rw (← c.self.view_is, ← c.into_parts-reads.ensures.pairs) (broken_itself g.met.M.Call.Eq.laws g.met.M.Answer.Eq.laws c.into_parts-reads.result.0.pairs c.in_err-give_recording.ensures.err))
 
 pub returns-in_err-how-clause-err : goal.returns-in_err-how-clause-err
 returns-in_err-how-clause-err g c = on_err c.from_residual.result (rw (← c.self.view_is, ← c.into_parts-reads.ensures.pairs) c.in_err-how.ensures.err)
@@ -35,13 +40,16 @@ returns-in_err-how-clause-err g c = on_err c.from_residual.result (rw (← c.sel
 pub returns-clause-finished : goal.returns-clause-finished
 returns-clause-finished g c =
     let own : c.args.self.enabled ≡ c.self.inside.enabled = ap (λ (s : PendingRun _ _ _). s.enabled) (sym c.self.view_is) in
-    record {
+    let M : Meaning g.row.M-Key.Denot g.row.M-Call.Denot g.row.M-Answer.Denot g.row.M-Out.Denot = record { same_call = g.M.Call.PartialEq.eq; same_answer = g.M.Answer.PartialEq.eq; same_key = g.M.Key.PartialEq.eq; is_write = g.M.Call.Call.is_write; is_clone = g.M.Out.Clone.is_clone; def = g.M.Memo.def } in
+    let ends : Leads (g.H.Hold.entries c.args.cache.now) (g.H.Hold.entries c.if-enabled.cache) (λ es es'. Ends M es (came_to c.args.self c.args.output) c.if-enabled.how es') =
+    elim c.if-enabled.branch [
+      | then-enabled+in_ok-how w ↦ rw (← c.self.view_is, ← c.into_parts-reads.ensures.pairs, ← c.into_parts-reads.ensures.writes, w.how-is, w.cache-is) w.in_ok-how.ensures.ends
+      | else-enabled+in_ok-give_recording w ↦ rw (w.how-is, w.cache-is) (leads_same (g.H.Hold.entries c.args.cache.now) (g.H.Hold.entries c.args.cache.now) [] _ (stays_same (g.H.Hold.entries c.args.cache.now)) (λ es. refl))
+    ] in
+    leads_map (g.H.Hold.entries c.args.cache.now) (g.H.Hold.entries c.if-enabled.cache) _ _ (λ es es' e. record {
       whole = ap (λ (s : PendingRun _ _ _). s.recording.whole) (sym c.self.view_is) ∙ sym c.is_whole.ensures ∙ c.if-not-is_whole.false;
       same = refl;
-      ends = elim c.if-enabled.branch [
-        | then-enabled+in_ok-how w ↦ rw (← c.self.view_is, ← c.into_parts-reads.ensures.pairs, ← c.into_parts-reads.ensures.writes, w.how-is, w.cache-is) w.in_ok-how.ensures.ends
-        | else-enabled+in_ok-give_recording w ↦ rw w.how-is w.cache-is
-      ];
+      ends = e;
       disabled = elim c.if-enabled.branch [
         | then-enabled+in_ok-how w ↦ (λ h. absurd (w.in_ok-how.ensures.enabled (sym w.how-is ∙ h)), λ h. let f : true ≡ false = sym w.if-enabled.true ∙ sym own ∙ h in cc)
         | else-enabled+in_ok-give_recording w ↦ (λ h. own ∙ w.if-enabled.false, λ h. w.how-is)
@@ -51,4 +59,4 @@ returns-clause-finished g c =
         | else-enabled+in_ok-give_recording w ↦
             rw (← c.self.view_is, ← c.into_parts-reads.ensures.pairs, ← c.into_parts-reads.ensures.writes, w.sink-is) (gives_itself g.met.M.Call.Eq.laws g.met.M.Answer.Eq.laws c.into_parts-reads.result.0.pairs c.into_parts-reads.result.1.items w.in_ok-give_recording.ensures.ok)
       ];
-    }
+    }) ends

@@ -1,0 +1,37 @@
+-- What is known of the entries of a holder of a cache. A cache's only holder tells them. One that shares it with other threads tells
+-- none, as these may change them at any moment.
+use Rattle.std.specs.Prelude.{◌≡◌, ⊤, List, Option, Some, None}
+use Rattle.comemo.specs.Meaning.{Meaning, Invocation}
+use Rattle.comemo.specs.Cache.{Entries}
+use Rattle.comemo.specs.Called.{IsReply}
+use Rattle.comemo.specs.declared.pending.Reply.{Reply}
+
+module _ {E : Type 0} where
+  -- P holds of the entries that are told; where none are, of some that the cache had
+  abbrev pub Held : Option E → (E → Type 0) → Type 0
+  Held (Some es) P = P es
+  Held None P = (es : E) × P es
+
+  -- P leads from the entries that are told to those that are told then; where none are, from some that the cache had to others
+  abbrev pub Leads : Option E → Option E → (E → E → Type 0) → Type 0
+  Leads (Some es) (Some es') P = P es es'
+  Leads (Some es) None P = (two : E) × P es two
+  Leads None after P = (one : E) × (two : E) × P one two
+
+  -- so it does, by way of those in between
+  abbrev pub LeadsBy : Option E → Option E → Option E → (E → E → E → Type 0) → Type 0
+  LeadsBy (Some es) (Some mid) (Some es') P = P es mid es'
+  LeadsBy (Some es) (Some mid) None P = (one : E) × (two : E) × (three : E) × P one two three
+  LeadsBy (Some es) None after P = (one : E) × (two : E) × (three : E) × P one two three
+  LeadsBy None between after P = (one : E) × (two : E) × (three : E) × P one two three
+
+  -- the entries that are told stay as they were
+  abbrev pub Stays : Option E → Option E → Type 0
+  Stays (Some es) (Some es') = es' ≡ es
+  Stays (Some es) None = ⊥
+  Stays None (Some es') = ⊥
+  Stays None None = ⊤
+
+-- the reply to a call that began at one telling of the entries and ended at another
+abbrev pub HeldReply : {K C R O : Type 0} → Meaning K C R O → Invocation K C R → Option (Entries K C R O) → Option (Entries K C R O) → (List (C × R) → List C → Type 0) → Reply O → Option (Entries K C R O) → Type 0
+HeldReply M call began ended sent reply after = LeadsBy began ended after (λ es mid es'. IsReply M call es mid sent reply es')
