@@ -5,3 +5,5 @@
 mod faults;
 #[cfg(test)]
 mod program;
+#[cfg(test)]
+mod threads;

@@ -1,8 +1,12 @@
-//! One eviction for several caches: what a function needs of caches is evicted by one call.
+//! One eviction for several caches: what a function needs of caches is evicted by one call, and what evicts a shared
+//! cache can be kept in a list.
 ghost use Rattle.std.specs.Prelude.{◌≡◌, ℕ};
 ghost use Rattle.comemo.specs.Cache.{Evicts};
 
 use crate::cache::{CacheData, Memo};
+use crate::shared::Cache;
+use std::alloc::Global;
+use std::sync::{Arc, Wait};
 
 /// Caches that one call evicts: a cache, none, and pairs and triples of such. So what a function needs (`Function::Needs`)
 /// is evicted by one call, at the end of a round.
@@ -58,5 +62,33 @@ impl<A: Caches, B: Caches, C: Caches> Caches for (A, B, C) {
         self.0.evict_all(max_age);
         self.1.evict_all(max_age);
         self.2.evict_all(max_age);
+    }
+}
+
+/// What evicts a cache of any function. Boxed, such are kept in one list: see `register_evictor`.
+///
+/// comemo keeps functions that evict in a list of the program's own.
+pub trait Evict: Drop {
+    /// Evicts by a bound, as `CacheData::evict` does.
+    fn evict(&self, max_age: usize);
+}
+
+/// Evicts a cache that threads share, by a right to wait for its lock that it holds. This project's own.
+#[derive(Drop)]
+pub struct Evictor<M: Memo, R: Wait + Drop> {
+    cache: Arc<Cache<M>, Global>,
+    rt: R,
+}
+
+impl<M: Memo, R: Wait + Drop> Evictor<M, R> {
+    /// What evicts this cache. It takes no memory. This project's own.
+    pub fn new(cache: Arc<Cache<M>, Global>, rt: R) -> Self {
+        Evictor { cache, rt }
+    }
+}
+
+impl<M: Memo, R: Wait + Drop> Evict for Evictor<M, R> {
+    fn evict(&self, max_age: usize) {
+        self.cache.evict(&self.rt, max_age);
     }
 }

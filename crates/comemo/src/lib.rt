@@ -35,11 +35,13 @@
 pub mod cache;
 pub mod closure;
 pub mod eviction;
+pub mod evictors;
 pub mod function;
 pub mod function_mut;
 pub mod hold;
 pub mod parts;
 pub mod pending;
+pub mod shared;
 pub mod steps;
 
 pub use cache::{CacheData, Found, Meant, Memo};
@@ -51,9 +53,11 @@ pub use comemo_track::{
     TrackedMutWith, TrackedWith, Written,
 };
 pub use comemo_tree::CallTree;
-pub use eviction::Caches;
+pub use eviction::{Caches, Evict, Evictor};
+pub use evictors::register_evictor;
 pub use function::{Function, FunctionOf, MemoOf, Recorder, Told, memoized};
 pub use function_mut::{FunctionMut, FunctionMutOf, MemoOfMut, RecorderMut, ToldMut, memoized_mut};
 pub use hold::Hold;
 pub use pending::{Begun, Fault, How, Invoked, Pending, Reply, begin};
+pub use shared::{Cache, Shared};
 pub use steps::{Step, StepReply};

@@ -1,0 +1,49 @@
+//! Branches of one run, each in a thread with a recording and a view of its own.
+
+use comemo::{Constraint, Fault, Track, Tracked};
+use comemo_samples::{Cells, Get};
+use std::alloc::{AllocError, Global};
+use std::thread::{Threads, join};
+
+/// The recording of a branch that asks for two places.
+fn branch(
+    alloc: Global,
+    view: &Tracked<'_, Cells>,
+    places: [u32; 2],
+) -> Result<Constraint<Get, u64>, AllocError> {
+    let mut view = view.fork(alloc);
+    let mut recording = Constraint::new(alloc);
+    for place in places {
+        view.ask(Get { place }, &mut recording)?;
+    }
+    Ok(recording)
+}
+
+/// Whether the recording of a run has the questions of its left branch first, and each question once, whichever branch ended
+/// first.
+pub fn branches_are_absorbed_in_order<R: Threads + Sync>(
+    rt: &R,
+    alloc: Global,
+) -> Result<bool, Fault> {
+    let mut cells = Cells::new(alloc, 3)?;
+    for place in 0..3 {
+        cells.set(place, place as u64 + 1);
+    }
+    let view = cells.track(alloc);
+    let (left, right) = join(
+        rt,
+        || branch(alloc, &view, [0, 1]),
+        || branch(alloc, &view, [1, 2]),
+    );
+    let mut run = left?;
+    run.absorb(right?)?;
+    let (mut pairs, _) = run.into_parts();
+    let mut wanted = 0;
+    while let Some((call, answer)) = pairs.next() {
+        if call.place != wanted || answer != u64::from(wanted) + 1 {
+            return Ok(false);
+        }
+        wanted += 1;
+    }
+    Ok(wanted == 3)
+}

@@ -1,0 +1,87 @@
+//! Runs of one function that ask different questions at once.
+ghost use Rattle.std.specs.Prelude.{◌≡◌, []};
+ghost use Rattle.std.proofs.Common.{rules};
+
+use crate::gate::{Gate, Meeting};
+use comemo::{Begun, Cache, Fault, Hold, How, Keyed, Memo, Reply, Top, Track, begin};
+use comemo_samples::{Context, ContextCall};
+use std::alloc::Global;
+use std::rt::Clock;
+use std::sync::Wait;
+use std::thread::{Threads, join};
+
+/// The empty text, whatever was asked.
+struct Empty;
+
+impl Memo for Empty {
+    type Call = ContextCall;
+
+    type Key = ();
+
+    type Answer = u64;
+
+    type Out = String;
+
+    ghost use Rattle.std.specs.Prelude.{string_bytes};
+
+    ghost def = { λ _ _ out _. string_bytes out ≡ [] };
+
+    ghost laws = { Prim.search rules };
+}
+
+/// The empty text, by a run that asks one question; none where a gate of the run wasn't opened.
+fn empty_by<H: Hold<Empty>, G: Gate>(
+    alloc: Global,
+    cache: &mut H,
+    question: ContextCall,
+    gate: &G,
+) -> Result<Option<Reply<String>>, Fault> {
+    let context = Context {
+        location: 3,
+        styles: 40,
+    };
+    let mut input = Keyed {
+        key: (),
+        view: context.track(alloc),
+    };
+    let mut sink = Top::new();
+    match begin(alloc, cache, &mut input, &mut sink, true)? {
+        Begun::Hit(output) => Ok(Some(Reply {
+            output,
+            how: How::Hit,
+        })),
+        Begun::Run(mut pending) => {
+            let asked = context.track(alloc).ask(question, pending.recording());
+            if asked.is_err() || !gate.reach(1) {
+                pending.give_up(&mut sink);
+                return Ok(None);
+            }
+            let reply = pending.finish(cache, &mut sink, String::new(alloc))?;
+            Ok(Some(reply))
+        }
+    }
+}
+
+/// Whether of two runs that are open at once and begin with different questions one is stored, and the other's path is told
+/// to lack a call.
+pub fn two_runs_that_ask_other_questions<R: Threads + Wait + Clock + Sync>(
+    rt: &R,
+    alloc: Global,
+) -> Result<bool, Fault> {
+    let cache: Cache<Empty> = Cache::new(alloc);
+    let gate = Meeting::new(rt, 2);
+    let (left, right) = join(
+        rt,
+        || empty_by(alloc, &mut cache.hold(rt), ContextCall::Location, &gate),
+        || empty_by(alloc, &mut cache.hold(rt), ContextCall::Styles, &gate),
+    );
+    let (Some(left), Some(right)) = (left?, right?) else {
+        return Ok(false);
+    };
+    let hows = match left.how {
+        How::Stored => right.how == How::MissingCall,
+        How::MissingCall => right.how == How::Stored,
+        _ => false,
+    };
+    Ok(hows && left.output.is_empty() && right.output.is_empty())
+}

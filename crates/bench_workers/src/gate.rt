@@ -1,0 +1,61 @@
+//! Gates: places in a run where a worker may have to wait for others.
+
+use std::rt::Clock;
+use std::sync::atomic::{AtomicUsize, Ordering};
+use std::thread;
+use std::time::Duration;
+
+/// A gate of a run. This project's own.
+pub trait Gate {
+    /// Says that a worker came to a place: 1 is just after a run began, 2 just before it ends. It answers false where the
+    /// gate wasn't opened in time; then the run is to be given up.
+    fn reach(&self, place: u32) -> bool;
+}
+
+/// A gate that is always open. This project's own.
+pub struct Open;
+
+impl Gate for Open {
+    fn reach(&self, _place: u32) -> bool {
+        true
+    }
+}
+
+/// How many turns a worker waits for others.
+const TURNS: u32 = 10_000;
+
+/// A gate whose place 1 opens once so many workers came there. Its other places are open. A turn of waiting is a sleep of one
+/// millisecond, and after 10,000 of them it answers false. This project's own.
+#[derive(Drop)]
+pub struct Meeting<'a, R: Clock> {
+    rt: &'a R,
+    wanted: usize,
+    come: AtomicUsize,
+}
+
+impl<'a, R: Clock> Meeting<'a, R> {
+    /// A gate to which nobody came yet.
+    pub fn new(rt: &'a R, wanted: usize) -> Self {
+        Meeting {
+            rt,
+            wanted,
+            come: AtomicUsize::new(0),
+        }
+    }
+}
+
+impl<R: Clock> Gate for Meeting<'_, R> {
+    fn reach(&self, place: u32) -> bool {
+        if place != 1 {
+            return true;
+        }
+        self.come.fetch_add(1, Ordering::SeqCst);
+        for _ in 0..TURNS {
+            if self.come.load(Ordering::SeqCst) >= self.wanted {
+                return true;
+            }
+            let _ = thread::sleep(self.rt, Duration::from_millis(1));
+        }
+        false
+    }
+}

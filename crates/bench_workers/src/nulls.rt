@@ -1,0 +1,53 @@
+//! Evictions of a shared cache.
+ghost use Rattle.std.specs.Prelude.{◌≡◌};
+ghost use Rattle.std.proofs.Common.{rules};
+
+use comemo::{Cache, Fault, Function, How, MemoOf, Recorder, Top, Track, memoized};
+use std::alloc::Global;
+use std::sync::Wait;
+
+/// Gives 0.
+struct Null;
+
+impl Function for Null {
+    type Key = ();
+
+    type Of = ();
+
+    type Out = u64;
+
+    type Needs = ();
+
+    ghost means = { λ _ _ out. out ≡ 0 };
+
+    ghost laws = { Prim.search rules };
+
+    fn run(_key: &(), _of: &mut Recorder<'_, ()>, _needs: &mut ()) -> Result<u64, Fault> {
+        Ok(0)
+    }
+}
+
+/// Whether an eviction of a shared cache drops what is as old as its bound, and a hit makes what it gives young again.
+pub fn evictions_reach_a_shared_cache<R: Wait>(rt: &R, alloc: Global) -> Result<bool, Fault> {
+    let cache: Cache<MemoOf<Null>> = Cache::new(alloc);
+    // How many evictions by 1 come before a call, and what becomes of the call.
+    let calls = [
+        (0, How::Stored),
+        (1, How::Hit),
+        (1, How::Hit),
+        (2, How::Stored),
+    ];
+    for (times, how) in calls {
+        for _ in 0..times {
+            cache.evict(rt, 1);
+        }
+        let nothing = ();
+        let view = nothing.track(alloc);
+        let held = &mut cache.hold(rt);
+        let reply = memoized(alloc, held, &mut (), (), &view, &mut Top::new(), true)?;
+        if reply.output != 0 || reply.how != how {
+            return Ok(false);
+        }
+    }
+    Ok(true)
+}
