@@ -84,5 +84,5 @@ module _ {K C R O : Type 0} {M : Meaning K C R O} {es : Entries K C R O} {call :
     }
 
 -- what a run came to is no hit
-pub no_hit : {K C R O : Type 0} (M : Meaning K C R O) (es es' : Entries K C R O) (ran : Run K C R O) (reply : How) → Ends M es ran reply es' → reply ≡ how.Hit → ⊥
-no_hit M es es' ran reply e h = subst (λ x. Ends M es ran x es') h e
+pub no_hit : {K C R O : Type 0} {M : Meaning K C R O} {es es' : Entries K C R O} {pending : PendingRun K C R} {sent : List (C × R) → List C → Type 0} {output : O} {reply : Reply O} → Finished M es pending sent output reply es' → reply.how ≡ how.Hit → ⊥
+no_hit {K} {C} {R} {O} {M} {es} {es'} {pending} {sent} {output} f h = subst (λ x. Ends M es (came_to pending output) x es') h f.ends

@@ -12,7 +12,7 @@ end-requires g c =
     λ output ok w m r a. g.met.M.Memo.laws.keys _ _ m output _ r is.has_key (c.requires.right output c.into_constraint.result (held_map (g.H.Hold.entries c.args.cache.now) _ _ (λ es began. ran_from began g.In.Input.did g.P.Record.recorded _ c.args.input c.into_constraint.result (Ok output) run.1 c.empty-recording.ensures.pairs c.empty-recording.ensures.writes c.empty-recording.ensures.whole (rw ok at c.func-ran.ensures) c.into_constraint.ensures) run.0) w m r a)
 
 pub returns-clause-hit : goal.returns-clause-hit
-returns-clause-hit g c = mapped (λ reply done h. let fin = (some_led (g.H.Hold.entries c.begin.new.cache) (g.H.Hold.entries c.end.new.cache) _ done.2).2 in absurd (no_hit _ _ _ _ reply.how fin.ends h)) c.end.result c.end.ensures.finished
+returns-clause-hit g c = mapped (λ reply done h. let fin = (some_led (g.H.Hold.entries c.begin.new.cache) (g.H.Hold.entries c.end.new.cache) _ done.2).2 in absurd (no_hit fin h)) c.end.result c.end.ensures.finished
 
 pub returns-clause-run : goal.returns-clause-run
 returns-clause-run g c =
