@@ -57,7 +57,7 @@ pub use eviction::{Caches, Evict, Evictor};
 pub use evictors::register_evictor;
 pub use function::{Function, FunctionOf, MemoOf, Recorder, Told, memoized};
 pub use function_mut::{FunctionMut, FunctionMutOf, MemoOfMut, RecorderMut, ToldMut, memoized_mut};
-pub use hold::Hold;
+pub use hold::{Hold, Reads};
 pub use pending::{Begun, Fault, How, Invoked, Pending, Reply, begin};
 pub use shared::{Cache, Shared};
 pub use steps::{Step, StepReply};
