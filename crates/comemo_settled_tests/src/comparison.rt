@@ -46,17 +46,15 @@ impl<M: Machine> Both<M> {
     }
 
     /// Whether both find the same under a key by these answers.
-    fn agree_on_get(
-        &mut self,
-        key: u128,
-        answers: (u128, u128, u128),
-    ) -> Result<bool, AllocError> {
+    fn agree_on_get(&mut self, key: u128, answers: (u128, u128, u128)) -> Result<bool, AllocError> {
         let table = [
             (Letter::A, answers.0),
             (Letter::B, answers.1),
             (Letter::C, answers.2),
         ];
-        let found = self.tree.get(&key, &mut |call: &Letter| answer_in(&table, *call))?;
+        let found = self
+            .tree
+            .get(&key, &mut |call: &Letter| answer_in(&table, *call))?;
         Ok(found.copied() == self.machine.get(key, &table))
     }
 

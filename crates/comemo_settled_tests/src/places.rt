@@ -38,7 +38,11 @@ fn of_a_thousand_places_the_even_ones_stay(rt: HostRuntime) -> Result<(), Fail> 
     assert_eq!(rt; tree.shape(), (1, 500, 500, 1));
     for location in 0..1000_u64 {
         let (found, asked) = look_up(alloc, &tree, location)?;
-        let wanted = if location % 2 == 0 { Some(location) } else { None };
+        let wanted = if location % 2 == 0 {
+            Some(location)
+        } else {
+            None
+        };
         assert_eq!(rt; found, wanted);
         assert_eq!(rt; asked.as_slice(), [PlaceCall::Location].as_slice());
     }

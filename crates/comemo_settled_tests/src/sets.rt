@@ -72,7 +72,8 @@ impl PlainSets {
             key,
             pairs: own,
             value,
-        })
+        })?;
+        Ok(())
     }
 }
 
