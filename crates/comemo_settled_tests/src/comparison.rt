@@ -69,20 +69,27 @@ impl<M: Machine> Both<M> {
         self.tree.shape().1 == self.machine.len()
     }
 
-    /// Whether both find the same under every key and by all answers.
-    fn agree_on_all_gets(&mut self) -> Result<bool, AllocError> {
-        for key in 0..4_u128 {
-            for a in 0..4_u128 {
-                for b in 0..4_u128 {
-                    for c in 0..4_u128 {
-                        if !self.agree_on_get(key, (a, b, c))? {
-                            return Ok(false);
-                        }
-                    }
-                }
+    /// Whether both find the same under a key by all answers to its three calls.
+    fn agree_on_all_gets(&mut self, key: u128) -> Result<bool, AllocError> {
+        for number in 0..64_u64 {
+            let a = u128::from(number / 16);
+            let b = u128::from(number / 4 % 4);
+            let c = u128::from(number % 4);
+            if !self.agree_on_get(key, (a, b, c))? {
+                return Ok(false);
             }
         }
         Ok(true)
+    }
+
+    /// Whether both find the same under every key by all answers.
+    fn agree_under_all_keys(&mut self) -> bool {
+        for key in 0..4_u64 {
+            let Ok(true) = self.agree_on_all_gets(u128::from(key)) else {
+                return false;
+            };
+        }
+        true
     }
 
     /// Whether both answer the same to the next step.
@@ -118,10 +125,8 @@ pub(crate) fn compare<M: Machine>(alloc: Global, machine: M, seed: u64, steps: u
         let Ok(true) = both.agree(&mut numbers, step) else {
             return Some(step);
         };
-        if step % PERIOD == 0 {
-            let Ok(true) = both.agree_on_all_gets() else {
-                return Some(step);
-            };
+        if step % PERIOD == 0 && !both.agree_under_all_keys() {
+            return Some(step);
         }
     }
     None

@@ -32,9 +32,11 @@ fn of_a_thousand_places_the_even_ones_stay(rt: HostRuntime) -> Result<(), Fail> 
     let replies = tree.run(alloc, steps)?;
     assert_eq!(rt; replies.len(), 1001);
     assert_eq!(rt; replies.last(), Some(&TreeReply::Retained));
-    for reply in &replies[..1000] {
-        assert_eq!(rt; *reply, TreeReply::Inserted);
-    }
+    let stored = replies
+        .iter()
+        .filter(|reply| **reply == TreeReply::Inserted)
+        .count();
+    assert_eq!(rt; stored, 1000);
     assert_eq!(rt; tree.shape(), (1, 500, 500, 1));
     for location in 0..1000_u64 {
         let (found, asked) = look_up(alloc, &tree, location)?;
