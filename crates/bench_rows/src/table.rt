@@ -14,6 +14,7 @@ use crate::sessions::{
     a_script_too_high_is_told_so, a_script_without_a_number_says_why,
     a_value_is_kept_until_its_files_change, the_bytes_of_files_are_counted,
 };
+use crate::settled::no_run_is_lost;
 use crate::texts::{functions_are_kept, two_kinds_of_questions};
 use crate::trees::{
     a_call_that_was_taken_out_stays_seen, a_path_follows_the_stored_ones,
@@ -25,7 +26,8 @@ use std::alloc::Global;
 
 /// Runs each row, and says which failed first.
 ///
-/// The longest, of a thousand places, calls a function two thousand times; each of the others makes some dozen calls.
+/// The longest, of a thousand places, calls a function two thousand times, and one stores and looks up a thousand runs;
+/// each of the others makes some dozen calls.
 /// A row for which there is no memory fails. This project's own.
 pub fn run_rows(alloc: Global) -> Outcome
     ensures { IfSome result (Contains row_numbers) }
@@ -54,6 +56,7 @@ pub fn run_rows(alloc: Global) -> Outcome
     rows.row("23", a_kept_hash_follows_its_item(alloc));
     rows.row("24", the_bytes_of_files_are_counted(alloc));
     rows.row("25", functions_are_kept(alloc));
+    rows.row("R10", no_run_is_lost(alloc));
     rows.row("R13", touches_go_by_answers(alloc));
     rows
 }

@@ -36,4 +36,5 @@ returns c =
     let upto21 = next _ _ _ _ c.row-22.ensures.held c.row-22.ensures.earlier c.row-22.ensures.failed (21, omega arith, refl) upto20 in
     let upto22 = next _ _ _ _ c.row-23.ensures.held c.row-23.ensures.earlier c.row-23.ensures.failed (22, omega arith, refl) upto21 in
     let upto23 = next _ _ _ _ c.row-24.ensures.held c.row-24.ensures.earlier c.row-24.ensures.failed (23, omega arith, refl) upto22 in
-    upto23
+    let upto24 = next _ _ _ _ c.row-25.ensures.held c.row-25.ensures.earlier c.row-25.ensures.failed (24, omega arith, refl) upto23 in
+    upto24
