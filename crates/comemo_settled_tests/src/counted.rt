@@ -99,6 +99,14 @@ fn end(
     Ok(())
 }
 
+/// How many calls are asked under a key, where the call 0 has this answer.
+fn bound_at(key: u64, first: u64) -> u64
+    requires { key + 3 < 2 ^ 64 }
+    ensures { result ≡ bound_of key first }
+{
+    if first == 1 { key + 3 } else { key }
+}
+
 /// A run under a key in some order, where the call 0 has the first answer, and the others have these.
 pub(crate) fn run_under(
     alloc: Global,
@@ -116,7 +124,7 @@ pub(crate) fn run_under(
     if !ask(key, &mut run, 0, first)? {
         return Err(AllocError);
     }
-    let bound = if first == 1 { key + 3 } else { key };
+    let bound = bound_at(key, first);
     end(key, bound, answers, numbers, &mut run)?;
     Ok(run)
 }
