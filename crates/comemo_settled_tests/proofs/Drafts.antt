@@ -1,11 +1,11 @@
 -- Lemmas on sequences that become runs of the function for random steps.
-use Rattle.std.proofs.Common.{◌≡◌, ◌⊎◌, ◌||◌, ◌<◌, ℕ, Bool, true, false, not, cond, List, [], ◌∷◌, ◌++◌, nat_eq, refl, sym, ap, subst, ◌∙◌, inl, inr, IsTrue}
-use Rattle.std.proofs.lemmas.Bool.{cases_Bool, eqb-true, or_cases}
+use Rattle.std.proofs.Common.{◌≡◌, ◌⊎◌, ◌||◌, ◌<◌, ℕ, Bool, true, false, not, List, [], ◌∷◌, ◌++◌, nat_eq, sym, ap, subst, ◌∙◌, inl, inr, IsTrue}
+use Rattle.std.proofs.lemmas.Bool.{cases_Bool, eqb-true}
 use Rattle.std.specs.Cmp.{nat_eq_equiv}
 use Rattle.comemo_base.specs.Sequence.{Sequence, was_seen, held}
-use Rattle.comemo_base.specs.Answers.{Respects, Agrees}
+use Rattle.comemo_base.specs.Answers.{Agrees}
 use Rattle.comemo_base.proofs.Pairs.{held-push, or_turned}
-use Rattle.comemo_settled.specs.Runs.{IsAskedInTurn, IsCausal, IsRun}
+use Rattle.comemo_settled.specs.Runs.{IsAskedInTurn, IsRun}
 use Rattle.comemo_settled_tests.specs.CountedCalls.{AsksCounted, IsDraft, bound_of}
 
 Agrees-front : (m : ℕ → ℕ) (ps qs : List (ℕ × ℕ)) → Agrees nat_eq m (ps ++ qs) → Agrees nat_eq m ps

@@ -1,4 +1,4 @@
-use Rattle.std.proofs.Common.{◌≡◌, ◌<◌, ℕ, nat_eq, IsTrue}
+use Rattle.std.proofs.Common.{◌<◌, ℕ, nat_eq, IsTrue}
 use Rattle.comemo_base.specs.Sequence.{held}
 use Rattle.comemo_base.specs.Answers.{Agrees}
 use Rattle.comemo_settled_tests.specs.CountedCalls.{IsDraft}
