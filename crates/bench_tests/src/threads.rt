@@ -55,7 +55,10 @@ fn a_lock_that_is_held_over_a_run_is_found(rt: HostRuntime) -> Result<(), Fail> 
 
 #[test]
 fn of_two_runs_that_ask_other_questions_one_is_stored(rt: HostRuntime) -> Result<(), Fail> {
-    assert_eq!(rt; two_runs_that_ask_other_questions(&rt, rt.alloc()), Ok(true));
+    assert_eq!(rt;
+        two_runs_that_ask_other_questions(&rt, rt.alloc()),
+        Ok(true)
+    );
     Ok(())
 }
 
@@ -96,7 +99,10 @@ fn a_holder_that_does_not_touch_is_found(rt: HostRuntime) -> Result<(), Fail> {
         held: cache.hold(&rt),
         dead: Step::Touch,
     };
-    assert_eq!(rt; evictions_reach_a_cache(alloc, &mut held, &evictor), Ok(false));
+    assert_eq!(rt;
+        evictions_reach_a_cache(alloc, &mut held, &evictor),
+        Ok(false)
+    );
     Ok(())
 }
 

@@ -78,9 +78,12 @@ pub fn take_sums<R: Clock + Threads + Wait + Sync>(
         sum(alloc, &mut cache.hold(rt), key, &cells.track(alloc))?;
     }
     let watch = Stopwatch::start(rt);
-    let taken = map_indices(rt, alloc, threads, &|thread| {
-        add_up(rt, alloc, &cache, &cells, share, thread as u64)
-    });
+    let taken = map_indices(
+        rt,
+        alloc,
+        threads,
+        &|thread| { add_up(rt, alloc, &cache, &cells, share, thread as u64) },
+    );
     let nanoseconds = watch.nanoseconds(rt);
     let mut all: u64 = 0;
     for sum in taken.map_err(|_| Fault::Memory)? {

@@ -9,23 +9,39 @@ use std::alloc::{AllocError, Global};
 #[derive(Clone, Copy, Drop, Debug, PartialEq, Eq)]
 pub enum Workload {
     /// SipHash over so many bytes.
-    Sip { bytes: usize },
+    Sip {
+        bytes: usize,
+    },
     /// A kept sum of so many cells, by one view for all.
-    HitSameView { calls: u32 },
+    HitSameView {
+        calls: u32,
+    },
     /// A kept sum of so many cells, by a view of its own each.
-    HitNewView { calls: u32 },
+    HitNewView {
+        calls: u32,
+    },
     /// Sums of so many cells, each under a key of its own, into a cache that is empty at first.
-    MissNewKeys { calls: u32 },
+    MissNewKeys {
+        calls: u32,
+    },
     /// Sums of ten cells under one key, of which the last cell differs each time.
     MissLastDiffers,
     /// Kept sums of one cell, among so many under one key.
-    HitAmong { entries: u64 },
+    HitAmong {
+        entries: u64,
+    },
     /// Kept sums of one cell, each under a key of its own, among so many.
-    HitAmongKeys { keys: u64 },
+    HitAmongKeys {
+        keys: u64,
+    },
     /// A kept run of so many levels, each of which wrote once.
-    HitWrites { levels: u32 },
+    HitWrites {
+        levels: u32,
+    },
     /// Runs of so many levels, each of which writes once, each under a key of its own.
-    MissWrites { levels: u32 },
+    MissWrites {
+        levels: u32,
+    },
     /// Sums of so many cells by so many threads through one cache, all kept, or nine of ten.
     Shared {
         threads: u32,
@@ -33,9 +49,15 @@ pub enum Workload {
         misses: bool,
     },
     /// A retention by the call tree alone, of entries that lie so. It keeps all of them, or drops all.
-    Retain { layout: Layout, keeps: bool },
+    Retain {
+        layout: Layout,
+        keeps: bool,
+    },
     /// An eviction from a cache whose entries lie so, which leaves so many.
-    Evict { layout: Layout, left: Left },
+    Evict {
+        layout: Layout,
+        left: Left,
+    },
     /// Different answers to one call, which come in a scattered order to the call tree alone.
     InsertScattered,
     /// The kept length of a text, under the text.
@@ -45,7 +67,9 @@ pub enum Workload {
     /// The kept length of a text, under the number that it keeps.
     TextByKeptNumber,
     /// A large input of the program `calc`, whose rounds are the operations.
-    Calc { input: Input },
+    Calc {
+        input: Input,
+    },
 }
 
 /// All workloads, in the order in which they are done.
