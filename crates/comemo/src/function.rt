@@ -109,7 +109,7 @@ impl<'a, T: Track> Model for Recorder<'a, T> {
 
 impl<'a, T: Track> Recorder<'a, T> {
     /// A recorder of nothing.
-    fn new(alloc: Global, view: Tracked<'a, T>) -> Self
+    pub fn new(alloc: Global, view: Tracked<'a, T>) -> Self
         ensures value { result.value ≡ view.entry }
         ensures pairs { result.recording.pairs ≡ [] }
         ensures writes { result.recording.writes ≡ [] }

@@ -41,6 +41,7 @@ pub mod function_mut;
 pub mod hold;
 pub mod parts;
 pub mod pending;
+pub mod recursive;
 pub mod shared;
 pub mod steps;
 
@@ -59,5 +60,6 @@ pub use function::{Function, FunctionOf, MemoOf, Recorder, Told, memoized};
 pub use function_mut::{FunctionMut, FunctionMutOf, MemoOfMut, RecorderMut, ToldMut, memoized_mut};
 pub use hold::Hold;
 pub use pending::{Begun, Fault, How, Invoked, Pending, Reply, begin};
+pub use recursive::{Inner, MemoOfRecursive, ReadsAlone, Recursive, Start};
 pub use shared::{Cache, Shared};
 pub use steps::{Step, StepReply};
