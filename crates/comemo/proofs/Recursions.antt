@@ -3,12 +3,13 @@ use Rattle.std.proofs.Common.{◌≡◌, ◌∙◌, Bool, true, false, ◌↔◌
 use Rattle.std.specs.Cmp.{IsEquivalence}
 use Rattle.comemo_base.specs.Answers.{Respects, Agrees}
 use Rattle.comemo_track.specs.Recording.{Recording, Took}
-use Rattle.comemo.specs.Meaning.{Meaning, Invocation}
+use Rattle.comemo.specs.Meaning.{Meaning, Invocation, run}
 use Rattle.comemo.specs.Cache.{Entries}
 use Rattle.comemo.specs.Called.{IsReply}
-use Rattle.comemo.specs.Finish.{Gives}
+use Rattle.comemo.specs.Begin.{PendingRun}
+use Rattle.comemo.specs.Finish.{Ends, Gives, Finished}
 use Rattle.comemo.specs.Function.{Recorded, IsRecorded, Fits, Tells}
-use Rattle.comemo.specs.Recursive.{TellsOwn}
+use Rattle.comemo.specs.Recursive.{TellsOwn, FinishedAs}
 use Rattle.comemo.specs.declared.pending.Fault.{Fault}
 use Rattle.comemo.specs.declared.pending.Fault.TheVariants as fault
 use Rattle.comemo.specs.declared.pending.Reply.{Reply}
@@ -78,3 +79,12 @@ is_memory fault.Incomplete w never is = let no : true ≡ false = sym w ∙ is.0
 pub handed : {A : Type 0} (r : Result A Fault) (f : Fault) → IsErrAnd r (λ x. x ≡ f) → (X : Fault → Type 0) → X f → IfErr r X
 handed (Ok y) f e X x = tt
 handed (Err g) f e X x = subst X (sym e) x
+
+-- a run that is to be stored and wrote nothing, was finished so
+pub finished_as : {K C R O : Type 0} (M : Meaning K C R O) (es es' : Entries K C R O) (pending : PendingRun K C R) {sent : List (C × R) → List C → Type 0} (output : O) (reply : Reply O) → pending.enabled ≡ true → pending.recording.writes ≡ [] → Finished M es pending sent output reply es' → FinishedAs M es sent (run pending.key pending.recording.pairs output []) es'
+finished_as M es es' pending {sent} output reply enabled none done = record {
+  became = reply.how;
+  enabled = λ d. let no : true ≡ false = sym enabled ∙ done.disabled.0 d in cc;
+  ends = subst (λ ws. Ends M es (run pending.key pending.recording.pairs output ws) reply.how es') none done.ends;
+  gives = subst (λ ws. Gives M sent pending.recording.pairs ws) none done.gives;
+}

@@ -3,14 +3,14 @@ ghost use Rattle.std.specs.Prelude.{◌≡◌, [], true, List, IsTrue, refl, IfO
 ghost use Rattle.std.proofs.Common.{◌∙◌, ap};
 ghost use Rattle.comemo.specs.Meaning.{reading, invocation, run};
 ghost use Rattle.comemo.specs.MeaningLaws.{none_alike};
-ghost use Rattle.comemo.specs.Called.{IsReply};
-ghost use Rattle.comemo.specs.Finish.{Ends, Gives};
+ghost use Rattle.comemo.specs.Held.{Held, HeldReply, Leads, Stays};
 ghost use Rattle.comemo.specs.Function.{Laws};
 ghost use Rattle.comemo.specs.Recursive.{TellsOwn, OnStart, Starts, FinishedAs};
 ghost use Rattle.comemo_track.specs.InputLaws.{equal_if_one};
 
-use crate::cache::{CacheData, Meant, Memo};
+use crate::cache::{Meant, Memo};
 use crate::function::{Recorder, Told};
+use crate::hold::Hold;
 use crate::pending::{Begun, Fault, How, Pending, Reply, begin};
 use comemo_track::input::Input;
 use comemo_track::track::{Call, Track, Tracked};
@@ -157,22 +157,25 @@ impl<'a, T: Track> Recorder<'a, T> {
     /// this one takes nothing yet. The one fault is `Memory`: then the cache is as it was, and this recording is
     /// spoiled. It costs what `begin` costs. This project's own: the first half of a call of a function under comemo's
     /// `#[memoize]`.
-    pub fn start<G: ReadsAlone<Call = T::Call, Answer = T::Answer>>(
+    pub fn start<G: ReadsAlone<Call = T::Call, Answer = T::Answer>, H: Hold<G>>(
         &mut self,
-        cache: &mut CacheData<G>,
+        cache: &mut H,
         key: &G::Key,
     ) -> Result<Start<G::Out, Inner<'a, G::Key, T>>, Fault>
         ensures tells { TellsOwn ⟦<T as Told>⟧.fits self.old self.new result
             (λ start m. OnStart start (λ output. G.def key.now m output []) (λ _. ⊤)) }
         ensures hit { IfOk result (λ start. OnStart start
             (λ output. (reply : Reply G.Out) × (reply.output ≡ output) × (reply.how ≡ How.Hit)
-            × IsReply ⟦<G as Meant>⟧.meaning (invocation key.now (T.answers self.old.value) true)
-            cache.old cache.old (⟦<T as Told>⟧.took self.old self.new) reply cache.new) (λ _. ⊤)) }
+            × HeldReply ⟦<G as Meant>⟧.meaning (invocation key.now (T.answers self.old.value) true)
+            (H.entries cache.old) (H.entries cache.old)
+            (⟦<T as Told>⟧.took self.old self.new) reply (H.entries cache.new)) (λ _. ⊤)) }
         ensures run { IfOk result (λ start. OnStart start (λ _. ⊤)
-            (λ inner. Starts ⟦<G as Meant>⟧.meaning cache.old
+            (λ inner. Held (H.entries cache.old) (λ es. Starts ⟦<G as Meant>⟧.meaning es
             (invocation key.now (T.answers self.old.value) true) self.old inner.own
-            inner.recorder × (self.new ≡ self.old) × (cache.new ≡ cache.old))) }
-        ensures err { IfErr result (λ fault. (fault ≡ Fault.Memory) × (cache.new ≡ cache.old)
+            inner.recorder) × (self.new ≡ self.old)
+            × Stays (H.entries cache.old) (H.entries cache.new))) }
+        ensures err { IfErr result (λ fault. (fault ≡ Fault.Memory)
+            × Stays (H.entries cache.old) (H.entries cache.new)
             × ⟦<T as Told>⟧.broke_off self.old self.new) }
     {
         let alloc = self.alloc;
@@ -202,9 +205,9 @@ impl<'a, T: Track> Recorder<'a, T> {
     /// This recorder takes what the run recorded. The one fault is `Memory`: then the cache is as it was, and this
     /// recording is spoiled. It costs what `Pending::finish` costs. This project's own: the second half of a call of a
     /// function under comemo's `#[memoize]`.
-    pub fn finish<G: ReadsAlone<Call = T::Call, Answer = T::Answer>>(
+    pub fn finish<G: ReadsAlone<Call = T::Call, Answer = T::Answer>, H: Hold<G>>(
         &mut self,
-        cache: &mut CacheData<G>,
+        cache: &mut H,
         key: &G::Key,
         inner: Inner<'_, G::Key, T>,
         output: G::Out,
@@ -217,10 +220,11 @@ impl<'a, T: Track> Recorder<'a, T> {
         ensures tells { TellsOwn ⟦<T as Told>⟧.fits self.old self.new result
             (λ out m. G.def key.now m out []) }
         ensures finished { IfOk result (λ out. (out ≡ output)
-            × FinishedAs ⟦<G as Meant>⟧.meaning cache.old
-            (⟦<T as Told>⟧.took self.old self.new)
-            (run inner.entry.own inner.entry.recorder.recording.pairs output []) cache.new) }
-        ensures err { IfErr result (λ fault. (fault ≡ Fault.Memory) × (cache.new ≡ cache.old)
+            × Leads (H.entries cache.old) (H.entries cache.new) (λ es es'.
+            FinishedAs ⟦<G as Meant>⟧.meaning es (⟦<T as Told>⟧.took self.old self.new)
+            (run inner.entry.own inner.entry.recorder.recording.pairs output []) es')) }
+        ensures err { IfErr result (λ fault. (fault ≡ Fault.Memory)
+            × Stays (H.entries cache.old) (H.entries cache.new)
             × ⟦<T as Told>⟧.broke_off self.old self.new) }
     {
         let Inner { recorder, own } = inner;
