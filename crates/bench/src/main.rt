@@ -32,6 +32,6 @@ fn main(rt: HostRuntime) -> ExitCode {
         return ExitCode::from(1);
     };
     let mut writer = io::writer(&rt);
-    let status = bench_rows::start(alloc, words.as_slice(), &mut writer, &mut errors);
+    let status = bench_rows::start(&rt, alloc, words.as_slice(), &mut writer, &mut errors);
     ExitCode::from(status)
 }

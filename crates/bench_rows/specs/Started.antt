@@ -19,16 +19,22 @@ AsksForFuzz (word ∷ first ∷ second ∷ []) seed steps =
     (bytes_eq (string_bytes word) (codes "fuzz") ≡ true) × IsNumber (string_bytes first) seed × IsNumber (string_bytes second) steps × (steps < 2 ^ 32)
 AsksForFuzz _ seed steps = ⊥
 
+-- the words after the program's name ask for so many workers, and so many calls of each
+abbrev pub AsksForThreads : List (String Global) → ℕ → ℕ → Type 0
+AsksForThreads (word ∷ first ∷ second ∷ []) workers calls =
+    (bytes_eq (string_bytes word) (codes "threads") ≡ true) × IsNumber (string_bytes first) workers × IsNumber (string_bytes second) calls × (1 ≤ workers) × (workers ≤ 16) × (calls < 2 ^ 32)
+AsksForThreads _ workers calls = ⊥
+
 -- they ask for nothing that there is
 abbrev pub AsksForNothing : List (String Global) → Type 0
-AsksForNothing words = (asks_for_rows words ≡ false) × ((seed steps : ℕ) → ¬ AsksForFuzz words seed steps)
+AsksForNothing words = (asks_for_rows words ≡ false) × ((seed steps : ℕ) → ¬ AsksForFuzz words seed steps) × ((workers calls : ℕ) → ¬ AsksForThreads words workers calls)
 
 -- the numbers of the rows that run, in their order
 abbrev pub row_numbers : List (List ℕ)
 row_numbers =
     codes "1" ∷ codes "2" ∷ codes "3" ∷ codes "4" ∷ codes "5" ∷ codes "6" ∷ codes "7" ∷ codes "8" ∷ codes "9"
-    ∷ codes "10" ∷ codes "11" ∷ codes "12" ∷ codes "13" ∷ codes "14" ∷ codes "16" ∷ codes "17" ∷ codes "18"
-    ∷ codes "19" ∷ codes "21" ∷ codes "22" ∷ codes "23" ∷ codes "24" ∷ codes "25" ∷ codes "R13" ∷ []
+    ∷ codes "10" ∷ codes "11" ∷ codes "12" ∷ codes "13" ∷ codes "14" ∷ codes "15" ∷ codes "16" ∷ codes "17" ∷ codes "18"
+    ∷ codes "19" ∷ codes "21" ∷ codes "22" ∷ codes "23" ∷ codes "24" ∷ codes "25" ∷ codes "R8" ∷ codes "R13" ∷ []
 
 -- what is printed where the row of this number failed first, or none did
 abbrev pub verdict : Option (List ℕ) → List ℕ
@@ -59,6 +65,21 @@ fuzz_status (Some step) = 1
 abbrev pub RanFuzz : ℕ → Option (List ℕ) → Option (List ℕ) → ℕ → Type 0
 RanFuzz steps before after status =
     (failed : Option ℕ) × IfSome failed (λ step. (1 ≤ step) × (step ≤ steps)) × (status ≡ fuzz_status failed) × WritesFront before after (fuzz_verdict failed)
+
+-- what is printed where all outputs of the workers were right, or some weren't
+abbrev pub threads_verdict : Bool → List ℕ
+threads_verdict true = codes "threads ok\n"
+threads_verdict false = codes "threads failed\n"
+
+-- the status then
+abbrev pub threads_status : Bool → ℕ
+threads_status true = 0
+threads_status false = 1
+
+-- the outputs were right or weren't, and that is what the status says, and what was written as far as the device took it
+abbrev pub RanThreads : Option (List ℕ) → Option (List ℕ) → ℕ → Type 0
+RanThreads before after status =
+    (right : Bool) × (status ≡ threads_status right) × WritesFront before after (threads_verdict right)
 
 -- what is said where the words ask for nothing that there is
 abbrev pub usage : List ℕ

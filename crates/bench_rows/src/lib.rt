@@ -9,7 +9,7 @@
 //! let words = vec![in alloc; String::from_str(alloc, "rows")?]?;
 //! let mut printed: Vec<u8> = Vec::new(alloc);
 //! let mut errors: Vec<u8> = Vec::new(alloc);
-//! let status = start(alloc, words.as_slice(), &mut printed, &mut errors);
+//! let status = start(&rt, alloc, words.as_slice(), &mut printed, &mut errors);
 //! assert_eq!(rt; (status, printed.as_slice()), (0, b"rows ok\n".as_slice()));
 //!
 //! let mut rows = Outcome::new();
@@ -38,6 +38,7 @@ mod program;
 mod random;
 mod recordings;
 mod sessions;
+mod sharing;
 mod steps;
 mod table;
 mod texts;

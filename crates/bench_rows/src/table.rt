@@ -10,6 +10,7 @@ use crate::orders::runs_in_another_order;
 use crate::outcome::Outcome;
 use crate::places::a_thousand_places_are_kept;
 use crate::recordings::recordings_absorb_and_hold;
+use crate::sharing::{a_shared_cache_stores_one_of_two, branches_and_evictions, other_questions};
 use crate::sessions::{
     a_script_too_high_is_told_so, a_script_without_a_number_says_why,
     a_value_is_kept_until_its_files_change, the_bytes_of_files_are_counted,
@@ -22,12 +23,16 @@ use crate::trees::{
 };
 use crate::writes::hits_write_again;
 use std::alloc::Global;
+use std::rt::Clock;
+use std::sync::Wait;
+use std::thread::Threads;
 
 /// Runs each row, and says which failed first.
 ///
-/// The longest, of a thousand places, calls a function two thousand times; each of the others makes some dozen calls.
+/// The longest, of a thousand places, calls a function two thousand times; each of the others makes some dozen calls. Two start threads, which wait
+/// for each other.
 /// A row for which there is no memory fails. This project's own.
-pub fn run_rows(alloc: Global) -> Outcome
+pub fn run_rows<R: Threads + Wait + Clock + Sync>(rt: &R, alloc: Global) -> Outcome
     ensures { IfSome result (Contains row_numbers) }
 {
     let mut rows = Outcome::new();
@@ -45,6 +50,7 @@ pub fn run_rows(alloc: Global) -> Outcome
     rows.row("12", hits_stay_young(alloc));
     rows.row("13", hits_write_again(alloc));
     rows.row("14", a_thousand_places_are_kept(alloc));
+    rows.row("15", a_shared_cache_stores_one_of_two(rt, alloc));
     rows.row("16", runs_in_another_order(alloc));
     rows.row("17", numbers_are_kept(alloc));
     rows.row("18", chains_share_what_is_kept(alloc));
@@ -54,6 +60,8 @@ pub fn run_rows(alloc: Global) -> Outcome
     rows.row("23", a_kept_hash_follows_its_item(alloc));
     rows.row("24", the_bytes_of_files_are_counted(alloc));
     rows.row("25", functions_are_kept(alloc));
+    rows.row("R8", branches_and_evictions(rt, alloc));
     rows.row("R13", touches_go_by_answers(alloc));
+    rows.row("R13", other_questions(rt, alloc));
     rows
 }

@@ -2,6 +2,8 @@
 #![tactic(auto)]
 
 #[cfg(test)]
+mod dead;
+#[cfg(test)]
 mod faults;
 #[cfg(test)]
 mod program;

@@ -33,7 +33,7 @@ fn the_rows_hold(rt: HostRuntime) -> Result<(), Fail> {
     let words = vec![in alloc; String::from_str(alloc, "rows")?]?;
     let mut printed: Vec<u8> = Vec::new(alloc);
     let mut errors: Vec<u8> = Vec::new(alloc);
-    let status = start(alloc, words.as_slice(), &mut printed, &mut errors);
+    let status = start(&rt, alloc, words.as_slice(), &mut printed, &mut errors);
     assert_eq!(rt; printed.as_slice(), b"rows ok\n".as_slice());
     assert_eq!(rt; status, 0);
     assert!(rt; errors.is_empty());
@@ -60,7 +60,7 @@ fn the_first_row_that_fails_is_named(rt: HostRuntime) -> Result<(), Fail> {
 #[test]
 fn a_row_that_fails_after_the_others_is_named(rt: HostRuntime) -> Result<(), Fail> {
     let alloc = rt.alloc();
-    let mut rows = run_rows(alloc);
+    let mut rows = run_rows(&rt, alloc);
     rows.row("26", Ok(false));
     let mut printed: Vec<u8> = Vec::new(alloc);
     assert_eq!(rt; rows.report(&mut printed), 1);
@@ -84,8 +84,26 @@ fn a_cache_and_a_plain_list_answer_alike(rt: HostRuntime) -> Result<(), Fail> {
         }
         let mut printed: Vec<u8> = Vec::new(alloc);
         let mut errors: Vec<u8> = Vec::new(alloc);
-        let status = start(alloc, words.as_slice(), &mut printed, &mut errors);
+        let status = start(&rt, alloc, words.as_slice(), &mut printed, &mut errors);
         assert_eq!(rt; printed.as_slice(), b"fuzz ok\n".as_slice());
+        assert_eq!(rt; status, 0);
+        assert!(rt; errors.is_empty());
+    }
+    Ok(())
+}
+
+#[test]
+fn workers_are_told_to_be_right(rt: HostRuntime) -> Result<(), Fail> {
+    let alloc = rt.alloc();
+    for (workers, calls) in [("1", "0"), ("8", "1000"), ("16", "2000"), ("016", "1")] {
+        let mut words = Vec::new(alloc);
+        for word in ["threads", workers, calls] {
+            words.push(String::from_str(alloc, word)?)?;
+        }
+        let mut printed: Vec<u8> = Vec::new(alloc);
+        let mut errors: Vec<u8> = Vec::new(alloc);
+        let status = start(&rt, alloc, words.as_slice(), &mut printed, &mut errors);
+        assert_eq!(rt; printed.as_slice(), b"threads ok\n".as_slice());
         assert_eq!(rt; status, 0);
         assert!(rt; errors.is_empty());
     }
@@ -95,7 +113,7 @@ fn a_cache_and_a_plain_list_answer_alike(rt: HostRuntime) -> Result<(), Fail> {
 #[test]
 fn other_words_are_told_how_to_call(rt: HostRuntime) -> Result<(), Fail> {
     let alloc = rt.alloc();
-    let calls: [&[&str]; 15] = [
+    let calls: [&[&str]; 20] = [
         &[],
         &["row"],
         &["rows "],
@@ -110,7 +128,12 @@ fn other_words_are_told_how_to_call(rt: HostRuntime) -> Result<(), Fail> {
         &["fuzz", "1", " 2"],
         &["fuzz", "18446744073709551616", "2"],
         &["fuzz", "1", "4294967296"],
-        &["threads", "1", "2"],
+        &["threads", "1"],
+        &["threads", "0", "2"],
+        &["threads", "17", "2"],
+        &["threads", "+1", "2"],
+        &["threads", "1", "4294967296"],
+        &["threads", "1", "2", "3"],
     ];
     for call in calls {
         let mut words = Vec::new(alloc);
@@ -119,7 +142,7 @@ fn other_words_are_told_how_to_call(rt: HostRuntime) -> Result<(), Fail> {
         }
         let mut printed: Vec<u8> = Vec::new(alloc);
         let mut errors: Vec<u8> = Vec::new(alloc);
-        let status = start(alloc, words.as_slice(), &mut printed, &mut errors);
+        let status = start(&rt, alloc, words.as_slice(), &mut printed, &mut errors);
         assert_eq!(rt; status, 2);
         assert!(rt; printed.is_empty());
         let usage = b"usage: bench rows | fuzz SEED STEPS | threads WORKERS CALLS\n";
@@ -137,7 +160,7 @@ fn a_failure_to_write_changes_no_status(rt: HostRuntime) -> Result<(), Fail> {
             taken,
             room: 3,
         });
-        let status = start(alloc, words.as_slice(), &mut writer, &mut errors);
+        let status = start(&rt, alloc, words.as_slice(), &mut writer, &mut errors);
         assert_eq!(rt; status, wanted);
         assert_eq!(rt; writer.taken.as_slice(), printed.as_bytes());
         assert_eq!(rt; errors.taken.as_slice(), said.as_bytes());

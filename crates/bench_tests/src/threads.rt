@@ -1,14 +1,55 @@
-//! Workers that share a cache.
+//! Workers that share a cache, and holders that do a step wrongly.
 
+use crate::dead::{Dead, Step};
 use bench_workers::{
-    branches_are_absorbed_in_order, evictions_reach_a_shared_cache, threads, two_runs_of_one_key,
-    two_runs_that_ask_other_questions,
+    Meeting, Null, branches_are_absorbed_in_order, doubled, evictions_reach_a_cache, threads,
+    two_runs_of_one_key, two_runs_that_ask_other_questions,
 };
+use comemo::evictors::evict;
+use comemo::{
+    Cache, CacheData, Evict, Evictor, How, Memo, MemoOf, Top, Track, memoized, register_evictor,
+};
+use comemo_guide::double::Double;
+use std::alloc::Global;
+use std::sync::{Arc, Mutex, RwLock, Wait};
 use std::test::Fail;
+use std::thread::join;
 
 #[test]
 fn of_two_runs_of_one_key_one_is_stored(rt: HostRuntime) -> Result<(), Fail> {
-    assert_eq!(rt; two_runs_of_one_key(&rt, rt.alloc()), Ok(true));
+    let alloc = rt.alloc();
+    let cache: Cache<MemoOf<Double>> = Cache::new(alloc);
+    let (left, right) = (cache.hold(&rt), cache.hold(&rt));
+    assert_eq!(rt; two_runs_of_one_key(&rt, alloc, left, right), Ok(true));
+    Ok(())
+}
+
+#[test]
+fn a_holder_that_neither_looks_nor_stores_is_found(rt: HostRuntime) -> Result<(), Fail> {
+    let alloc = rt.alloc();
+    for dead in [Step::Look, Step::Store] {
+        let cache: Cache<MemoOf<Double>> = Cache::new(alloc);
+        let [left, right] = [cache.hold(&rt), cache.hold(&rt)].map(|held| Dead {
+            alloc,
+            held,
+            dead,
+        });
+        assert_eq!(rt; two_runs_of_one_key(&rt, alloc, left, right), Ok(false));
+    }
+    Ok(())
+}
+
+#[test]
+fn a_lock_that_is_held_over_a_run_is_found(rt: HostRuntime) -> Result<(), Fail> {
+    let alloc = rt.alloc();
+    let lock: RwLock<CacheData<MemoOf<Double>>> = RwLock::new(CacheData::new(alloc));
+    let gate = Meeting::new(&rt, 2, 100);
+    let (left, right) = join(
+        &rt,
+        || doubled(alloc, &mut *lock.write(&rt), 21, &gate),
+        || doubled(alloc, &mut *lock.write(&rt), 21, &gate),
+    );
+    assert!(rt; left?.is_none() || right?.is_none());
     Ok(())
 }
 
@@ -24,16 +65,118 @@ fn a_left_branch_comes_first(rt: HostRuntime) -> Result<(), Fail> {
     Ok(())
 }
 
+/// Evicts nothing.
+#[derive(Drop)]
+struct Idle;
+
+impl Evict for Idle {
+    fn evict(&self, _max_age: usize) {}
+}
+
 #[test]
 fn a_shared_cache_is_evicted(rt: HostRuntime) -> Result<(), Fail> {
-    assert_eq!(rt; evictions_reach_a_shared_cache(&rt, rt.alloc()), Ok(true));
+    let alloc = rt.alloc();
+    let cache: Arc<Cache<MemoOf<Null>>, Global> = Arc::new(alloc, Cache::new(alloc))?;
+    let evictor = Evictor::new(Arc::try_clone(&cache)?, rt.clone()?);
+    let held = &mut cache.hold(&rt);
+    assert_eq!(rt; evictions_reach_a_cache(alloc, held, &evictor), Ok(true));
+    let cache: Cache<MemoOf<Null>> = Cache::new(alloc);
+    let held = &mut cache.hold(&rt);
+    assert_eq!(rt; evictions_reach_a_cache(alloc, held, &Idle), Ok(false));
+    Ok(())
+}
+
+#[test]
+fn a_holder_that_does_not_touch_is_found(rt: HostRuntime) -> Result<(), Fail> {
+    let alloc = rt.alloc();
+    let cache: Arc<Cache<MemoOf<Null>>, Global> = Arc::new(alloc, Cache::new(alloc))?;
+    let evictor = Evictor::new(Arc::try_clone(&cache)?, rt.clone()?);
+    let mut held = Dead {
+        alloc,
+        held: cache.hold(&rt),
+        dead: Step::Touch,
+    };
+    assert_eq!(rt; evictions_reach_a_cache(alloc, &mut held, &evictor), Ok(false));
     Ok(())
 }
 
 #[test]
 fn workers_get_right_outputs(rt: HostRuntime) -> Result<(), Fail> {
+    let alloc = rt.alloc();
     for (workers, calls) in [(1, 0), (8, 1000), (16, 2000)] {
-        assert_eq!(rt; threads(&rt, rt.alloc(), workers, calls), Ok(true));
+        let cache: Cache<MemoOf<Double>> = Cache::new(alloc);
+        assert_eq!(rt; threads(&rt, alloc, &cache, workers, calls), Ok(true));
     }
+    Ok(())
+}
+
+#[test]
+fn workers_get_right_outputs_beside_evictions(rt: HostRuntime) -> Result<(), Fail> {
+    let alloc = rt.alloc();
+    let cache: Cache<MemoOf<Double>> = Cache::new(alloc);
+    let (right, ()) = join(
+        &rt,
+        || threads(&rt, alloc, &cache, 16, 2000),
+        || {
+            for _ in 0..100 {
+                cache.evict(&rt, 1);
+            }
+        },
+    );
+    assert_eq!(rt; right, Ok(true));
+    Ok(())
+}
+
+/// Evicts a cache, and then writes its number to a list.
+#[derive(Drop)]
+struct Numbered<M: Memo, R: Wait + Drop> {
+    evictor: Evictor<M, R>,
+    number: u32,
+    list: Arc<Mutex<Vec<u32>>, Global>,
+    rt: R,
+}
+
+impl<M: Memo, R: Wait + Drop> Evict for Numbered<M, R> {
+    fn evict(&self, max_age: usize) {
+        self.evictor.evict(max_age);
+        let _ = self.list.lock(&self.rt).push(self.number);
+    }
+}
+
+#[test]
+fn registered_evictors_evict_in_order(rt: HostRuntime) -> Result<(), Fail> {
+    let alloc = rt.alloc();
+    let doubles: Arc<Cache<MemoOf<Double>>, Global> = Arc::new(alloc, Cache::new(alloc))?;
+    let nulls: Arc<Cache<MemoOf<Null>>, Global> = Arc::new(alloc, Cache::new(alloc))?;
+    let list: Arc<Mutex<Vec<u32>>, Global> = Arc::new(alloc, Mutex::new(Vec::new(alloc)))?;
+    let mut evictors: Vec<Box<dyn Evict>> = Vec::new(alloc);
+    let first = Numbered {
+        evictor: Evictor::new(Arc::try_clone(&doubles)?, rt.clone()?),
+        number: 1,
+        list: Arc::try_clone(&list)?,
+        rt: rt.clone()?,
+    };
+    register_evictor(&mut evictors, Box::new(alloc, first)?)?;
+    let second = Numbered {
+        evictor: Evictor::new(Arc::try_clone(&nulls)?, rt.clone()?),
+        number: 2,
+        list: Arc::try_clone(&list)?,
+        rt: rt.clone()?,
+    };
+    register_evictor(&mut evictors, Box::new(alloc, second)?)?;
+    let nothing = ();
+    let view = nothing.track(alloc);
+    for how in [How::Stored, How::Hit, How::Stored] {
+        if how == How::Stored {
+            evict(evictors.as_slice(), 0);
+        }
+        let held = &mut doubles.hold(&rt);
+        let reply = memoized(alloc, held, &mut (), 7, &view, &mut Top::new(), true)?;
+        assert_eq!(rt; (reply.output, reply.how), (14, how));
+        let held = &mut nulls.hold(&rt);
+        let reply = memoized(alloc, held, &mut (), (), &view, &mut Top::new(), true)?;
+        assert_eq!(rt; (reply.output, reply.how), (0, how));
+    }
+    assert_eq!(rt; list.lock(&rt).as_slice(), [1, 2, 1, 2].as_slice());
     Ok(())
 }

@@ -1,12 +1,11 @@
 //! Doubles of numbers, kept in a cache that threads share.
 ghost use Rattle.std.specs.Prelude.{◌≡◌, ◌+◌, ◌%◌, ◌^◌, IfOk, IfSome};
 
-use crate::gate::{Gate, Meeting};
-use comemo::{Begun, Cache, Fault, Hold, How, Keyed, MemoOf, Reply, Top, Track, begin};
+use crate::gate::{Gate, Meeting, TURNS};
+use comemo::{Begun, Fault, Hold, How, Keyed, MemoOf, Reply, Top, Track, begin};
 use comemo_guide::double::Double;
 use std::alloc::Global;
 use std::rt::Clock;
-use std::sync::Wait;
 use std::thread::{Threads, join};
 
 /// The double of a number, kept in what holds a cache; none where a gate of the run wasn't opened.
@@ -49,29 +48,30 @@ pub fn doubled<H: Hold<MemoOf<Double>>, G: Gate>(
 }
 
 /// Whether of two runs of one key that are open at once one is stored and the other finds its path there, and a third
-/// call is a hit.
-pub fn two_runs_of_one_key<R: Threads + Wait + Clock + Sync>(
+/// call is a hit, where each thread has one of two holders of a cache.
+pub fn two_runs_of_one_key<R: Threads + Clock + Sync, H: Hold<MemoOf<Double>> + Send + Drop>(
     rt: &R,
     alloc: Global,
+    mut left: H,
+    mut right: H,
 ) -> Result<bool, Fault> {
-    let cache: Cache<MemoOf<Double>> = Cache::new(alloc);
-    let gate = Meeting::new(rt, 2);
-    let (left, right) = join(
+    let gate = Meeting::new(rt, 2, TURNS);
+    let (first, second) = join(
         rt,
-        || doubled(alloc, &mut cache.hold(rt), 21, &gate),
-        || doubled(alloc, &mut cache.hold(rt), 21, &gate),
+        || doubled(alloc, &mut left, 21, &gate),
+        || doubled(alloc, &mut right, 21, &gate),
     );
-    let (Some(left), Some(right)) = (left?, right?) else {
+    let (Some(first), Some(second)) = (first?, second?) else {
         return Ok(false);
     };
-    let Some(third) = doubled(alloc, &mut cache.hold(rt), 21, &gate)? else {
+    let Some(third) = doubled(alloc, &mut left, 21, &gate)? else {
         return Ok(false);
     };
-    let hows = match left.how {
-        How::Stored => right.how == How::AlreadyExists,
-        How::AlreadyExists => right.how == How::Stored,
+    let hows = match first.how {
+        How::Stored => second.how == How::AlreadyExists,
+        How::AlreadyExists => second.how == How::Stored,
         _ => false,
     };
-    let outputs = [left.output, right.output, third.output];
+    let outputs = [first.output, second.output, third.output];
     Ok(hows && third.how == How::Hit && outputs == [42, 42, 42])
 }

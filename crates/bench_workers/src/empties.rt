@@ -2,7 +2,7 @@
 ghost use Rattle.std.specs.Prelude.{◌≡◌, []};
 ghost use Rattle.std.proofs.Common.{rules};
 
-use crate::gate::{Gate, Meeting};
+use crate::gate::{Gate, Meeting, TURNS};
 use comemo::{Begun, Cache, Fault, Hold, How, Keyed, Memo, Reply, Top, Track, begin};
 use comemo_samples::{Context, ContextCall};
 use std::alloc::Global;
@@ -69,7 +69,7 @@ pub fn two_runs_that_ask_other_questions<R: Threads + Wait + Clock + Sync>(
     alloc: Global,
 ) -> Result<bool, Fault> {
     let cache: Cache<Empty> = Cache::new(alloc);
-    let gate = Meeting::new(rt, 2);
+    let gate = Meeting::new(rt, 2, TURNS);
     let (left, right) = join(
         rt,
         || empty_by(alloc, &mut cache.hold(rt), ContextCall::Location, &gate),

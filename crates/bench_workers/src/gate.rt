@@ -21,24 +21,26 @@ impl Gate for Open {
     }
 }
 
-/// How many turns a worker waits for others.
-const TURNS: u32 = 10_000;
+/// How many turns a worker of a row waits for others.
+pub const TURNS: u32 = 10_000;
 
 /// A gate whose place 1 opens once so many workers came there. Its other places are open. A turn of waiting is a sleep of one
-/// millisecond, and after 10,000 of them it answers false. This project's own.
+/// millisecond, and after so many of them it answers false. This project's own.
 #[derive(Drop)]
 pub struct Meeting<'a, R: Clock> {
     rt: &'a R,
     wanted: usize,
+    turns: u32,
     come: AtomicUsize,
 }
 
 impl<'a, R: Clock> Meeting<'a, R> {
-    /// A gate to which nobody came yet.
-    pub fn new(rt: &'a R, wanted: usize) -> Self {
+    /// A gate to which nobody came yet, for so many workers, each of which waits so many turns. It takes no memory.
+    pub fn new(rt: &'a R, wanted: usize, turns: u32) -> Self {
         Meeting {
             rt,
             wanted,
+            turns,
             come: AtomicUsize::new(0),
         }
     }
@@ -50,7 +52,7 @@ impl<R: Clock> Gate for Meeting<'_, R> {
             return true;
         }
         self.come.fetch_add(1, Ordering::SeqCst);
-        for _ in 0..TURNS {
+        for _ in 0..self.turns {
             if self.come.load(Ordering::SeqCst) >= self.wanted {
                 return true;
             }

@@ -2,8 +2,11 @@
 //!
 //! ```rust
 //! use bench_workers::threads;
+//! use comemo::{Cache, MemoOf};
+//! use comemo_guide::double::Double;
 //!
-//! assert_eq!(rt; threads(&rt, alloc, 4, 100), Ok(true));
+//! let cache: Cache<MemoOf<Double>> = Cache::new(alloc);
+//! assert_eq!(rt; threads(&rt, alloc, &cache, 4, 100), Ok(true));
 //! ```
 #![tactic(auto)]
 
@@ -17,6 +20,6 @@ mod threads;
 pub use branches::branches_are_absorbed_in_order;
 pub use doubling::{doubled, two_runs_of_one_key};
 pub use empties::two_runs_that_ask_other_questions;
-pub use gate::{Gate, Meeting, Open};
-pub use nulls::evictions_reach_a_shared_cache;
+pub use gate::{Gate, Meeting, Open, TURNS};
+pub use nulls::{Null, evictions_reach_a_cache};
 pub use threads::threads;

@@ -2,12 +2,11 @@
 ghost use Rattle.std.specs.Prelude.{◌≡◌};
 ghost use Rattle.std.proofs.Common.{rules};
 
-use comemo::{Cache, Fault, Function, How, MemoOf, Recorder, Top, Track, memoized};
+use comemo::{Evict, Fault, Function, Hold, How, MemoOf, Recorder, Top, Track, memoized};
 use std::alloc::Global;
-use std::sync::Wait;
 
 /// Gives 0.
-struct Null;
+pub struct Null;
 
 impl Function for Null {
     type Key = ();
@@ -27,9 +26,13 @@ impl Function for Null {
     }
 }
 
-/// Whether an eviction of a shared cache drops what is as old as its bound, and a hit makes what it gives young again.
-pub fn evictions_reach_a_shared_cache<R: Wait>(rt: &R, alloc: Global) -> Result<bool, Fault> {
-    let cache: Cache<MemoOf<Null>> = Cache::new(alloc);
+/// Whether an eviction drops what is as old as its bound, and a hit makes what it gives young again, where a cache has one
+/// who holds it and one who evicts it.
+pub fn evictions_reach_a_cache<H: Hold<MemoOf<Null>>, E: Evict>(
+    alloc: Global,
+    cache: &mut H,
+    evictor: &E,
+) -> Result<bool, Fault> {
     // How many evictions by 1 come before a call, and what becomes of the call.
     let calls = [
         (0, How::Stored),
@@ -39,12 +42,11 @@ pub fn evictions_reach_a_shared_cache<R: Wait>(rt: &R, alloc: Global) -> Result<
     ];
     for (times, how) in calls {
         for _ in 0..times {
-            cache.evict(rt, 1);
+            evictor.evict(1);
         }
         let nothing = ();
         let view = nothing.track(alloc);
-        let held = &mut cache.hold(rt);
-        let reply = memoized(alloc, held, &mut (), (), &view, &mut Top::new(), true)?;
+        let reply = memoized(alloc, cache, &mut (), (), &view, &mut Top::new(), true)?;
         if reply.output != 0 || reply.how != how {
             return Ok(false);
         }

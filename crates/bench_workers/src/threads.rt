@@ -26,10 +26,10 @@ fn works<R: Wait>(rt: &R, alloc: Global, cache: &Cache<MemoOf<Double>>, calls: u
 pub fn threads<R: Threads + Wait + Sync>(
     rt: &R,
     alloc: Global,
+    cache: &Cache<MemoOf<Double>>,
     workers: usize,
     calls: u32,
 ) -> Result<bool, AllocError> {
-    let cache: Cache<MemoOf<Double>> = Cache::new(alloc);
-    let worked = map_indices(rt, alloc, workers, &|_| works(rt, alloc, &cache, calls))?;
+    let worked = map_indices(rt, alloc, workers, &|_| works(rt, alloc, cache, calls))?;
     Ok(worked.iter().all(|right| *right))
 }

@@ -1,5 +1,5 @@
 //! What holds a cache for a call: the cache itself, or a share of one that threads share.
-ghost use Rattle.std.specs.Prelude.{◌≡◌, [], Option, Some, true, false, IfOk, IfErr, OnOk, OnErr, IfSome, MatchOption};
+ghost use Rattle.std.specs.Prelude.{◌≡◌, [], Option, Some, true, false, IfOk, IfErr, OnOk, OnErr, IfSome, MatchOption, List};
 ghost use Rattle.std.specs.List.{All};
 ghost use Rattle.comemo_base.specs.Lookup.{under};
 ghost use Rattle.comemo_base.specs.Insertion.{IsReason};
@@ -14,6 +14,37 @@ use comemo_base::{CallSequence, InsertError};
 use comemo_track::input::Input;
 use comemo_track::track::Call;
 use std::alloc::AllocError;
+
+/// The reads of a run that a holder of a cache keeps, which are a `CallSequence`.
+///
+/// The trait stands for this one type, since a method of `Hold` can't name it: the checker doesn't cover a trait's method
+/// that takes a type with a map in it. This project's own.
+pub trait Reads {
+    /// What was asked.
+    type Call: Call;
+
+    /// What was answered.
+    type Answer: Clone + Ord;
+
+    // the pairs, in the order in which they were asked
+    ghost pairs: { Self → List (Self.Call × Self.Answer) };
+
+    /// The sequence itself. It takes no memory and constant time.
+    fn into_sequence(self) -> CallSequence<Self::Call, Self::Answer>
+        ensures { result.pairs ≡ pairs self };
+}
+
+impl<C: Call, R: Clone + Ord> Reads for CallSequence<C, R> {
+    type Call = C;
+
+    type Answer = R;
+
+    ghost pairs = { λ s. s.pairs };
+
+    fn into_sequence(self) -> CallSequence<C, R> {
+        self
+    }
+}
 
 /// What a call of a memoized function is handed for its cache: a `CacheData`, which is the only holder of its entries,
 /// or a `Shared`, which takes a lock for each of its steps.
@@ -52,22 +83,22 @@ pub trait Hold<M: Memo> {
             (TouchesAt M.Answer.eq M.Key.eq key.now answers.now) };
 
     /// Keeps the output of a run, as `CacheData::store` does.
-    fn store(
+    fn store<Q: Reads<Call = M::Call, Answer = M::Answer>>(
         &mut self,
         key: M::Key,
-        sequence: CallSequence<M::Call, M::Answer>,
+        reads: Q,
         output: M::Out,
         writes: Vec<M::Call>,
     ) -> Result<(), InsertError>
-        requires reads { All (λ p. M.Call.is_write p.0 ≡ false) sequence.pairs }
+        requires reads { All (λ p. M.Call.is_write p.0 ≡ false) (Q.pairs reads) }
         requires written { All (λ c. M.Call.is_write c ≡ true) writes.items }
         requires stands { Stands ⟦<M as Meant>⟧.meaning
-            (run key sequence.pairs output writes.items) }
+            (run key (Q.pairs reads) output writes.items) }
         ensures stored { OnOk result (Leads (entries self.old) (entries self.new) (λ es es'.
             Stores (exactly ⟦<M as Meant>⟧.meaning) es
-            (run key sequence.pairs output writes.items) es')) }
+            (run key (Q.pairs reads) output writes.items) es')) }
         ensures reason { IfErr result (λ error. Held (entries self.old) (λ es.
-            IsReason M.Call.eq M.Answer.eq (under M.Key.eq es key) sequence.pairs error)) }
+            IsReason M.Call.eq M.Answer.eq (under M.Key.eq es key) (Q.pairs reads) error)) }
         ensures err { OnErr result (Stays (entries self.old) (entries self.new)) };
 }
 
@@ -87,23 +118,23 @@ impl<M: Memo> Hold<M> for CacheData<M> {
         CacheData::touch(self, key, answers);
     }
 
-    fn store(
+    fn store<Q: Reads<Call = M::Call, Answer = M::Answer>>(
         &mut self,
         key: M::Key,
-        sequence: CallSequence<M::Call, M::Answer>,
+        reads: Q,
         output: M::Out,
         writes: Vec<M::Call>,
     ) -> Result<(), InsertError>
-        requires reads { All (λ p. M.Call.is_write p.0 ≡ false) sequence.pairs }
+        requires reads { All (λ p. M.Call.is_write p.0 ≡ false) (Q.pairs reads) }
         requires written { All (λ c. M.Call.is_write c ≡ true) writes.items }
         requires stands { Stands ⟦<M as Meant>⟧.meaning
-            (run key sequence.pairs output writes.items) }
+            (run key (Q.pairs reads) output writes.items) }
         ensures stored { OnOk result (Stores (exactly ⟦<M as Meant>⟧.meaning) self.old
-            (run key sequence.pairs output writes.items) self.new) }
+            (run key (Q.pairs reads) output writes.items) self.new) }
         ensures reason { IfErr result
-            (IsReason M.Call.eq M.Answer.eq (under M.Key.eq self.old key) sequence.pairs) }
+            (IsReason M.Call.eq M.Answer.eq (under M.Key.eq self.old key) (Q.pairs reads)) }
         ensures err { OnErr result (self.new ≡ self.old) }
     {
-        CacheData::store(self, key, sequence, output, writes)
+        CacheData::store(self, key, reads.into_sequence(), output, writes)
     }
 }

@@ -58,7 +58,7 @@ pub use eviction::{Caches, Evict, Evictor};
 pub use evictors::register_evictor;
 pub use function::{Function, FunctionOf, MemoOf, Recorder, Told, memoized};
 pub use function_mut::{FunctionMut, FunctionMutOf, MemoOfMut, RecorderMut, ToldMut, memoized_mut};
-pub use hold::Hold;
+pub use hold::{Hold, Reads};
 pub use pending::{Begun, Fault, How, Invoked, Pending, Reply, begin};
 pub use recursive::{Inner, MemoOfRecursive, ReadsAlone, Recursive, Start};
 pub use shared::{Cache, Shared};

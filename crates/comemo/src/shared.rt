@@ -9,8 +9,8 @@ ghost use Rattle.comemo.specs.Finish.{Stores};
 ghost use Rattle.comemo.specs.Held.{Held, Leads, Stays};
 
 use crate::cache::{CacheData, Found, Meant, Memo};
-use crate::hold::Hold;
-use comemo_base::{CallSequence, InsertError};
+use crate::hold::{Hold, Reads};
+use comemo_base::InsertError;
 use comemo_track::input::Input;
 use comemo_track::track::Call;
 use std::alloc::{AllocError, Global};
@@ -79,28 +79,28 @@ impl<M: Memo, R: Wait> Hold<M> for Shared<'_, M, R> {
         data.touch(key, answers);
     }
 
-    fn store(
+    fn store<Q: Reads<Call = M::Call, Answer = M::Answer>>(
         &mut self,
         key: M::Key,
-        sequence: CallSequence<M::Call, M::Answer>,
+        reads: Q,
         output: M::Out,
         writes: Vec<M::Call>,
     ) -> Result<(), InsertError>
-        requires reads { All (λ p. M.Call.is_write p.0 ≡ false) sequence.pairs }
+        requires reads { All (λ p. M.Call.is_write p.0 ≡ false) (Q.pairs reads) }
         requires written { All (λ c. M.Call.is_write c ≡ true) writes.items }
         requires stands { Stands ⟦<M as Meant>⟧.meaning
-            (run key sequence.pairs output writes.items) }
+            (run key (Q.pairs reads) output writes.items) }
         ensures stored { let none : Option (Entries M.Key M.Call M.Answer M.Out) = None in
             OnOk result (Leads none none (λ es es'.
             Stores (exactly ⟦<M as Meant>⟧.meaning) es
-            (run key sequence.pairs output writes.items) es')) }
+            (run key (Q.pairs reads) output writes.items) es')) }
         ensures reason { let none : Option (Entries M.Key M.Call M.Answer M.Out) = None in
             IfErr result (λ error. Held none (λ es.
-            IsReason M.Call.eq M.Answer.eq (under M.Key.eq es key) sequence.pairs error)) }
+            IsReason M.Call.eq M.Answer.eq (under M.Key.eq es key) (Q.pairs reads) error)) }
         ensures err { let none : Option (Entries M.Key M.Call M.Answer M.Out) = None in
             OnErr result (Stays none none) }
     {
         let mut data = self.cache.data.write(self.rt);
-        data.store(key, sequence, output, writes)
+        data.store(key, reads.into_sequence(), output, writes)
     }
 }

@@ -1,0 +1,57 @@
+//! Rows of caches that threads share.
+
+use crate::broken::Broken;
+use bench_workers::{
+    Null, branches_are_absorbed_in_order, evictions_reach_a_cache, two_runs_of_one_key,
+    two_runs_that_ask_other_questions,
+};
+use comemo::{Cache, Evict, Memo, MemoOf};
+use comemo_guide::double::Double;
+use std::alloc::Global;
+use std::rt::Clock;
+use std::sync::Wait;
+use std::thread::Threads;
+
+/// Whether of two runs of one key that are open at once one is stored, and a third call is a hit.
+pub(crate) fn a_shared_cache_stores_one_of_two<R: Threads + Wait + Clock + Sync>(
+    rt: &R,
+    alloc: Global,
+) -> Result<bool, Broken> {
+    let cache: Cache<MemoOf<Double>> = Cache::new(alloc);
+    let (left, right) = (cache.hold(rt), cache.hold(rt));
+    Ok(two_runs_of_one_key(rt, alloc, left, right)?)
+}
+
+/// Whether of two runs that are open at once and ask other questions one is stored.
+pub(crate) fn other_questions<R: Threads + Wait + Clock + Sync>(
+    rt: &R,
+    alloc: Global,
+) -> Result<bool, Broken> {
+    Ok(two_runs_that_ask_other_questions(rt, alloc)?)
+}
+
+/// Evicts a cache that it borrows.
+#[derive(Drop)]
+struct OfCache<'a, M: Memo, R: Wait> {
+    cache: &'a Cache<M>,
+    rt: &'a R,
+}
+
+impl<M: Memo, R: Wait> Evict for OfCache<'_, M, R> {
+    fn evict(&self, max_age: usize) {
+        self.cache.evict(self.rt, max_age);
+    }
+}
+
+/// Whether the branches of a run are absorbed in order, and an eviction reaches a cache that is shared.
+pub(crate) fn branches_and_evictions<R: Threads + Wait + Clock + Sync>(
+    rt: &R,
+    alloc: Global,
+) -> Result<bool, Broken> {
+    if !branches_are_absorbed_in_order(rt, alloc)? {
+        return Ok(false);
+    }
+    let cache: Cache<MemoOf<Null>> = Cache::new(alloc);
+    let evictor = OfCache { cache: &cache, rt };
+    Ok(evictions_reach_a_cache(alloc, &mut cache.hold(rt), &evictor)?)
+}
