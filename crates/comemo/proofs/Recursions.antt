@@ -1,11 +1,10 @@
 -- For the authors of functions that call themselves: what their calls tell, and what a recorder keeps on the way.
-use Rattle.std.proofs.Common.{◌≡◌, ◌∙◌, Bool, true, false, ◌↔◌, List, [], ◌++◌, Result, Ok, Err, IfOk, OnErr, IfErr, OnOk, IsErrAnd, refl, sym, ap, subst}
+use Rattle.std.proofs.Common.{◌≡◌, ◌∙◌, Bool, true, false, ◌↔◌, List, [], ◌++◌, Result, Ok, Err, IfErr, IsErrAnd, refl, sym, ap, subst}
 use Rattle.std.specs.Cmp.{IsEquivalence}
 use Rattle.comemo_base.specs.Answers.{Respects, Agrees}
 use Rattle.comemo_track.specs.Recording.{Recording, Took}
-use Rattle.comemo.specs.Meaning.{Meaning, Invocation, run}
+use Rattle.comemo.specs.Meaning.{Meaning, run}
 use Rattle.comemo.specs.Cache.{Entries}
-use Rattle.comemo.specs.Called.{IsReply}
 use Rattle.comemo.specs.Begin.{PendingRun}
 use Rattle.comemo.specs.Finish.{Ends, Gives, Finished}
 use Rattle.comemo.specs.Function.{Recorded, IsRecorded, Fits, Tells}

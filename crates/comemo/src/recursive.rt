@@ -1,5 +1,5 @@
 //! Memoized functions that call themselves, or one another: a call by hand, for a recorder.
-ghost use Rattle.std.specs.Prelude.{◌≡◌, [], true, List, IsTrue, refl, IfOk, IfErr, OnErr, ⊤};
+ghost use Rattle.std.specs.Prelude.{◌≡◌, ◌↔◌, [], true, List, IsTrue, refl, IfOk, IfErr, OnErr, ⊤};
 ghost use Rattle.std.proofs.Common.{◌∙◌, ap};
 ghost use Rattle.comemo.specs.Meaning.{reading, invocation, run};
 ghost use Rattle.comemo.specs.MeaningLaws.{none_alike};
@@ -18,14 +18,17 @@ use std::alloc::AllocError;
 use std::hash::Hash;
 use std::marker::PhantomData;
 
-/// A memoized function whose runs read alone: it means that there are no writes.
+/// A memoized function whose runs read alone: what it means of a key and answers, and that there are no writes.
 ///
 /// This project's own.
 pub trait ReadsAlone: Memo {
-    // what is right is right at no writes
+    // at this key and these answers, this output is right
+    ghost means: { Self.Key → (Self.Call → Self.Answer) → Self.Out → Type 0 };
+
+    // this, and no writes, is what the cache keeps
     ghost reads: { (key : Self.Key) (m : Self.Call → Self.Answer)
         (output : Self.Out) (writes : List Self.Call)
-        → Self.Memo.def key m output writes → writes ≡ [] };
+        → Self.Memo.def key m output writes ↔ reading means key m output writes };
 }
 
 /// A memoized function that calls itself through its own cache: what it means, of a key and a tracked value.
@@ -79,7 +82,9 @@ impl<F: Recursive> Memo for MemoOfRecursive<F> {
 }
 
 impl<F: Recursive> ReadsAlone for MemoOfRecursive<F> {
-    ghost reads = { λ key m output writes right. right.0 };
+    ghost means = { F.means };
+
+    ghost reads = { λ key m output writes. (λ right. right, λ right. right) };
 }
 
 /// How a call by hand started.
@@ -163,7 +168,7 @@ impl<'a, T: Track> Recorder<'a, T> {
         key: &G::Key,
     ) -> Result<Start<G::Out, Inner<'a, G::Key, T>>, Fault>
         ensures tells { TellsOwn ⟦<T as Told>⟧.fits self.old self.new result
-            (λ start m. OnStart start (λ output. G.def key.now m output []) (λ _. ⊤)) }
+            (λ start m. OnStart start (λ output. G.means key.now m output) (λ _. ⊤)) }
         ensures hit { IfOk result (λ start. OnStart start
             (λ output. (reply : Reply G.Out) × (reply.output ≡ output) × (reply.how ≡ How.Hit)
             × HeldReply ⟦<G as Meant>⟧.meaning (invocation key.now (T.answers self.old.value) true)
@@ -216,9 +221,9 @@ impl<'a, T: Track> Recorder<'a, T> {
         requires value { inner.recorder.value ≡ self.now.value }
         requires whole { inner.recorder.recording.whole ≡ true }
         requires right { (m : T.Call → T.Answer)
-            → ⟦<T as Told>⟧.fits inner.recorder.recording m → G.def key.now m output [] }
+            → ⟦<T as Told>⟧.fits inner.recorder.recording m → G.means key.now m output }
         ensures tells { TellsOwn ⟦<T as Told>⟧.fits self.old self.new result
-            (λ out m. G.def key.now m out []) }
+            (λ out m. G.means key.now m out) }
         ensures finished { IfOk result (λ out. (out ≡ output)
             × Leads (H.entries cache.old) (H.entries cache.new) (λ es es'.
             FinishedAs ⟦<G as Meant>⟧.meaning es (⟦<T as Told>⟧.took self.old self.new)

@@ -1,4 +1,4 @@
-use Rattle.std.proofs.Common.{[], refl, sym, subst, ap, ◌∙◌}
+use Rattle.std.proofs.Common.{refl, sym, subst, ap, ◌∙◌}
 use Rattle.comemo_base.specs.Answers.{Agrees}
 use Rattle.comemo.specs.Function.{Recorded}
 use Rattle.comemo.proofs.Calls.{broke_at_end}
@@ -9,7 +9,7 @@ use Rattle.comemo.proofs.function.Recorder.finish.Goals as goal
 pub finish-requires : goal.finish-requires
 finish-requires g c =
     let right = rw (← c.recorder.view_is) at c.requires.right in
-    λ w m r a. g.met.G.Memo.laws.keys c.args.key.now c.args.inner.own m c.args.output c.recorder.inside.recording.writes r c.requires.own (subst (λ ws. g.G.Memo.def c.args.key.now m c.args.output ws) (sym c.recorder.invariant.no_writes) (right m (record { whole = w; respects = r; agrees = a })))
+    λ w m r a. g.met.G.Memo.laws.keys c.args.key.now c.args.inner.own m c.args.output c.recorder.inside.recording.writes r c.requires.own ((g.met.G.ReadsAlone.reads c.args.key.now m c.args.output c.recorder.inside.recording.writes).1 (c.recorder.invariant.no_writes, right m (record { whole = w; respects = r; agrees = a })))
 
 pub returns-in_err-reply-clause-err : goal.returns-in_err-reply-clause-err
 returns-in_err-reply-clause-err g c =
@@ -36,7 +36,7 @@ returns-clause-tells g c =
     let agrees = subst (λ v. Agrees g.T.Answer.PartialEq.eq (g.T.Track.answers v) c.recorder.inside.recording.pairs) view (c.recorder.invariant.agrees whole) in
     let right = rw (← c.recorder.view_is) at c.requires.right in
     let done = (some_led (g.H.Hold.entries c.args.cache.now) (g.H.Hold.entries c.finish.new.cache) _ c.in_ok-reply.ensures.finished).2 in
-    rw (← c.self.view_is) (own_given (record { same_call = g.T.Call.PartialEq.eq; same_answer = g.T.Answer.PartialEq.eq; same_key = g.G.Key.PartialEq.eq; is_write = g.T.Call.Call.is_write; is_clone = g.G.Out.Clone.is_clone; def = g.G.Memo.def }) g.met.T.Call.Eq.laws g.met.T.Answer.Eq.laws (g.T.Track.answers i.view) (g.met.T.Track.alike i.view) c.self.invariant.agrees c.recorder.inside.recording.pairs c.recorder.inside.recording.writes agrees done.gives c.in_ok-reply.reply.output refl (λ n r a. subst (λ o. g.G.Memo.def c.args.key.now n o []) (sym done.same) (right n (record { whole = whole; respects = r; agrees = a }))))
+    rw (← c.self.view_is) (own_given (record { same_call = g.T.Call.PartialEq.eq; same_answer = g.T.Answer.PartialEq.eq; same_key = g.G.Key.PartialEq.eq; is_write = g.T.Call.Call.is_write; is_clone = g.G.Out.Clone.is_clone; def = g.G.Memo.def }) g.met.T.Call.Eq.laws g.met.T.Answer.Eq.laws (g.T.Track.answers i.view) (g.met.T.Track.alike i.view) c.self.invariant.agrees c.recorder.inside.recording.pairs c.recorder.inside.recording.writes agrees done.gives c.in_ok-reply.reply.output refl (λ n r a. subst (λ o. g.G.ReadsAlone.means c.args.key.now n o) (sym done.same) (right n (record { whole = whole; respects = r; agrees = a }))))
 
 pub returns-clause-finished : goal.returns-clause-finished
 returns-clause-finished g c =
