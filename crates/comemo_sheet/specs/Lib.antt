@@ -1,1 +1,3 @@
 pub mod Fibonacci
+pub mod Sheets
+pub mod SheetLaws

@@ -31,13 +31,13 @@ pub fn numbered(
     ensures { TellsOwn ⟦<() as Told>⟧.fits of.old of.new result
         (λ number _. number ≡ fib place % 2 ^ 64) }
 {
+    if place < 2 {
+        return Ok(place);
+    }
     let mut run = match of.start(cache, &place)? {
         Start::Hit(number) => return Ok(number),
         Start::Run(run) => run,
     };
-    if place < 2 {
-        return of.finish(cache, &place, run, place);
-    }
     let one = numbered(cache, place - 1, &mut run.recorder)?;
     let other = numbered(cache, place - 2, &mut run.recorder)?;
     of.finish(cache, &place, run, one.wrapping_add(other))

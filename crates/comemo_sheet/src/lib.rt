@@ -1,4 +1,10 @@
-//! Memoized functions that call themselves, as a user of the library writes them.
+//! A spreadsheet as a tracked value, memoized functions of it, and one that calls itself.
 #![tactic(auto)]
 
 pub mod fibonacci;
+pub mod number;
+//pub mod row;
+//pub mod settings;
+pub mod sheet;
+//pub mod shown;
+//pub mod value;
