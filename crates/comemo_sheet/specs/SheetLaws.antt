@@ -14,7 +14,7 @@ use Rattle.comemo_sheet.specs.contracts.sheet.SheetCallPartialEq.TheImpl as call
 use Rattle.comemo_sheet.specs.contracts.sheet.ContentPartialEq.TheImpl as content
 use Rattle.comemo_sheet.specs.contracts.sheet.ContentClone.TheImpl as clone
 
-content_refl : (x : Content) → IsTrue (content.ghosts.eq x x)
+pub content_refl : (x : Content) → IsTrue (content.ghosts.eq x x)
 content_refl x = search (rules, texts_refl)
 
 pub content_clones : (x y : Content) → clone.ghosts.is_clone x y → IsTrue (content.ghosts.eq x y)

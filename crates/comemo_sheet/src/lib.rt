@@ -3,7 +3,7 @@
 
 pub mod fibonacci;
 pub mod number;
-//pub mod row;
+pub mod row;
 //pub mod settings;
 pub mod sheet;
 //pub mod shown;

@@ -1,6 +1,6 @@
 //! The number that stands in a cell: a memoized function of a text and a tracked value.
 ghost use Rattle.std.specs.Prelude.{◌≡◌};
-ghost use Rattle.std.proofs.Common.{rules};
+ghost use Rattle.std.proofs.Common.{rules, ◌∙◌};
 ghost use Rattle.comemo_sheet.specs.Sheets.{number_in};
 ghost use Rattle.comemo_sheet.specs.SheetLaws.{number_alike};
 ghost use Rattle.comemo_sheet.specs.declared.sheet.SheetCall.TheVariants.{Cell};
@@ -22,7 +22,12 @@ impl Function for NumberIn {
 
     ghost means = { λ name m out. out ≡ number_in (m (Cell name)) };
 
-    ghost laws = { Prim.search (rules, number_alike) };
+    ghost laws = { record {
+      outputs = λ key m a b r c right. Prim.search rules;
+      keys = λ j k m output r e right.
+          right ∙ number_alike (m (Cell j)) (m (Cell k)) (r (Cell j) (Cell k) e);
+      clones = Prim.search rules;
+    } };
 
     fn run(name: &String, sheet: &mut Recorder<'_, Sheet>, _needs: &mut ()) -> Result<i64, Fault> {
         let content = sheet.ask(SheetCall::Cell(name.clone()?))?;

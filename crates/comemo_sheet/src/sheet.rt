@@ -1,5 +1,5 @@
 //! A sheet of cells by name, as a tracked value.
-ghost use Rattle.std.specs.Prelude.{◌≡◌, ℕ, List, false, refl, string_bytes, bytes_eq, if◌then◌else◌, OnOk, OnErr};
+ghost use Rattle.std.specs.Prelude.{◌≡◌, ℕ, List, false, refl, string_bytes, bytes_eq, if◌then◌else◌, IsTrue, IfOk, OnOk, OnErr};
 ghost use Rattle.std.proofs.Common.{rules};
 ghost use Rattle.comemo_sheet.specs.Sheets.{content_of, number_in, names_in};
 
@@ -75,6 +75,19 @@ impl Sheet {
         }
     }
 
+    /// What stands in the cell of a name.
+    fn content(&self, name: &str) -> Result<Content, AllocError>
+        ensures { IfOk result (λ content.
+            IsTrue (⟦<Content as PartialEq>⟧.eq (content_of self.now.cells name.now) content)) }
+    {
+        let Some(content) = self.cells.get(name) else {
+            return Ok(Content::Empty);
+        };
+        let own = content.clone()?;
+        Ok(own)
+    }
+
+    #[tactic(auto, using(std::proofs::lemmas::Map::Text::text_keys))]
     /// Sets a cell. An error says that there was no memory; then the sheet is as it was.
     pub fn set(&mut self, name: String, content: Content) -> Result<(), AllocError>
         ensures ok { OnOk result ((q : List ℕ) → content_of self.new.cells q
@@ -104,10 +117,8 @@ impl Track for Sheet {
     ghost clones = { content_clones };
 
     fn ask(&self, call: &SheetCall) -> Result<Content, AllocError> {
-        let SheetCall::Cell(name) = call;
-        match self.cells.get(name.as_str()) {
-            None => Ok(Content::Empty),
-            Some(content) => content.clone(),
+        match call {
+            SheetCall::Cell(name) => self.content(name.as_str()),
         }
     }
 }
