@@ -3,3 +3,7 @@ pub mod Sheets
 pub mod SheetLaws
 pub mod Totals
 pub mod TotalLaws
+pub mod Shown
+pub mod ShownLaws
+pub mod Values
+pub mod ValueLaws

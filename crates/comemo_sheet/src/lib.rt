@@ -4,7 +4,7 @@
 pub mod fibonacci;
 pub mod number;
 pub mod row;
-//pub mod settings;
+pub mod settings;
 pub mod sheet;
-//pub mod shown;
-//pub mod value;
+pub mod shown;
+pub mod value;

@@ -43,7 +43,7 @@ impl Function for RowTotal {
 }
 
 /// A sum, which wraps.
-fn add(total: i64, number: i64) -> i64
+pub fn add(total: i64, number: i64) -> i64
     ensures { result ≡ plus total number }
 {
     total.wrapping_add(number)
