@@ -21,3 +21,6 @@ module _ {V C R : Type 0} {fits : Recording C R → (C → R) → Type 0} where
     whole = b.whole ∙ a.whole;
     fault = tt;
   }
+
+  pub own_as : {X Y : Type 0} {s t : Recorded V C R} {P : X → (C → R) → Type 0} {Q : Y → (C → R) → Type 0} {x : X} {y : Y} → TellsOwn fits s t (Ok x) P → ((m : C → R) → fits t.recording m → P x m → Q y m) → TellsOwn fits s t (Ok y) Q
+  own_as a so = record { same_value = a.same_value; before = a.before; told = λ m f. so m f (a.told m f); whole = a.whole; fault = tt }

@@ -15,7 +15,7 @@ use Rattle.comemo_sheet.specs.contracts.sheet.SheetCallPartialEq.TheImpl as call
 use Rattle.comemo_sheet.specs.contracts.sheet.ContentPartialEq.TheImpl as content
 
 -- of equal contents, where names that are equal have one value
-pub sum_alike : (f : String Global → Option ℤ) → ((a b : String Global) → IsTrue (string_eq a b) → f a ≡ f b) → (x y : Content) → IsTrue (content.ghosts.eq x y) → sum_of f (number_in x) (names_in x) ≡ sum_of f (number_in y) (names_in y)
+pub sum_alike : (f : String Global → Option ℤ) → ((a b : String Global) → IsTrue (string_eq a b) → f a ≡ f b) → (x y : Content) → IsTrue (content.ghosts.eq x y) → sum_of f (Some (number_in x)) (names_in x) ≡ sum_of f (Some (number_in y)) (names_in y)
 sum_alike f alike x y e = rw (number_alike x y e) (fold_alike string_eq _ (λ total a b h. ap (both total) (alike a b h)) (Some (number_in y)) (names_in x) (names_in y) (names_alike x y e))
 
 pub value_alike : (m : SheetCall → Content) → Respects call.ghosts.eq content.ghosts.eq m → (limit : ℕ) (a b : String Global) → IsTrue (string_eq a b) → value_of m limit a ≡ value_of m limit b

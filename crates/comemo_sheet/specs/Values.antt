@@ -14,11 +14,11 @@ both None value = None
 both (Some total) None = None
 both (Some total) (Some value) = Some (plus total value)
 
--- a number and the values of names, by this word for the value of a name
-abbrev pub sum_of : (String Global → Option ℤ) → ℤ → List (String Global) → Option ℤ
-sum_of f number names = fold (λ total name. both total (f name)) (Some number) names
+-- the sum of a value and those of names, by this word for the value of a name
+abbrev pub sum_of : (String Global → Option ℤ) → Option ℤ → List (String Global) → Option ℤ
+sum_of f start names = fold (λ total name. both total (f name)) start names
 
 -- the value of the cell of a name, by cells down to a limit; none where it goes deeper
 abbrev pub value_of : (SheetCall → Content) → ℕ → String Global → Option ℤ
 value_of m zero name = None
-value_of m (suc limit) name = sum_of (value_of m limit) (number_in (m (Cell name))) (names_in (m (Cell name)))
+value_of m (suc limit) name = sum_of (value_of m limit) (Some (number_in (m (Cell name)))) (names_in (m (Cell name)))

@@ -2,12 +2,11 @@
 ghost use Rattle.std.specs.Prelude.{◌≡◌};
 ghost use Rattle.std.proofs.Common.{rules, ◌∙◌};
 ghost use Rattle.comemo.specs.Recursive.{TellsOwn};
-ghost use Rattle.comemo_sheet.specs.Sheets.{number_in, names_in};
-ghost use Rattle.comemo_sheet.specs.Values.{both, sum_of, value_of};
+ghost use Rattle.comemo_sheet.specs.Values.{both, value_of};
 ghost use Rattle.comemo_sheet.specs.ValueLaws.{value_alike};
 
 use crate::row::add;
-use crate::sheet::{Content, Sheet, SheetCall};
+use crate::sheet::{Sheet, SheetCall};
 use comemo::function::Told;
 use comemo::{CacheData, Fault, MemoOfRecursive, Recorder, Recursive, Start};
 
@@ -42,26 +41,7 @@ fn sum(total: Option<i64>, value: Option<i64>) -> Option<i64>
     }
 }
 
-/// The value of a content, by the values of the cells to whose names it refers.
-#[cycle(valuing)]
-fn summed(
-    cache: &mut CacheData<MemoOfRecursive<Value>>,
-    content: &Content,
-    limit: u64,
-    of: &mut Recorder<'_, Sheet>,
-) -> Result<Option<i64>, Fault>
-    ensures { TellsOwn ⟦<Sheet as Told>⟧.fits of.old of.new result (λ value m. value
-        ≡ sum_of (value_of m limit) (number_in content.now) (names_in content.now)) }
-{
-    let mut total = Some(content.number());
-    for name in content.names() {
-        total = sum(total, valued(cache, name.clone()?, limit, of)?);
-    }
-    Ok(total)
-}
-
 /// The value of the cell of a name, kept, by cells down to a limit.
-#[cycle(valuing)]
 pub fn valued(
     cache: &mut CacheData<MemoOfRecursive<Value>>,
     name: String,
@@ -80,6 +60,10 @@ pub fn valued(
         Start::Run(run) => run,
     };
     let content = run.recorder.ask(SheetCall::Cell(key.0.clone()?))?;
-    let value = summed(cache, &content, limit - 1, &mut run.recorder)?;
-    of.finish(cache, &key, run, value)
+    let mut total = Some(content.number());
+    for name in content.names() {
+        let value = valued(cache, name.clone()?, limit - 1, &mut run.recorder)?;
+        total = sum(total, value);
+    }
+    of.finish(cache, &key, run, total)
 }
