@@ -38,6 +38,7 @@ mod program;
 mod random;
 mod recordings;
 mod sessions;
+mod settled;
 mod sharing;
 mod steps;
 mod table;

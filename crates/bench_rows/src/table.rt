@@ -10,11 +10,12 @@ use crate::orders::runs_in_another_order;
 use crate::outcome::Outcome;
 use crate::places::a_thousand_places_are_kept;
 use crate::recordings::recordings_absorb_and_hold;
-use crate::sharing::{a_shared_cache_stores_one_of_two, branches_and_evictions, other_questions};
 use crate::sessions::{
     a_script_too_high_is_told_so, a_script_without_a_number_says_why,
     a_value_is_kept_until_its_files_change, the_bytes_of_files_are_counted,
 };
+use crate::settled::no_run_is_lost;
+use crate::sharing::{a_shared_cache_stores_one_of_two, branches_and_evictions, other_questions};
 use crate::texts::{functions_are_kept, two_kinds_of_questions};
 use crate::trees::{
     a_call_that_was_taken_out_stays_seen, a_path_follows_the_stored_ones,
@@ -29,8 +30,8 @@ use std::thread::Threads;
 
 /// Runs each row, and says which failed first.
 ///
-/// The longest, of a thousand places, calls a function two thousand times; each of the others makes some dozen calls. Two start threads, which wait
-/// for each other.
+/// The longest, of a thousand places, calls a function two thousand times, and one stores and looks up a thousand runs;
+/// each of the others makes some dozen calls. Three start two threads each, of which two wait for each other.
 /// A row for which there is no memory fails. This project's own.
 pub fn run_rows<R: Threads + Wait + Clock + Sync>(rt: &R, alloc: Global) -> Outcome
     ensures { IfSome result (Contains row_numbers) }
@@ -61,6 +62,7 @@ pub fn run_rows<R: Threads + Wait + Clock + Sync>(rt: &R, alloc: Global) -> Outc
     rows.row("24", the_bytes_of_files_are_counted(alloc));
     rows.row("25", functions_are_kept(alloc));
     rows.row("R8", branches_and_evictions(rt, alloc));
+    rows.row("R10", no_run_is_lost(alloc));
     rows.row("R13", touches_go_by_answers(alloc));
     rows.row("R13", other_questions(rt, alloc));
     rows

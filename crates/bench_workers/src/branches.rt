@@ -38,12 +38,13 @@ pub fn branches_are_absorbed_in_order<R: Threads + Sync>(
     let mut run = left?;
     run.absorb(right?)?;
     let (mut pairs, _) = run.into_parts();
-    let mut wanted = 0;
-    while let Some((call, answer)) = pairs.next() {
+    for wanted in 0..3 {
+        let Some((call, answer)) = pairs.next() else {
+            return Ok(false);
+        };
         if call.place != wanted || answer != u64::from(wanted) + 1 {
             return Ok(false);
         }
-        wanted += 1;
     }
-    Ok(wanted == 3)
+    Ok(pairs.next().is_none())
 }

@@ -25,24 +25,33 @@ module _ {V C R X : Type 0} {fits : Recording C R → (C → R) → Type 0} {s t
   own_memory (Ok x) v h = absurd h
   own_memory (Err f) v h = record { same_value = v; before = tt; told = tt; whole = tt; fault = λ e. let no : fault.Memory ≡ fault.Incomplete = sym h ∙ e in cc }
 
-module _ {V C R : Type 0} {fits : Recording C R → (C → R) → Type 0} where
+module _ {V C R : Type 0} {fits : Recording C R → (C → R) → Type 0} {X Y : Type 0} {P : X → (C → R) → Type 0} {Q : Y → (C → R) → Type 0} {x : X} {y : Y} where
   -- what was told tells what follows from it
-  pub tells_as : {X Y : Type 0} {s t : Recorded V C R} {P : X → (C → R) → Type 0} {Q : Y → (C → R) → Type 0} (x : X) (y : Y) → TellsOwn fits s t (Ok x) P → ((m : C → R) → fits t.recording m → P x m → Q y m) → TellsOwn fits s t (Ok y) Q
-  tells_as x y a then = record { same_value = a.same_value; before = a.before; told = λ m f. then m f (a.told m f); whole = a.whole; fault = tt }
+  pub own_as : {s t : Recorded V C R} → TellsOwn fits s t (Ok x) P → ((m : C → R) → fits t.recording m → P x m → Q y m) → TellsOwn fits s t (Ok y) Q
+  own_as a so = record { same_value = a.same_value; before = a.before; told = λ m f. so m f (a.told m f); whole = a.whole; fault = tt }
 
   -- two calls in turn tell what follows from both
-  pub tells_on : {X Y Z : Type 0} {s t u : Recorded V C R} {P : X → (C → R) → Type 0} {Q : Y → (C → R) → Type 0} {S : Z → (C → R) → Type 0} (x : X) (y : Y) (z : Z) → TellsOwn fits s t (Ok x) P → TellsOwn fits t u (Ok y) Q → ((m : C → R) → fits u.recording m → P x m → Q y m → S z m) → TellsOwn fits s u (Ok z) S
-  tells_on x y z a b then = record {
+  pub own_then : {Z : Type 0} {s t u : Recorded V C R} {S : Z → (C → R) → Type 0} {z : Z} → TellsOwn fits s t (Ok x) P → TellsOwn fits t u (Ok y) Q → ((m : C → R) → fits u.recording m → P x m → Q y m → S z m) → TellsOwn fits s u (Ok z) S
+  own_then a b both = record {
     same_value = b.same_value ∙ a.same_value;
     before = λ m f. a.before m (b.before m f);
-    told = λ m f. then m f (a.told m (b.before m f)) (b.told m f);
+    told = λ m f. both m f (a.told m (b.before m f)) (b.told m f);
     whole = b.whole ∙ a.whole;
     fault = tt;
   }
 
+  -- two questions or calls in turn, where nothing is said of a loss
+  pub tells_then : {Z : Type 0} {s t u : Recorded V C R} {S : Z → (C → R) → Type 0} {z : Z} → Tells fits s t (Ok x) P → Tells fits t u (Ok y) Q → ((m : C → R) → fits u.recording m → P x m → Q y m → S z m) → Tells fits s u (Ok z) S
+  tells_then a b both = record {
+    same_value = b.same_value ∙ a.same_value;
+    before = λ m f. a.before m (b.before m f);
+    told = λ m f. both m f (a.told m (b.before m f)) (b.told m f);
+    fault = tt;
+  }
+
 -- what a recorder of nothing was told holds of its value's answers
-pub tells_now : {V C R X : Type 0} {eq : C → C → Bool} {same : R → R → Bool} {s t : Recorded V C R} {P : X → (C → R) → Type 0} (m : C → R) (x : X) → Respects eq same m → s.recording.whole ≡ true → (t.recording.whole ≡ true → Agrees same m t.recording.pairs) → TellsOwn (Fits eq same) s t (Ok x) P → P x m
-tells_now m x r w agrees a = a.told m (record { whole = a.whole ∙ w; respects = r; agrees = agrees (a.whole ∙ w) })
+pub own_now : {V C R X : Type 0} {eq : C → C → Bool} {same : R → R → Bool} {s t : Recorded V C R} {P : X → (C → R) → Type 0} {x : X} (m : C → R) → Respects eq same m → s.recording.whole ≡ true → (t.recording.whole ≡ true → Agrees same m t.recording.pairs) → TellsOwn (Fits eq same) s t (Ok x) P → P x m
+own_now m r w agrees a = a.told m (record { whole = a.whole ∙ w; respects = r; agrees = agrees (a.whole ∙ w) })
 
 module _ {K C R O : Type 0} (M : Meaning K C R O) (calls : IsEquivalence M.same_call) (answers : IsEquivalence M.same_answer) (m : C → R) (respects : Respects M.same_call M.same_answer m) {V : Type 0} {s t : Recorded V C R} (before : s.recording.whole ≡ true → Agrees M.same_answer m s.recording.pairs) (pairs : List (C × R)) (writes : List C) (agrees : Agrees M.same_answer m pairs) (gives : Gives M (Took M.same_call s.recording t.recording) pairs writes) where
   -- a call that rests on pairs with which the present answers agree, and which went to the recorder, tells what is right by these

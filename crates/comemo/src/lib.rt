@@ -56,7 +56,7 @@ pub use comemo_track::{
 pub use comemo_tree::CallTree;
 pub use eviction::{Caches, Evict, Evictor};
 pub use evictors::register_evictor;
-pub use function::{Function, FunctionOf, MemoOf, Recorder, Told, memoized};
+pub use function::{Function, FunctionOf, MemoOf, Recorder, Told, called, memoized};
 pub use function_mut::{FunctionMut, FunctionMutOf, MemoOfMut, RecorderMut, ToldMut, memoized_mut};
 pub use hold::{Hold, Reads};
 pub use pending::{Begun, Fault, How, Invoked, Pending, Reply, begin};

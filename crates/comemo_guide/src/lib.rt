@@ -36,6 +36,7 @@ pub mod passes;
 pub mod region;
 pub mod report;
 pub mod several;
+pub mod shared;
 pub mod tally;
 pub mod texts;
 pub mod warmth;

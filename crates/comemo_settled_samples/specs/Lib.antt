@@ -1,1 +1,2 @@
 pub mod LetterCalls
+pub mod PlaceCalls

@@ -1,5 +1,5 @@
 //! A function for examples: under every key it asks A and B, in whatever order, and C too where A is answered 1.
-ghost use Rattle.std.specs.Prelude.{◌≢◌, [], nat_eq, IfErr};
+ghost use Rattle.std.specs.Prelude.{◌≢◌, [], nat_eq, IfErr, IfOk};
 ghost use Rattle.comemo_base.specs.Sequence.{absorbed};
 ghost use Rattle.comemo_base.specs.declared.insertion.InsertError.TheVariants.{MissingCall};
 ghost use Rattle.comemo_settled.specs.Runs.{IsRun};
@@ -10,7 +10,7 @@ ghost use Rattle.std.proofs.Common.{rules};
 use crate::sequences::sequence_of;
 use comemo_base::InsertError;
 use comemo_settled::{Asks, Settled};
-use std::alloc::Global;
+use std::alloc::{AllocError, Global};
 
 /// A call.
 #[derive(Clone, Copy, Debug, PartialEq, Eq, Hash)]
@@ -59,4 +59,27 @@ pub fn insert(
 {
     let sequence = sequence_of(alloc, pairs)?;
     tree.insert(0, sequence, value)
+}
+
+/// The pairs of the run with these answers in one of its orders, of which the number picks one.
+///
+/// Where A is not answered 1 there is no C, and its answer is left out.
+pub fn run_of(
+    alloc: Global,
+    order: u64,
+    a: u128,
+    b: u128,
+    c: u128,
+) -> Result<Vec<(Letter, u128)>, AllocError>
+    ensures { IfOk result (λ pairs.
+        IsRun ⟦<Letter as PartialEq>⟧.eq nat_eq (λ m c. AsksLetter m c)
+        (absorbed ⟦<Letter as PartialEq>⟧.eq [] pairs.items)) }
+{
+    match (a, order) {
+        (1, 0) => Ok(vec![in alloc; (Letter::A, a), (Letter::B, b), (Letter::C, c)]?),
+        (1, 1) => Ok(vec![in alloc; (Letter::A, a), (Letter::C, c), (Letter::B, b)]?),
+        (1, _) => Ok(vec![in alloc; (Letter::B, b), (Letter::A, a), (Letter::C, c)]?),
+        (_, 0) => Ok(vec![in alloc; (Letter::A, a), (Letter::B, b)]?),
+        _ => Ok(vec![in alloc; (Letter::B, b), (Letter::A, a)]?),
+    }
 }

@@ -2,4 +2,5 @@
 #![tactic(auto)]
 
 pub mod letters;
+pub mod places;
 pub mod sequences;

@@ -15,6 +15,7 @@ mod report;
 mod runs;
 mod scatter;
 mod seen;
+mod sharing;
 mod stopwatch;
 mod sums;
 mod tree_runs;

@@ -8,6 +8,8 @@ use std::alloc::{AllocError, Global};
 use std::fmt;
 use std::io::Write;
 use std::rt::Clock;
+use std::sync::Wait;
+use std::thread::Threads;
 
 /// How often a workload is timed.
 const REPETITIONS: u32 = 9;
@@ -60,7 +62,7 @@ impl fmt::Display for Each {
 /// Writes the name and the sum of each workload, after a few operations.
 ///
 /// A failure ends it; then the lines of the workloads before are written.
-pub fn write_sums<R: Clock, W: Write>(
+pub fn write_sums<R: Clock + Threads + Wait + Sync, W: Write>(
     rt: &R,
     alloc: Global,
     writer: &mut W,
@@ -77,7 +79,7 @@ pub fn write_sums<R: Clock, W: Write>(
 /// The times are those of one operation, in nanoseconds: the median, the least and the greatest of some repetitions,
 /// after one that isn't counted. Where a clock could not be read there are none. A failure ends it; then the lines of
 /// the workloads before are written.
-pub fn write_times<R: Clock, W: Write>(
+pub fn write_times<R: Clock + Threads + Wait + Sync, W: Write>(
     rt: &R,
     alloc: Global,
     writer: &mut W,
@@ -105,7 +107,7 @@ pub fn write_times<R: Clock, W: Write>(
 ///
 /// Each line is written as soon as its input was carried out, since some take minutes. The time is that of one round,
 /// in nanoseconds. A failure ends it; then the lines of the inputs before are written.
-pub fn write_large<R: Clock, W: Write>(
+pub fn write_large<R: Clock + Threads + Wait + Sync, W: Write>(
     rt: &R,
     alloc: Global,
     writer: &mut W,

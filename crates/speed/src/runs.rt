@@ -7,6 +7,7 @@ use crate::hashing::{bytes, fold_numbers, text};
 use crate::inputs::Input;
 use crate::lengths::{length_by_kept_number, length_by_number, length_of};
 use crate::seen::Seen;
+use crate::sharing::{Share, take_sums};
 use crate::stopwatch::Stopwatch;
 use crate::sums::{SumKey, SumMemo, sum};
 use crate::tree_runs::{insert_scattered, retain};
@@ -15,6 +16,8 @@ use comemo::{CacheData, Fault, Hashed, Prehashed, Track};
 use comemo_samples::{Cells, Counter};
 use std::alloc::{AllocError, Global};
 use std::rt::Clock;
+use std::sync::Wait;
+use std::thread::Threads;
 
 /// The text workloads' key has a mebibyte.
 const TEXT_BYTES: usize = 1_048_576;
@@ -26,7 +29,7 @@ const CELLS: u32 = 128;
 ///
 /// A fault says that there was no memory for one of them, or for what they work on. The time is that of all operations
 /// together; the sum depends on the workload and their number alone.
-pub fn run<R: Clock>(
+pub fn run<R: Clock + Threads + Wait + Sync>(
     rt: &R,
     alloc: Global,
     workload: Workload,
@@ -42,6 +45,18 @@ pub fn run<R: Clock>(
         Workload::HitAmongKeys { keys } => hit_among_keys(rt, alloc, keys, operations),
         Workload::HitWrites { levels } => hit_writes(rt, alloc, levels, operations),
         Workload::MissWrites { levels } => miss_writes(rt, alloc, levels, operations),
+        Workload::Shared {
+            threads,
+            calls,
+            misses,
+        } => {
+            let share = Share {
+                count: calls,
+                each: operations / u64::from(threads.max(1)),
+                misses,
+            };
+            take_sums(rt, alloc, threads as usize, share)
+        }
         Workload::Retain { layout, keeps } => retain(rt, alloc, layout, keeps, operations),
         Workload::Evict { layout, left } => evict(rt, alloc, layout, left, operations),
         Workload::InsertScattered => insert_scattered(rt, alloc, operations),

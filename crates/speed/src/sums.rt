@@ -3,10 +3,11 @@ ghost use Rattle.std.specs.Prelude.{IfOk, OnErr, ◌≡◌, ℕ, nat_eq, slice_i
 ghost use Rattle.std.proofs.Common.{rules};
 ghost use Rattle.comemo.specs.Meaning.{reading};
 ghost use Rattle.comemo.specs.Answers.{Respects, Agrees};
+ghost use Rattle.comemo.specs.Held.{Stays};
 ghost use Rattle.speed.specs.Sums.{sum_of};
 ghost use Rattle.comemo_samples.specs.Cells.{by_call, same_get, numbers};
 
-use comemo::{Begun, CacheData, Constraint, Fault, How, Keyed, Memo, Reply, Top, Tracked, begin};
+use comemo::{Begun, Constraint, Fault, Hold, How, Keyed, Memo, Reply, Top, Tracked, begin};
 use comemo_samples::{Cells, Get};
 use std::alloc::{AllocError, Global};
 use std::hash::Hash;
@@ -66,15 +67,15 @@ fn add_cells(
 ///
 /// An error says that there was no memory; then the cache is as it was. A run asks so many cells, each by one call; a
 /// hit asks them too, along one stored path.
-pub fn sum(
+pub fn sum<H: Hold<SumMemo>>(
     alloc: Global,
-    cache: &mut CacheData<SumMemo>,
+    cache: &mut H,
     key: SumKey,
     cells: &Tracked<'_, Cells>,
 ) -> Result<Reply<u64>, Fault>
     ensures output { IfOk result (λ reply.
         reply.output ≡ sum_of key.start key.count (λ at. slice_index cells.now.numbers.items at)) }
-    ensures err { OnErr result (cache.new ≡ cache.old) }
+    ensures err { OnErr result (Stays (H.entries cache.old) (H.entries cache.new)) }
 {
     let mut sink = Top::new();
     let mut input = Keyed {

@@ -26,6 +26,12 @@ pub enum Workload {
     HitWrites { levels: u32 },
     /// Runs of so many levels, each of which writes once, each under a key of its own.
     MissWrites { levels: u32 },
+    /// Sums of so many cells by so many threads through one cache, all kept, or nine of ten.
+    Shared {
+        threads: u32,
+        calls: u32,
+        misses: bool,
+    },
     /// A retention by the call tree alone, of entries that lie so. It keeps all of them, or drops all.
     Retain { layout: Layout, keeps: bool },
     /// An eviction from a cache whose entries lie so, which leaves so many.
@@ -43,7 +49,7 @@ pub enum Workload {
 }
 
 /// All workloads, in the order in which they are done.
-pub const WORKLOADS: [Workload; 48] = [
+pub const WORKLOADS: [Workload; 59] = [
     Workload::Sip { bytes: 16 },
     Workload::Sip { bytes: 64 },
     Workload::Sip { bytes: 1024 },
@@ -70,6 +76,61 @@ pub const WORKLOADS: [Workload; 48] = [
     Workload::HitWrites { levels: 10 },
     Workload::MissWrites { levels: 1 },
     Workload::MissWrites { levels: 3 },
+    Workload::Shared {
+        threads: 1,
+        calls: 0,
+        misses: false,
+    },
+    Workload::Shared {
+        threads: 2,
+        calls: 0,
+        misses: false,
+    },
+    Workload::Shared {
+        threads: 4,
+        calls: 0,
+        misses: false,
+    },
+    Workload::Shared {
+        threads: 1,
+        calls: 1,
+        misses: false,
+    },
+    Workload::Shared {
+        threads: 2,
+        calls: 1,
+        misses: false,
+    },
+    Workload::Shared {
+        threads: 4,
+        calls: 1,
+        misses: false,
+    },
+    Workload::Shared {
+        threads: 1,
+        calls: 10,
+        misses: false,
+    },
+    Workload::Shared {
+        threads: 2,
+        calls: 10,
+        misses: false,
+    },
+    Workload::Shared {
+        threads: 4,
+        calls: 10,
+        misses: false,
+    },
+    Workload::Shared {
+        threads: 1,
+        calls: 1,
+        misses: true,
+    },
+    Workload::Shared {
+        threads: 4,
+        calls: 1,
+        misses: true,
+    },
     Workload::Retain {
         layout: Layout::Keys { calls: 1 },
         keeps: true,
@@ -157,6 +218,11 @@ impl Workload {
             Workload::MissWrites { levels } => {
                 format!(in alloc; "miss {levels} levels that write")
             }
+            Workload::Shared {
+                threads,
+                calls,
+                misses,
+            } => shared_name(alloc, threads, calls, misses),
             Workload::Retain { layout, keeps } => retain_name(alloc, layout, keeps),
             Workload::Evict { layout, left } => evict_name(alloc, layout, left),
             Workload::InsertScattered => String::from_str(alloc, "tree insert, scattered answers"),
@@ -187,6 +253,11 @@ impl Workload {
             Workload::HitAmong { .. } | Workload::HitAmongKeys { .. } => 400_000,
             Workload::HitWrites { levels: 0..=3 } => 300_000,
             Workload::HitWrites { .. } => 150_000,
+            Workload::Shared {
+                threads,
+                calls,
+                misses,
+            } => u64::from(threads) * shared_by_each(calls, misses),
             Workload::Retain { .. } | Workload::Evict { .. } | Workload::InsertScattered => 100_000,
             Workload::TextItself | Workload::TextByNumber => 20,
             Workload::TextByKeptNumber => 500_000,
@@ -228,6 +299,27 @@ fn sip_name(alloc: Global, bytes: usize) -> Result<String, AllocError> {
         1..=1023 => format!(in alloc; "sip {kibibytes} KiB"),
         _ => format!(in alloc; "sip {} MiB", kibibytes / 1024),
     }
+}
+
+/// How many sums each thread of a timed repetition takes.
+fn shared_by_each(calls: u32, misses: bool) -> u64 {
+    match calls {
+        _ if misses => 30_000,
+        0 => 500_000,
+        1 => 333_333,
+        _ => 83_333,
+    }
+}
+
+/// What sums of several threads are called.
+fn shared_name(
+    alloc: Global,
+    threads: u32,
+    calls: u32,
+    misses: bool,
+) -> Result<String, AllocError> {
+    let does = if misses { "mix" } else { "hit" };
+    format!(in alloc; "{does} {calls} calls, {threads} threads")
 }
 
 /// What a retention by the call tree is called.

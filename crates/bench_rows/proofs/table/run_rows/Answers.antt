@@ -11,7 +11,7 @@ next None _ (Ok false) _ held earlier failed is h = subst (λ o. IfSome o (Conta
 next None _ (Err _) _ held earlier failed is h = subst (λ o. IfSome o (Contains row_numbers)) (sym (failed refl (λ e. search (rules, e)))) is
 
 pub returns : goal.returns
-returns c =
+returns g c =
     let upto0 = next _ _ _ _ c.row.ensures.held c.row.ensures.earlier c.row.ensures.failed (0, omega arith, refl) (subst (λ o. IfSome o (Contains row_numbers)) (sym c.new-rows.ensures) tt) in
     let upto1 = next _ _ _ _ c.row-2.ensures.held c.row-2.ensures.earlier c.row-2.ensures.failed (1, omega arith, refl) upto0 in
     let upto2 = next _ _ _ _ c.row-3.ensures.held c.row-3.ensures.earlier c.row-3.ensures.failed (2, omega arith, refl) upto1 in
@@ -36,4 +36,8 @@ returns c =
     let upto21 = next _ _ _ _ c.row-22.ensures.held c.row-22.ensures.earlier c.row-22.ensures.failed (21, omega arith, refl) upto20 in
     let upto22 = next _ _ _ _ c.row-23.ensures.held c.row-23.ensures.earlier c.row-23.ensures.failed (22, omega arith, refl) upto21 in
     let upto23 = next _ _ _ _ c.row-24.ensures.held c.row-24.ensures.earlier c.row-24.ensures.failed (23, omega arith, refl) upto22 in
-    upto23
+    let upto24 = next _ _ _ _ c.row-25.ensures.held c.row-25.ensures.earlier c.row-25.ensures.failed (24, omega arith, refl) upto23 in
+    let upto25 = next _ _ _ _ c.row-26.ensures.held c.row-26.ensures.earlier c.row-26.ensures.failed (25, omega arith, refl) upto24 in
+    let upto26 = next _ _ _ _ c.row-27.ensures.held c.row-27.ensures.earlier c.row-27.ensures.failed (26, omega arith, refl) upto25 in
+    let upto27 = next _ _ _ _ c.row-28.ensures.held c.row-28.ensures.earlier c.row-28.ensures.failed (26, omega arith, refl) upto26 in
+    upto27

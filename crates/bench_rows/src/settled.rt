@@ -1,0 +1,133 @@
+//! The row of a tree that loses no run to another order of its calls.
+
+use crate::broken::Broken;
+use comemo::InsertError;
+use comemo_settled::{Settled, TreeReply};
+use comemo_settled_samples::letters::Letter::{self, A, B, C};
+use comemo_settled_samples::letters::{Letters, insert};
+use comemo_settled_samples::places::{PlaceCall, Places, steps_below};
+use std::alloc::{AllocError, Global};
+
+type Tree = Settled<Letters, char>;
+
+fn insert_x(alloc: Global, tree: &mut Tree) -> Result<(), InsertError> {
+    let pairs = vec![in alloc; (A, 1), (B, 2), (C, 3)]?;
+    insert(alloc, tree, pairs, 'x')
+}
+
+fn insert_y(alloc: Global, tree: &mut Tree) -> Result<(), InsertError> {
+    let pairs = vec![in alloc; (B, 5), (A, 2)]?;
+    insert(alloc, tree, pairs, 'y')
+}
+
+fn insert_z(alloc: Global, tree: &mut Tree) -> Result<(), InsertError> {
+    let pairs = vec![in alloc; (B, 2), (A, 1), (C, 4)]?;
+    insert(alloc, tree, pairs, 'z')
+}
+
+/// Puts `w` under the pairs of `x` in another order.
+fn insert_w(alloc: Global, tree: &mut Tree) -> Result<(), InsertError> {
+    let pairs = vec![in alloc; (B, 2), (A, 1), (C, 3)]?;
+    insert(alloc, tree, pairs, 'w')
+}
+
+/// The answer of a table to a call. One that the table lacks is refused.
+fn answer_in(table: &[(Letter, u128)], call: Letter) -> Result<u128, AllocError> {
+    for (known, answer) in table {
+        if *known == call {
+            return Ok(*answer);
+        }
+    }
+    Err(AllocError)
+}
+
+/// Whether a tree finds this by the answers of a table, and asks these calls for it.
+fn finds(
+    alloc: Global,
+    tree: &Tree,
+    table: &[(Letter, u128)],
+    value: Option<char>,
+    calls: &[Letter],
+) -> Result<bool, AllocError> {
+    let mut asked = Vec::new(alloc);
+    let found = tree.get(
+        &0,
+        &mut |call: &Letter| {
+            asked.push(*call)?;
+            answer_in(table, *call)
+        },
+    )?;
+    Ok(found.copied() == value && asked.as_slice() == calls)
+}
+
+/// Whether a set of pairs is stored once, whichever of its orders comes, and again after it was dropped.
+fn sets_are_stored_once(alloc: Global) -> Result<bool, InsertError> {
+    let mut tree = Settled::new(alloc);
+    insert_x(alloc, &mut tree)?;
+    insert_y(alloc, &mut tree)?;
+    insert_z(alloc, &mut tree)?;
+    let twice = insert_w(alloc, &mut tree) == Err(InsertError::AlreadyExists);
+    let x = finds(alloc, &tree, &[(A, 1), (B, 2), (C, 3)], Some('x'), &[A, B, C])?;
+    let whole = tree.shape() == (4, 3, 6, 1);
+    tree.retain(|value: &mut char| *value != 'x');
+    let less = tree.shape() == (4, 2, 5, 1);
+    let y = finds(alloc, &tree, &[(A, 2), (B, 5)], Some('y'), &[A, B])?;
+    let none = finds(alloc, &tree, &[(A, 1), (B, 2), (C, 3)], None, &[A, B, C])?;
+    let z = finds(alloc, &tree, &[(A, 1), (B, 2), (C, 4)], Some('z'), &[A, B, C])?;
+    insert_w(alloc, &mut tree)?;
+    let again = tree.shape() == (4, 3, 6, 1);
+    Ok(twice && x && whole && less && y && none && z && again)
+}
+
+/// Whether the same sets are stored where they come in another order.
+fn sets_come_in_any_order(alloc: Global) -> Result<bool, InsertError> {
+    let mut tree = Settled::new(alloc);
+    insert_y(alloc, &mut tree)?;
+    insert_z(alloc, &mut tree)?;
+    insert_x(alloc, &mut tree)?;
+    let twice = insert_w(alloc, &mut tree) == Err(InsertError::AlreadyExists);
+    let y = finds(alloc, &tree, &[(A, 2), (B, 5)], Some('y'), &[B, A])?;
+    let x = finds(alloc, &tree, &[(A, 1), (B, 2), (C, 3)], Some('x'), &[B, A, C])?;
+    let z = finds(alloc, &tree, &[(A, 1), (B, 2), (C, 4)], Some('z'), &[B, A, C])?;
+    Ok(twice && y && x && z && tree.shape() == (4, 3, 6, 1))
+}
+
+/// What a tree finds at a location whose styles are 20.
+fn found_at(tree: &Settled<Places, u64>, location: u64) -> Result<Option<u64>, AllocError> {
+    let found = tree.get(
+        &0,
+        &mut |call: &PlaceCall| match call {
+            PlaceCall::Location => Ok(location),
+            PlaceCall::Styles => Ok(20),
+        },
+    )?;
+    Ok(found.copied())
+}
+
+/// Whether of a thousand places that a list of steps stores exactly the even ones are found, which its last step keeps.
+fn even_places_stay(alloc: Global) -> Result<bool, AllocError> {
+    let mut tree = Settled::new(alloc);
+    let steps = steps_below(alloc, 1000, 20)?;
+    let replies = tree.run(alloc, steps)?;
+    let stored = replies
+        .iter()
+        .filter(|reply| **reply == TreeReply::Inserted)
+        .count();
+    if stored != 1000 || replies.last() != Some(&TreeReply::Retained) {
+        return Ok(false);
+    }
+    for location in 0..1000_u64 {
+        let wanted = if location % 2 == 0 { Some(location) } else { None };
+        if found_at(&tree, location)? != wanted {
+            return Ok(false);
+        }
+    }
+    Ok(true)
+}
+
+/// Whether no run is lost to another order of its calls.
+pub(crate) fn no_run_is_lost(alloc: Global) -> Result<bool, Broken> {
+    Ok(
+        sets_are_stored_once(alloc)? && sets_come_in_any_order(alloc)? && even_places_stay(alloc)?,
+    )
+}

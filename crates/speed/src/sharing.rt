@@ -1,0 +1,93 @@
+//! How the workloads of threads are done: each thread has a view and a share of one cache all the while.
+
+use crate::seen::Seen;
+use crate::stopwatch::Stopwatch;
+use crate::sums::{SumKey, SumMemo, sum};
+use comemo::{Cache, Fault, Track};
+use comemo_samples::Cells;
+use std::alloc::Global;
+use std::rt::Clock;
+use std::sync::Wait;
+use std::thread::{Threads, map_indices};
+
+/// Under how many keys sums are kept before.
+const KEYS: u64 = 16;
+
+/// Of how many cells the sums are at most.
+const CELLS: u32 = 16;
+
+/// Which sums the threads take.
+#[derive(Clone, Copy, Drop, Debug, PartialEq, Eq)]
+pub struct Share {
+    /// Of how many cells each sum is.
+    pub count: u32,
+    /// How many each thread takes.
+    pub each: u64,
+    /// Whether each tenth sum is under a new key.
+    pub misses: bool,
+}
+
+impl Share {
+    /// What a thread's sum at this step begins with: one of the keys by turns, or a number that no other sum begins with.
+    fn start(self, thread: u64, step: u64) -> u64 {
+        if self.misses && step % 10 == 9 {
+            return KEYS
+                .wrapping_add(thread.wrapping_mul(self.each))
+                .wrapping_add(step);
+        }
+        step.wrapping_add(thread) % KEYS
+    }
+}
+
+/// The sums that one thread takes, added up.
+fn add_up<R: Wait>(
+    rt: &R,
+    alloc: Global,
+    cache: &Cache<SumMemo>,
+    cells: &Cells,
+    share: Share,
+    thread: u64,
+) -> Result<u64, Fault> {
+    let view = cells.track(alloc);
+    let held = &mut cache.hold(rt);
+    let mut all: u64 = 0;
+    for step in 0..share.each {
+        let key = SumKey {
+            start: share.start(thread, step),
+            count: share.count,
+        };
+        all = all.wrapping_add(sum(alloc, held, key, &view)?.output);
+    }
+    Ok(all)
+}
+
+/// Takes sums by so many threads through one cache.
+pub fn take_sums<R: Clock + Threads + Wait + Sync>(
+    rt: &R,
+    alloc: Global,
+    threads: usize,
+    share: Share,
+) -> Result<Seen, Fault> {
+    let cells = Cells::new(alloc, CELLS).map_err(|_| Fault::Memory)?;
+    let cache: Cache<SumMemo> = Cache::new(alloc);
+    for start in 0..KEYS {
+        let key = SumKey {
+            start,
+            count: share.count,
+        };
+        sum(alloc, &mut cache.hold(rt), key, &cells.track(alloc))?;
+    }
+    let watch = Stopwatch::start(rt);
+    let taken = map_indices(rt, alloc, threads, &|thread| {
+        add_up(rt, alloc, &cache, &cells, share, thread as u64)
+    });
+    let nanoseconds = watch.nanoseconds(rt);
+    let mut all: u64 = 0;
+    for sum in taken.map_err(|_| Fault::Memory)? {
+        all = all.wrapping_add(sum?);
+    }
+    Ok(Seen {
+        nanoseconds,
+        sum: all,
+    })
+}
