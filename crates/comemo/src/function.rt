@@ -184,7 +184,7 @@ impl<'a, T: Track> Recorder<'a, T> {
         ensures err { OnErr result (Stays (H.entries cache.old) (H.entries cache.new)
             × ⟦<T as Told>⟧.broke_off self.old self.new) }
     {
-        memoized(
+        let reply = memoized(
             self.alloc,
             cache,
             needs,
@@ -192,7 +192,8 @@ impl<'a, T: Track> Recorder<'a, T> {
             &self.view,
             &mut self.recording,
             enabled,
-        )
+        )?;
+        Ok(reply)
     }
 }
 
