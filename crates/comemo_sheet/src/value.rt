@@ -1,14 +1,16 @@
 //! The value of a cell, by the cells that it refers to: a function that calls itself through its own cache.
-ghost use Rattle.std.specs.Prelude.{◌≡◌};
+ghost use Rattle.std.specs.Prelude.{◌≡◌, IfOk};
 ghost use Rattle.std.proofs.Common.{rules, ◌∙◌};
 ghost use Rattle.comemo.specs.Recursive.{TellsOwn};
+ghost use Rattle.comemo_sheet.specs.Sheets.{cell_answer};
 ghost use Rattle.comemo_sheet.specs.Values.{both, value_of};
 ghost use Rattle.comemo_sheet.specs.ValueLaws.{value_alike};
 
 use crate::row::add;
 use crate::sheet::{Sheet, SheetCall};
 use comemo::function::Told;
-use comemo::{CacheData, Fault, MemoOfRecursive, Recorder, Recursive, Start};
+use comemo::{CacheData, Fault, MemoOfRecursive, Recorder, Recursive, Start, Track};
+use std::alloc::Global;
 
 /// The value of a cell: the number that stands there, or the sum of the values of the cells whose names do.
 ///
@@ -66,4 +68,19 @@ pub fn valued(
         total = sum(total, value);
     }
     of.finish(cache, &key, run, total)
+}
+
+/// The value of the cell of a name in a sheet as it is, by cells down to a limit.
+pub fn value_now(
+    alloc: Global,
+    cache: &mut CacheData<MemoOfRecursive<Value>>,
+    sheet: &Sheet,
+    name: String,
+    limit: u64,
+) -> Result<Option<i64>, Fault>
+    ensures { IfOk result (λ value. value ≡ value_of (cell_answer sheet.now.cells) limit name) }
+{
+    let mut recorder = Recorder::new(alloc, sheet.track(alloc));
+    let value = valued(cache, name, limit, &mut recorder)?;
+    Ok(value)
 }

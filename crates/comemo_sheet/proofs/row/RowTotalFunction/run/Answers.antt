@@ -7,12 +7,10 @@ use Rattle.comemo_sheet.specs.Sheets.{number_in}
 use Rattle.comemo_sheet.specs.SheetLaws.{number_alike}
 use Rattle.comemo_sheet.specs.Totals.{plus}
 use Rattle.comemo_sheet.specs.declared.sheet.SheetCall.TheVariants.{Cell}
-use Rattle.comemo_sheet.proofs.Following.{tells_then}
+use Rattle.comemo.proofs.Recursions.{tells_then}
 use Rattle.comemo_sheet.proofs.row.RowTotalFunction.run.Goals as goal
 
 pub loop-name-preserved : goal.loop-name-preserved
 loop-name-preserved c = tells_then c.loop-name.invariant c.in_ok-content.ensures.tells (λ m f before told.
-    let own = c.in_ok-clone.field-0 in
-    let name = c.name-item.result in
-    let number : number_in c.in_ok-content.content ≡ number_in (m (Cell name)) = alike_of_told m f.respects number_in number_alike (Cell own) (Cell name) c.in_ok-content.content (equal_of_bytes own name (search rules)) told in
-    search (rules, to_z-of_z, fold_more (λ total x. plus total (number_in (m (Cell x)))) (pos 0) c.args.names.now.items c.loop-name.name-index name))
+    let number : number_in c.in_ok-content.content ≡ number_in (m (Cell c.name-item.result)) = alike_of_told m f.respects number_in number_alike (Cell c.in_ok-clone.field-0) (Cell c.name-item.result) c.in_ok-content.content (equal_of_bytes c.in_ok-clone.field-0 c.name-item.result (search rules)) told in
+    search (rules, to_z-of_z, fold_more (λ total x. plus total (number_in (m (Cell x)))) (pos 0) c.args.names.now.items c.loop-name.name-index c.name-item.result))

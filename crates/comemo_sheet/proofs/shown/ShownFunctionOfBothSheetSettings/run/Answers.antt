@@ -10,9 +10,6 @@ use Rattle.comemo_sheet.proofs.shown.ShownFunctionOfBothSheetSettings.run.Goals 
 
 pub returns-clause-right : goal.returns-clause-right
 returns-clause-right c = λ m f. (refl, λ one other p q.
-    let own = c.in_ok-clone.field-0 in
-    let name = c.args.name.now in
     let hides : other HidesNegative ≡ c.in_ok-hides_negative.hides_negative = one_setting _ _ (c.in_ok-hides_negative.ensures.tells.told m f other q) in
-    let number = c.in_ok-number.ensures.tells.told m (c.in_ok-hides_negative.ensures.tells.before m f) one p in
-    let same : number_in (one (Cell own)) ≡ number_in (one (Cell name)) = number_alike (one (Cell own)) (one (Cell name)) (search (rules, f.respects (first_call (Cell own)) (first_call (Cell name)) (equal_of_bytes own name (search rules)), p (Cell own), p (Cell name))) in
-    search (rules, number))
+    let same : number_in (one (Cell c.in_ok-clone.field-0)) ≡ number_in (one (Cell c.args.name.now)) = number_alike (one (Cell c.in_ok-clone.field-0)) (one (Cell c.args.name.now)) (search (rules, f.respects (first_call (Cell c.in_ok-clone.field-0)) (first_call (Cell c.args.name.now)) (equal_of_bytes c.in_ok-clone.field-0 c.args.name.now (search rules)), p (Cell c.in_ok-clone.field-0), p (Cell c.args.name.now))) in
+    search (rules, c.in_ok-number.ensures.tells.told m (c.in_ok-hides_negative.ensures.tells.before m f) one p))
