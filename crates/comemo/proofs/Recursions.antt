@@ -49,9 +49,11 @@ module _ {V C R : Type 0} {fits : Recording C R → (C → R) → Type 0} {X Y :
     fault = tt;
   }
 
--- what a recorder of nothing was told holds of its value's answers
-pub own_now : {V C R X : Type 0} {eq : C → C → Bool} {same : R → R → Bool} {s t : Recorded V C R} {P : X → (C → R) → Type 0} {x : X} (m : C → R) → Respects eq same m → s.recording.whole ≡ true → (t.recording.whole ≡ true → Agrees same m t.recording.pairs) → TellsOwn (Fits eq same) s t (Ok x) P → P x m
-own_now m r w agrees a = a.told m (record { whole = a.whole ∙ w; respects = r; agrees = agrees (a.whole ∙ w) })
+-- what a recorder that had lost nothing was told holds of the answers of its value, as it was seen at the end
+pub own_now : {V C R X : Type 0} {eq : C → C → Bool} {same : R → R → Bool} {s t seen : Recorded V C R} {P : X → (C → R) → Type 0} {x : X} (answers : V → C → R) → ((v : V) → Respects eq same (answers v)) → s.recording.whole ≡ true → seen ≡ t → IsRecorded same (answers seen.value) seen.recording → TellsOwn (Fits eq same) s t (Ok x) P → P x (answers s.value)
+own_now {eq = eq} {same = same} {s = s} {t = t} {P = P} {x = x} answers alike w is kept a =
+    let agrees : IsRecorded same (answers t.value) t.recording = subst (λ u. IsRecorded same (answers u.value) u.recording) is kept in
+    subst (λ v. P x (answers v)) a.same_value (a.told (answers t.value) (record { whole = a.whole ∙ w; respects = alike t.value; agrees = agrees.agrees (a.whole ∙ w) }))
 
 module _ {K C R O : Type 0} (M : Meaning K C R O) (calls : IsEquivalence M.same_call) (answers : IsEquivalence M.same_answer) (m : C → R) (respects : Respects M.same_call M.same_answer m) {V : Type 0} {s t : Recorded V C R} (before : s.recording.whole ≡ true → Agrees M.same_answer m s.recording.pairs) (pairs : List (C × R)) (writes : List C) (agrees : Agrees M.same_answer m pairs) (gives : Gives M (Took M.same_call s.recording t.recording) pairs writes) where
   -- a call that rests on pairs with which the present answers agree, and which went to the recorder, tells what is right by these

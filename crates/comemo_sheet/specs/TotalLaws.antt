@@ -6,7 +6,6 @@ use Rattle.std.specs.Cmp.Lexicographic.{pointwise}
 use Rattle.std.proofs.Common.{IsTrue, ap}
 use Rattle.comemo.specs.Answers.{Respects}
 use Rattle.comemo.proofs.Texts.{fold_alike}
-use Rattle.comemo_sheet.specs.Sheets.{number_in}
 use Rattle.comemo_sheet.specs.SheetLaws.{number_alike}
 use Rattle.comemo_sheet.specs.Totals.{plus, total_of}
 use Rattle.comemo_sheet.specs.declared.sheet.SheetCall.{SheetCall}

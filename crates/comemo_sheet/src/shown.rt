@@ -42,9 +42,12 @@ impl Memo for Shown {
 
     ghost laws = { record {
       outputs = λ key m a b writes r c right. Prim.search rules;
-      keys = λ j k m output writes r e right. (right.0, λ x y p q. right.1 x y p q
-          ∙ ap (shown (y HidesNegative)) (number_alike (x (Cell j)) (x (Cell k)) (Prim.search
-          (rules, r (first_call (Cell j)) (first_call (Cell k)) e, p (Cell j), p (Cell k)))));
+      keys = λ j k m output writes r e right. (
+        right.0,
+        λ x y p q. right.1 x y p q
+            ∙ ap (shown (y HidesNegative)) (number_alike (x (Cell j)) (x (Cell k)) (Prim.search
+            (rules, r (first_call (Cell j)) (first_call (Cell k)) e, p (Cell j), p (Cell k)))),
+      );
       writes = λ key m output V W r same right. Prim.search rules;
       key_clones = Prim.search rules;
       answer_clones = Prim.search (rules, content_clones);

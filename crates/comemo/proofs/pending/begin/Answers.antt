@@ -96,8 +96,8 @@ returns-in_err-output-clause-err g c =
       rw (stayed _ _ c.look.ensures.stays) at memory.0,
       g.met.In.Input.joins _ _ _ [] [] same memory.1,
       held_map (g.H.Hold.entries c.args.cache.now) _ _ (λ es found.
-      let has = has_so M (invocation c.in-Ok.key m true) ran c.in-Some.found.age es found in
-      record { pairs = pairs; found = inr (output, c.in-Some.found.writes.items, Has-alike M g.met.M.Key.Eq.laws es c.in-Ok.key key alike m true c.args.enabled ran has); agrees = Agrees-found M g.met.M.Call.Eq.laws g.met.M.Answer.Eq.laws m respects ran _ has; is_broken = memory.2 }) aged,
+          let has = has_so M (invocation c.in-Ok.key m true) ran c.in-Some.found.age es found in
+          record { pairs = pairs; found = inr (output, c.in-Some.found.writes.items, Has-alike M g.met.M.Key.Eq.laws es c.in-Ok.key key alike m true c.args.enabled ran has); agrees = Agrees-found M g.met.M.Call.Eq.laws g.met.M.Answer.Eq.laws m respects ran _ has; is_broken = memory.2 }) aged,
     ))
     (λ stop.
     let touched : Leads (g.H.Hold.entries c.args.cache.now) (g.H.Hold.entries c.give_found.new.cache) (TouchesFound M.same_answer M.same_key c.in-Ok.key pairs c.in-Some.found.age) = rw (stayed _ _ c.look.ensures.stays) at stop.7 in

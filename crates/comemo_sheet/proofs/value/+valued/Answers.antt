@@ -1,4 +1,4 @@
-use Rattle.std.proofs.Common.{rules, arith, ◌≡◌, ◌-◌, suc, sym, subst, ◌∙◌, take}
+use Rattle.std.proofs.Common.{rules, arith, ◌≡◌, ◌-◌, suc, sym, ◌∙◌}
 use Rattle.std.specs.Prelude.{Some}
 use Rattle.std.proofs.lemmas.List.{take_all}
 use Rattle.std.proofs.lemmas.Int.{to_z-of_z}
@@ -17,9 +17,12 @@ pub returns-in-Hit : goal.returns-in-Hit
 returns-in-Hit t c = own_as (rw c.in-Hit.is at c.in_ok-value.ensures.tells) (λ m f h. h)
 
 pub loop-name-preserved : goal.loop-name-preserved
-loop-name-preserved t c = (c.loop-name.invariant.0, own_then c.loop-name.invariant.1 c.in_ok-value-2.ensures (λ m f before told.
-    let value : value_of m (c.args.limit - 1) c.name-item.result ≡ c.in_ok-value-2.value = value_alike m f.respects (c.args.limit - 1) c.name-item.result c.in_ok-clone-2.field-0 (equal_of_bytes c.name-item.result c.in_ok-clone-2.field-0 (search rules)) ∙ sym told in
-    search (rules, c.sum-total.ensures, fold_more (λ total x. both total (value_of m (c.args.limit - 1) x)) (Some (to_z w64 (of_z w64 c.number.result))) c.names-name-items.result.now c.loop-name.name-index c.name-item.result)))
+loop-name-preserved t c = (
+  c.loop-name.invariant.0,
+  own_then c.loop-name.invariant.1 c.in_ok-value-2.ensures (λ m f before told.
+      let value : value_of m (c.args.limit - 1) c.name-item.result ≡ c.in_ok-value-2.value = value_alike m f.respects (c.args.limit - 1) c.name-item.result c.in_ok-clone-2.field-0 (equal_of_bytes c.name-item.result c.in_ok-clone-2.field-0 (search rules)) ∙ sym told in
+      search (rules, c.sum-total.ensures, fold_more (λ total x. both total (value_of m (c.args.limit - 1) x)) (Some (to_z w64 (of_z w64 c.number.result))) c.names-name-items.result.now c.loop-name.name-index c.name-item.result)),
+)
 
 pub finish-requires-clause-right : goal.finish-requires-clause-right
 finish-requires-clause-right t c = λ m f.

@@ -4,4 +4,4 @@ use Rattle.comemo_sheet.specs.SheetLaws.{cells_alike}
 use Rattle.comemo_sheet.proofs.value.value_now.Goals as goal
 
 pub returns : goal.returns
-returns c = own_now (cell_answer c.args.sheet.now.cells) (cells_alike c.args.sheet.now.cells) c.new-recorder.ensures.whole ? c.in_ok-value.ensures
+returns c = rw (c.new-recorder.ensures.value, c.track.ensures) at (own_now (λ s. cell_answer s.cells) (λ s. cells_alike s.cells) c.new-recorder.ensures.whole c.recorder.view_is c.recorder.invariant c.in_ok-value.ensures)

@@ -33,7 +33,10 @@ returns-in-Hit-clause-hit g c =
 
 pub returns-clause-run : goal.returns-clause-run
 returns-clause-run g c =
-    let run = rw (c.in-Run.is, c.fork.ensures) at c.in_ok-output.ensures.run in
-    (rw (← c.self.view_is) (held_map (g.H.Hold.entries c.args.cache.now) _ _ (λ es began.
-    let is = run_seen c.pending.view_is began in
-    record { has_key = is.has_key; same_value = c.new.ensures.value ∙ c.fork-2.ensures; pairs = c.new.ensures.pairs; whole = c.new.ensures.whole; none = is.none refl }) run.0), same_recorder c.self.inside.view run.2 c.self.view_is, run.3)
+    let run = rw (c.in-Run.is, c.fork.ensures) at c.in_ok-output.ensures.run in (
+      rw (← c.self.view_is) (held_map (g.H.Hold.entries c.args.cache.now) _ _ (λ es began.
+          let is = run_seen c.pending.view_is began in
+          record { has_key = is.has_key; same_value = c.new.ensures.value ∙ c.fork-2.ensures; pairs = c.new.ensures.pairs; whole = c.new.ensures.whole; none = is.none refl }) run.0),
+      same_recorder c.self.inside.view run.2 c.self.view_is,
+      run.3,
+    )

@@ -1,4 +1,4 @@
-use Rattle.std.proofs.Common.{rules, sym}
+use Rattle.std.proofs.Common.{rules}
 use Rattle.comemo.proofs.Texts.{equal_of_bytes, alike_of_told}
 use Rattle.comemo_sheet.specs.Sheets.{number_in}
 use Rattle.comemo_sheet.specs.SheetLaws.{number_alike}
