@@ -5,7 +5,7 @@ ghost use Rattle.comemo.specs.Recursive.{TellsOwn};
 ghost use Rattle.comemo_sheet.specs.Fibonacci.{fib};
 
 use comemo::function::Told;
-use comemo::{CacheData, Fault, MemoOfRecursive, Recorder, Recursive, Start};
+use comemo::{Fault, Hold, MemoOfRecursive, Recorder, Recursive, Start};
 
 /// The number of Fibonacci at a place, modulo 2 to the 64th.
 pub struct Fib;
@@ -22,9 +22,11 @@ impl Recursive for Fib {
     ghost laws = { Prim.search rules };
 }
 
-/// The number of Fibonacci at a place, kept, by way of those before it.
-pub fn numbered(
-    cache: &mut CacheData<MemoOfRecursive<Fib>>,
+/// The number of Fibonacci at a place, by way of those before it, which are kept but for the first two.
+///
+/// Its cache is any holder of one: a `CacheData`, or a share of one that threads share.
+pub fn numbered<H: Hold<MemoOfRecursive<Fib>>>(
+    cache: &mut H,
     place: u64,
     of: &mut Recorder<'_, ()>,
 ) -> Result<u64, Fault>
