@@ -75,9 +75,12 @@ fn report_threads<W: Write>(right: bool, writer: &mut W) -> u8
     ensures written { WritesFront (W.contents writer.old) (W.contents writer.new)
         (threads_verdict right) }
 {
-    let (verdict, status) = if right { ("ok", 0) } else { ("failed", 1) };
-    let _ = put_message(writer, "threads ", verdict, "\n");
-    status
+    if right {
+        let _ = put_message(writer, "threads ok", "", "\n");
+        return 0;
+    }
+    let _ = put_message(writer, "threads failed", "", "\n");
+    1
 }
 
 /// Prints `fuzz ok`, or `step N failed` with the number of the first step that failed, and gives the program's status.

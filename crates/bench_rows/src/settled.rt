@@ -67,13 +67,25 @@ fn sets_are_stored_once(alloc: Global) -> Result<bool, InsertError> {
     insert_y(alloc, &mut tree)?;
     insert_z(alloc, &mut tree)?;
     let twice = insert_w(alloc, &mut tree) == Err(InsertError::AlreadyExists);
-    let x = finds(alloc, &tree, &[(A, 1), (B, 2), (C, 3)], Some('x'), &[A, B, C])?;
+    let x = finds(
+        alloc,
+        &tree,
+        &[(A, 1), (B, 2), (C, 3)],
+        Some('x'),
+        &[A, B, C],
+    )?;
     let whole = tree.shape() == (4, 3, 6, 1);
     tree.retain(|value: &mut char| *value != 'x');
     let less = tree.shape() == (4, 2, 5, 1);
     let y = finds(alloc, &tree, &[(A, 2), (B, 5)], Some('y'), &[A, B])?;
     let none = finds(alloc, &tree, &[(A, 1), (B, 2), (C, 3)], None, &[A, B, C])?;
-    let z = finds(alloc, &tree, &[(A, 1), (B, 2), (C, 4)], Some('z'), &[A, B, C])?;
+    let z = finds(
+        alloc,
+        &tree,
+        &[(A, 1), (B, 2), (C, 4)],
+        Some('z'),
+        &[A, B, C],
+    )?;
     insert_w(alloc, &mut tree)?;
     let again = tree.shape() == (4, 3, 6, 1);
     Ok(twice && x && whole && less && y && none && z && again)
@@ -87,8 +99,20 @@ fn sets_come_in_any_order(alloc: Global) -> Result<bool, InsertError> {
     insert_x(alloc, &mut tree)?;
     let twice = insert_w(alloc, &mut tree) == Err(InsertError::AlreadyExists);
     let y = finds(alloc, &tree, &[(A, 2), (B, 5)], Some('y'), &[B, A])?;
-    let x = finds(alloc, &tree, &[(A, 1), (B, 2), (C, 3)], Some('x'), &[B, A, C])?;
-    let z = finds(alloc, &tree, &[(A, 1), (B, 2), (C, 4)], Some('z'), &[B, A, C])?;
+    let x = finds(
+        alloc,
+        &tree,
+        &[(A, 1), (B, 2), (C, 3)],
+        Some('x'),
+        &[B, A, C],
+    )?;
+    let z = finds(
+        alloc,
+        &tree,
+        &[(A, 1), (B, 2), (C, 4)],
+        Some('z'),
+        &[B, A, C],
+    )?;
     Ok(twice && y && x && z && tree.shape() == (4, 3, 6, 1))
 }
 
@@ -117,7 +141,11 @@ fn even_places_stay(alloc: Global) -> Result<bool, AllocError> {
         return Ok(false);
     }
     for location in 0..1000_u64 {
-        let wanted = if location % 2 == 0 { Some(location) } else { None };
+        let wanted = if location % 2 == 0 {
+            Some(location)
+        } else {
+            None
+        };
         if found_at(&tree, location)? != wanted {
             return Ok(false);
         }
@@ -127,7 +155,5 @@ fn even_places_stay(alloc: Global) -> Result<bool, AllocError> {
 
 /// Whether no run is lost to another order of its calls.
 pub(crate) fn no_run_is_lost(alloc: Global) -> Result<bool, Broken> {
-    Ok(
-        sets_are_stored_once(alloc)? && sets_come_in_any_order(alloc)? && even_places_stay(alloc)?,
-    )
+    Ok(sets_are_stored_once(alloc)? && sets_come_in_any_order(alloc)? && even_places_stay(alloc)?)
 }

@@ -1,5 +1,5 @@
 -- What a function for examples asks.
-use Rattle.std.specs.Prelude.{◌≡◌, ℕ, List, [], ◌∷◌, IsTrue, nat_eq, Bool, true, false, refl}
+use Rattle.std.specs.Prelude.{ℕ, IsTrue, nat_eq}
 use Rattle.comemo_settled_samples.specs.declared.letters.Letter.{Letter}
 use Rattle.comemo_settled_samples.specs.declared.letters.Letter.TheVariants.{A, B, C}
 

@@ -1,5 +1,5 @@
 -- What a function of a place asks.
-use Rattle.std.specs.Prelude.{ℕ, Bool, IsTrue, nat_eq}
+use Rattle.std.specs.Prelude.{ℕ, IsTrue, nat_eq}
 use Rattle.comemo_settled_samples.specs.declared.places.PlaceCall.{PlaceCall}
 use Rattle.comemo_settled_samples.specs.declared.places.PlaceCall.TheVariants.{Location, Styles}
 

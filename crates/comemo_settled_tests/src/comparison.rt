@@ -1,28 +1,56 @@
 //! Steps from a seed, each done by a tree and by another machine: both answer the same.
+ghost use Rattle.std.specs.Prelude.{◌<◌, ◌≤◌};
 
+use crate::counted::{Counted, Run, answer_to, run_under};
 use crate::numbers::Numbers;
 use crate::sets::{Machine, Pair};
 use comemo_base::InsertError;
 use comemo_settled::{Settled, TreeReply};
-use comemo_settled_samples::letters::{Letter, Letters, run_of};
-use comemo_settled_samples::sequences::sequence_of;
 use std::alloc::{AllocError, Global};
 
-/// The answer of a table to a call. One that the table lacks is refused.
-fn answer_in(table: &[Pair], call: Letter) -> Result<u128, AllocError> {
-    for (known, answer) in table {
-        if *known == call {
-            return Ok(*answer);
+/// The answer to the call 0, and those to the others as bits.
+#[derive(Clone, Copy, Drop)]
+struct Answers {
+    first: u64,
+    others: u64,
+}
+
+impl Answers {
+    /// The answer to a call.
+    fn to(self, call: u64) -> u64 {
+        if call == 0 {
+            self.first
+        } else {
+            answer_to(self.others, call)
         }
     }
-    Err(AllocError)
+
+    /// All calls that may be asked under one of the keys, with their answers.
+    fn table(self, alloc: Global) -> Result<Vec<Pair>, AllocError> {
+        let mut table = Vec::new(alloc);
+        for call in 0..7_u64 {
+            table.push((call, self.to(call)))?;
+        }
+        Ok(table)
+    }
+}
+
+/// The pairs of a run, in its order.
+fn pairs_of(alloc: Global, run: &Run) -> Result<Vec<Pair>, AllocError> {
+    let mut pairs = Vec::new(alloc);
+    for slot in run.slots() {
+        if let Some(pair) = slot {
+            pairs.push(*pair)?;
+        }
+    }
+    Ok(pairs)
 }
 
 /// A tree, and a machine that is to answer as it does.
 #[derive(Drop)]
 struct Both<M: Machine> {
     alloc: Global,
-    tree: Settled<Letters, u32>,
+    tree: Settled<Counted, u32>,
     machine: M,
 }
 
@@ -30,15 +58,18 @@ impl<M: Machine> Both<M> {
     /// Whether both answer the same to an insertion of a run, in one of its orders.
     fn agree_on_insert(
         &mut self,
-        key: u128,
-        order: u64,
-        answers: (u128, u128, u128),
+        key: u64,
+        answers: Answers,
+        numbers: &mut Numbers,
         value: u32,
-    ) -> Result<bool, AllocError> {
-        let pairs = run_of(self.alloc, order, answers.0, answers.1, answers.2)?;
+    ) -> Result<bool, AllocError>
+        requires above { 0 < key }
+        requires below { key < 5 }
+    {
+        let run = run_under(self.alloc, key, answers.first, answers.others, numbers)?;
+        let pairs = pairs_of(self.alloc, &run)?;
         let wanted = self.machine.insert(key, pairs.as_slice(), value)?;
-        let sequence = sequence_of(self.alloc, pairs)?;
-        match self.tree.insert(key, sequence, value) {
+        match self.tree.insert(key, run, value) {
             Ok(()) => Ok(wanted == TreeReply::Inserted),
             Err(InsertError::AlreadyExists) => Ok(wanted == TreeReply::AlreadyExists),
             Err(_) => Ok(false),
@@ -46,19 +77,15 @@ impl<M: Machine> Both<M> {
     }
 
     /// Whether both find the same under a key by these answers.
-    fn agree_on_get(&mut self, key: u128, answers: (u128, u128, u128)) -> Result<bool, AllocError> {
-        let table = [
-            (Letter::A, answers.0),
-            (Letter::B, answers.1),
-            (Letter::C, answers.2),
-        ];
+    fn agree_on_get(&mut self, key: u64, answers: Answers) -> Result<bool, AllocError> {
+        let table = answers.table(self.alloc)?;
         let found = self
             .tree
-            .get(&key, &mut |call: &Letter| answer_in(&table, *call))?;
-        Ok(found.copied() == self.machine.get(key, &table))
+            .get(&key, &mut |call: &u64| Ok(answers.to(*call)))?;
+        Ok(found.copied() == self.machine.get(key, table.as_slice()))
     }
 
-    /// Whether both have as many values after a retention as each other.
+    /// Whether both have as many values as each other after a retention.
     fn agree_on_retain(&mut self, rest: u32) -> bool {
         self.tree.retain(|value: &mut u32| {
             let stays = *value % 4 != rest;
@@ -69,39 +96,31 @@ impl<M: Machine> Both<M> {
         self.tree.shape().1 == self.machine.len()
     }
 
-    /// Whether both find the same under a key by all answers to its three calls.
-    fn agree_on_all_gets(&mut self, key: u128) -> Result<bool, AllocError> {
-        for number in 0..64_u64 {
-            let a = u128::from(number / 16);
-            let b = u128::from(number / 4 % 4);
-            let c = u128::from(number % 4);
-            if !self.agree_on_get(key, (a, b, c))? {
+    /// Whether both find the same under every key by all answers.
+    fn agree_on_all_gets(&mut self) -> Result<bool, AllocError> {
+        for number in 0..768_u64 {
+            let answers = Answers {
+                first: number / 4 % 3,
+                others: number / 12 * 2,
+            };
+            if !self.agree_on_get(1 + number % 4, answers)? {
                 return Ok(false);
             }
         }
         Ok(true)
     }
 
-    /// Whether both find the same under every key by all answers.
-    fn agree_under_all_keys(&mut self) -> bool {
-        for key in 0..4_u64 {
-            let Ok(true) = self.agree_on_all_gets(u128::from(key)) else {
-                return false;
-            };
-        }
-        true
-    }
-
     /// Whether both answer the same to the next step.
     fn agree(&mut self, numbers: &mut Numbers, value: u32) -> Result<bool, AllocError> {
-        let kind = numbers.below(32);
-        let key = u128::from(numbers.below(4));
-        let a = u128::from(numbers.below(4));
-        let b = u128::from(numbers.below(4));
-        let c = u128::from(numbers.below(4));
+        let kind = numbers.below(64);
+        let key = 1 + numbers.below(4);
+        let answers = Answers {
+            first: numbers.below(3),
+            others: numbers.below(128),
+        };
         match kind {
-            0..15 => self.agree_on_insert(key, numbers.below(3), (a, b, c), value),
-            15..31 => self.agree_on_get(key, (a, b, c)),
+            0..31 => self.agree_on_insert(key, answers, numbers, value),
+            31..63 => self.agree_on_get(key, answers),
             _ => Ok(self.agree_on_retain(value % 4)),
         }
     }
@@ -125,8 +144,10 @@ pub(crate) fn compare<M: Machine>(alloc: Global, machine: M, seed: u64, steps: u
         let Ok(true) = both.agree(&mut numbers, step) else {
             return Some(step);
         };
-        if step % PERIOD == 0 && !both.agree_under_all_keys() {
-            return Some(step);
+        if step % PERIOD == 0 {
+            let Ok(true) = both.agree_on_all_gets() else {
+                return Some(step);
+            };
         }
     }
     None

@@ -5,6 +5,8 @@
 #[cfg(test)]
 mod comparison;
 #[cfg(test)]
+mod counted;
+#[cfg(test)]
 mod numbers;
 #[cfg(test)]
 mod places;

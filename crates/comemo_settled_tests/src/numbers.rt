@@ -1,4 +1,5 @@
 //! Numbers from a seed.
+ghost use Rattle.std.specs.Prelude.{◌<◌};
 
 /// Numbers that look random, from a seed: those of a linear congruence, without their low bits.
 #[derive(Drop)]
@@ -13,7 +14,9 @@ impl Numbers {
     }
 
     /// The next number below a bound.
-    pub(crate) fn below(&mut self, bound: u64) -> u64 {
+    pub(crate) fn below(&mut self, bound: u64) -> u64
+        ensures { 0 < bound → result < bound }
+    {
         self.state = self
             .state
             .wrapping_mul(6_364_136_223_846_793_005)

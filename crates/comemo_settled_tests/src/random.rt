@@ -37,7 +37,7 @@ struct Faulty {
 }
 
 impl Machine for Faulty {
-    fn insert(&mut self, key: u128, pairs: &[Pair], value: u32) -> Result<TreeReply, AllocError> {
+    fn insert(&mut self, key: u64, pairs: &[Pair], value: u32) -> Result<TreeReply, AllocError> {
         for entry in &mut self.sets.entries {
             let is_there = entry.key == key;
             let first = entry.pairs.first() == pairs.first();
@@ -63,11 +63,11 @@ impl Machine for Faulty {
         self.sets.insert(key, pairs, value)
     }
 
-    fn get(&self, key: u128, table: &[Pair]) -> Option<u32> {
+    fn get(&self, key: u64, table: &[Pair]) -> Option<u32> {
         match self.wrong {
             Wrong::FindsNothing => None,
             Wrong::FindsUnderAnyKey => {
-                let others = [key, 0, 1, 2, 3];
+                let others = [key, 1, 2, 3, 4];
                 for other in others {
                     if let Some(value) = self.sets.get(other, table) {
                         return Some(value);

@@ -2,7 +2,7 @@
 use comemo_base::InsertError;
 use comemo_settled::Settled;
 use comemo_settled_samples::letters::Letter::{self, A, B, C};
-use comemo_settled_samples::letters::{Letters, insert};
+use comemo_settled_samples::letters::{Letters, insert, run_of};
 use std::alloc::{AllocError, Global};
 use std::test::Fail;
 
@@ -92,5 +92,26 @@ fn the_order_of_inserts_does_not_matter(rt: HostRuntime) -> Result<(), Fail> {
     let (found, asked) = look_up(alloc, &tree, &[(A, 1), (B, 2), (C, 4)])?;
     assert_eq!(rt; found, Some('z'));
     assert_eq!(rt; asked.as_slice(), [B, A, C].as_slice());
+    Ok(())
+}
+
+#[test]
+fn each_order_of_a_run_is_one_set(rt: HostRuntime) -> Result<(), Fail> {
+    let alloc = rt.alloc();
+    let mut tree = Settled::new(alloc);
+    for number in 0..16_u64 {
+        for order in 0..3_u64 {
+            let (b, c) = (u128::from(number % 4), u128::from(number / 4));
+            let pairs = run_of(alloc, (number + order) % 3, 1, b, c)?;
+            let inserted = insert(alloc, &mut tree, pairs, 'x');
+            let wanted = if order == 0 {
+                Ok(())
+            } else {
+                Err(InsertError::AlreadyExists)
+            };
+            assert_eq!(rt; inserted, wanted);
+        }
+    }
+    assert_eq!(rt; tree.shape().1, 16);
     Ok(())
 }

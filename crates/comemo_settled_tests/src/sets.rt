@@ -2,19 +2,18 @@
 //! tree.
 
 use comemo_settled::TreeReply;
-use comemo_settled_samples::letters::Letter;
 use std::alloc::{AllocError, Global};
 
 /// A call with its answer.
-pub(crate) type Pair = (Letter, u128);
+pub(crate) type Pair = (u64, u64);
 
 /// What takes the steps of a tree, and is compared with one.
 pub(crate) trait Machine: Drop {
     /// Stores a value under a key and pairs.
-    fn insert(&mut self, key: u128, pairs: &[Pair], value: u32) -> Result<TreeReply, AllocError>;
+    fn insert(&mut self, key: u64, pairs: &[Pair], value: u32) -> Result<TreeReply, AllocError>;
 
     /// The value under a key that the answers of a table lead to.
-    fn get(&self, key: u128, table: &[Pair]) -> Option<u32>;
+    fn get(&self, key: u64, table: &[Pair]) -> Option<u32>;
 
     /// Drops the values that leave a rest by four, and makes the others one greater.
     fn retain(&mut self, rest: u32);
@@ -36,14 +35,14 @@ pub(crate) fn are_among(pairs: &[Pair], others: &[Pair]) -> bool {
 /// What is kept under a key and a set of pairs.
 #[derive(Drop)]
 pub(crate) struct Entry {
-    pub(crate) key: u128,
+    pub(crate) key: u64,
     pub(crate) pairs: Vec<Pair>,
     pub(crate) value: u32,
 }
 
 impl Entry {
     /// Whether these are its pairs, in whatever order.
-    fn has_set(&self, key: u128, pairs: &[Pair]) -> bool {
+    fn has_set(&self, key: u64, pairs: &[Pair]) -> bool {
         self.key == key && are_among(&self.pairs, pairs) && are_among(pairs, &self.pairs)
     }
 }
@@ -65,7 +64,7 @@ impl PlainSets {
     }
 
     /// Adds an entry, whatever else there is.
-    pub(crate) fn add(&mut self, key: u128, pairs: &[Pair], value: u32) -> Result<(), AllocError> {
+    pub(crate) fn add(&mut self, key: u64, pairs: &[Pair], value: u32) -> Result<(), AllocError> {
         let mut own = Vec::new(self.alloc);
         own.extend_from_slice(pairs)?;
         self.entries.push(Entry {
@@ -78,7 +77,7 @@ impl PlainSets {
 }
 
 impl Machine for PlainSets {
-    fn insert(&mut self, key: u128, pairs: &[Pair], value: u32) -> Result<TreeReply, AllocError> {
+    fn insert(&mut self, key: u64, pairs: &[Pair], value: u32) -> Result<TreeReply, AllocError> {
         for entry in &self.entries {
             if entry.has_set(key, pairs) {
                 return Ok(TreeReply::AlreadyExists);
@@ -88,7 +87,7 @@ impl Machine for PlainSets {
         Ok(TreeReply::Inserted)
     }
 
-    fn get(&self, key: u128, table: &[Pair]) -> Option<u32> {
+    fn get(&self, key: u64, table: &[Pair]) -> Option<u32> {
         for entry in &self.entries {
             if entry.key == key && are_among(&entry.pairs, table) {
                 return Some(entry.value);

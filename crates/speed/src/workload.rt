@@ -257,7 +257,7 @@ impl Workload {
                 threads,
                 calls,
                 misses,
-            } => u64::from(threads) * shared_by_each(calls, misses),
+            } => u64::from(threads).saturating_mul(shared_by_each(calls, misses)),
             Workload::Retain { .. } | Workload::Evict { .. } | Workload::InsertScattered => 100_000,
             Workload::TextItself | Workload::TextByNumber => 20,
             Workload::TextByKeptNumber => 500_000,

@@ -1,4 +1,4 @@
-use Rattle.std.proofs.Common.{◌≡◌, ◌∙◌, [], sym, ap, map, length, arith, Result, Ok, Err, IfOk, rules}
+use Rattle.std.proofs.Common.{◌∙◌, [], sym, ap, arith, Result, Ok, Err, IfOk}
 use Rattle.std.proofs.lemmas.List.{map-id}
 use Rattle.std.proofs.lemmas.Iterator.{items_from_drains}
 use Rattle.std.proofs.lemmas.Iterator.Adapters.{YieldsList-from_vec}
