@@ -7,3 +7,5 @@ pub mod Shown
 pub mod ShownLaws
 pub mod Values
 pub mod ValueLaws
+pub mod Plain
+pub mod PlainLaws

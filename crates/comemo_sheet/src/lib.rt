@@ -3,6 +3,7 @@
 
 pub mod fibonacci;
 pub mod number;
+pub mod plain;
 pub mod row;
 pub mod settings;
 pub mod sheet;

@@ -2,6 +2,7 @@
 
 use comemo::{Both, CacheData, How, MemoOf, MemoOfRecursive, Top, Track, called, memoized};
 use comemo_sheet::number::NumberIn;
+use comemo_sheet::plain::{NoNumber, PlainNumber};
 use comemo_sheet::row::RowTotal;
 use comemo_sheet::settings::Settings;
 use comemo_sheet::sheet::{Content, Sheet};
@@ -51,6 +52,30 @@ fn a_number_is_kept_while_its_cell_stays(rt: HostRuntime) -> Result<(), Fail> {
         assert_eq!(rt; reply.output, output);
         assert_eq!(rt; reply.how, how);
     }
+    Ok(())
+}
+
+#[test]
+fn a_reason_is_kept_as_a_number_is(rt: HostRuntime) -> Result<(), Fail> {
+    let alloc = rt.alloc();
+    let mut sheet = small_sheet(alloc)?;
+    let mut cache: CacheData<MemoOf<PlainNumber>> = CacheData::new(alloc);
+    for (name, number, how) in [
+        ("A1", Ok(1), How::Stored),
+        ("B1", Err(NoNumber::Sum), How::Stored),
+        ("A3", Err(NoNumber::Nothing), How::Stored),
+        ("B1", Err(NoNumber::Sum), How::Hit),
+    ] {
+        let key = String::from_str(alloc, name)?;
+        let reply = called(alloc, &mut cache, key, &sheet.track(alloc))?;
+        assert!(rt; reply.output == number);
+        assert_eq!(rt; reply.how, how);
+    }
+    set(alloc, &mut sheet, "A3", Content::Number(5))?;
+    let key = String::from_str(alloc, "A3")?;
+    let reply = called(alloc, &mut cache, key, &sheet.track(alloc))?;
+    assert!(rt; reply.output == Ok(5));
+    assert_eq!(rt; reply.how, How::Stored);
     Ok(())
 }
 
