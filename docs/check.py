@@ -5,7 +5,7 @@
 - The table of crates in docs/ARCHITECTURE.md has each crate of crates.txt, and each module of it.
 - Each crates/NAME/must-fail/README.md lists the edits of its folder, all and no others.
 - No crate but those named `*_tests` has a test, not even in a comment: `rt` would prove it twice.
-- Each line of code that docs/GUIDE.md quotes stands in a file of crates/, laid out so or otherwise, and each file that
+- Each line of code that docs/GUIDE.md and docs/BY_HAND.md quote stands in a file of crates/, laid out so or otherwise, and each file that
   docs/START.md shows is shown whole.
 - The `old:` text of each edit stands exactly once in its file, as the earlier pairs of that edit leave it.
 
@@ -191,8 +191,12 @@ def check_quotes():
     files = [it for kind in ("rt", "antt") for it in sorted(ROOT.glob(f"crates/*/*/**/*.{kind}")) if "/out/" not in str(it)]
     there = "\n".join(squeezed(read(it)) for it in files)
     lines, end = 0, 0
-    text = read(ROOT / "docs/GUIDE.md")
-    for block in re.findall(r"^```(?:rust|antt)\n(.*?)^```$", text, re.M | re.S):
+    blocks = [
+        (where, block)
+        for where in ("docs/GUIDE.md", "docs/BY_HAND.md")
+        for block in re.findall(r"^```(?:rust|antt)\n(.*?)^```$", read(ROOT / where), re.M | re.S)
+    ]
+    for where, block in blocks:
         # calls that the reader is to make
         if re.fullmatch(r"(?:let .*\n)+|loop [^\0]*", block):
             continue
@@ -201,7 +205,7 @@ def check_quotes():
             parts = [squeezed(it).rstrip(",{") for it in re.split(r"(?<!\.)\.\.(?![.\w])", line)]
             lines += 1
             if not all(it in there for it in parts):
-                say("docs/GUIDE.md", f"no file has the line: {line.strip()}")
+                say(where, f"no file has the line: {line.strip()}")
     text = read(ROOT / "docs/START.md")
     for block in re.finditer(r"^```(?:rust|antt)\n(.*?)^```$", text, re.M | re.S):
         shown = re.findall(r"`(crates/[\w./+-]+)`", text[end:block.start()])
