@@ -33,7 +33,7 @@ def name_of(path):
     return str(path.relative_to(ROOT))
 
 
-CRATES = [line.partition(":")[0].strip() for line in read(ROOT / "crates.txt").splitlines() if re.match(r"\w+.*:", line)]
+CRATES = [line.partition(":")[0].split()[0] for line in read(ROOT / "crates.txt").splitlines() if re.match(r"\w+.*:", line)]
 
 
 def modules_of(crate):

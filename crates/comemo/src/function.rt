@@ -59,6 +59,8 @@ pub trait Function {
     type Out: Clone;
 
     /// What a run takes beside its arguments: the caches of the functions that it calls, or `()`.
+    ///
+    /// They can't hold the function's own cache, which the checker refuses: one that calls itself is a `Recursive`.
     type Needs;
 
     // at this key and these answers, this output is right
@@ -232,6 +234,8 @@ impl<F: Function> Memo for MemoOf<F> {
 /// is one by its `MemoOf`, with nothing to write. This project's own.
 pub trait FunctionOf<T: Track>: Memo<Call = T::Call, Answer = T::Answer> {
     /// What a run takes beside its arguments: the caches of the functions that it calls, or `()`.
+    ///
+    /// They can't hold the function's own cache, which the checker refuses: one that calls itself is a `Recursive`.
     type Needs;
 
     /// Does the function, as `Function::run` does, and with the same said of its output and its faults.

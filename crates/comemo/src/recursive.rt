@@ -160,8 +160,8 @@ impl<'a, T: Track> Recorder<'a, T> {
     ///
     /// On a hit this recorder takes what the entry rests on. A run has a recorder of its own, of the same value, and
     /// this one takes nothing yet. The one fault is `Memory`: then the cache is as it was, and this recording is
-    /// spoiled. It costs what `begin` costs. This project's own: the first half of a call of a function under comemo's
-    /// `#[memoize]`.
+    /// spoiled. It costs what `begin` costs, with a clone of the key, also for a hit. This project's own: the first half of
+    /// a call of a function under comemo's `#[memoize]`.
     pub fn start<G: ReadsAlone<Call = T::Call, Answer = T::Answer>, H: Hold<G>>(
         &mut self,
         cache: &mut H,
