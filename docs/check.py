@@ -5,6 +5,8 @@
 - The table of crates in docs/ARCHITECTURE.md has each crate of crates.txt, and each module of it.
 - Each crates/NAME/must-fail/README.md lists the edits of its folder, all and no others.
 - No crate but those named `*_tests` has a test, not even in a comment: `rt` would prove it twice.
+- Each line of code that docs/GUIDE.md and docs/BY_HAND.md quote stands in a file of crates/, laid out so or otherwise, and each file that
+  docs/START.md shows is shown whole.
 - The `old:` text of each edit stands exactly once in its file, as the earlier pairs of that edit leave it.
 
 Prints what is missing and exits with 1, or prints one line of counts and exits with 0.
@@ -178,6 +180,41 @@ def check_edits():
     return len(edits)
 
 
+def squeezed(text):
+    """Without layout: comments, blanks, and commas at the end of a list."""
+    text = re.sub(r"^\s*(//|--).*$", "", text, flags=re.M)
+    return re.sub(r",(?=[)}\]>])", "", re.sub(r"\s+", "", text))
+
+
+def check_quotes():
+    """What a document shows of the code is there."""
+    files = [it for kind in ("rt", "antt") for it in sorted(ROOT.glob(f"crates/*/*/**/*.{kind}")) if "/out/" not in str(it)]
+    there = "\n".join(squeezed(read(it)) for it in files)
+    lines, end = 0, 0
+    blocks = [
+        (where, block)
+        for where in ("docs/GUIDE.md", "docs/BY_HAND.md")
+        for block in re.findall(r"^```(?:rust|antt)\n(.*?)^```$", read(ROOT / where), re.M | re.S)
+    ]
+    for where, block in blocks:
+        # calls that the reader is to make
+        if re.fullmatch(r"(?:let .*\n)+|loop [^\0]*", block):
+            continue
+        for line in block.splitlines():
+            # two dots leave something out
+            parts = [squeezed(it).rstrip(",{") for it in re.split(r"(?<!\.)\.\.(?![.\w])", line)]
+            lines += 1
+            if not all(it in there for it in parts):
+                say(where, f"no file has the line: {line.strip()}")
+    text = read(ROOT / "docs/START.md")
+    for block in re.finditer(r"^```(?:rust|antt)\n(.*?)^```$", text, re.M | re.S):
+        shown = re.findall(r"`(crates/[\w./+-]+)`", text[end:block.start()])
+        end = block.end()
+        if not shown or not (ROOT / shown[-1]).is_file() or read(ROOT / shown[-1]) != block[1]:
+            say("docs/START.md", f"{shown[-1] if shown else 'a block'} is not shown as it is")
+    return lines
+
+
 def main():
     documents = [ROOT / "README.md", *sorted(ROOT.glob("docs/*.md")), *sorted(ROOT.glob("crates/*/must-fail/README.md"))]
     for document in documents:
@@ -185,10 +222,11 @@ def main():
     check_crates()
     check_tests()
     edits = check_edits()
+    lines = check_quotes()
     if missing:
         print("\n".join(dict.fromkeys(missing)))
         return 1
-    print(f"{len(paths)} paths, {edits} edits, {len(CRATES)} crates: all is there")
+    print(f"{len(paths)} paths, {edits} edits, {len(CRATES)} crates, {lines} lines quoted: all is there")
     return 0
 
 

@@ -2,7 +2,7 @@
 use Rattle.std.proofs.Common.{◌≡◌, ◌↔◌, inl, inr, Bool, true, false, List, [], Result, Ok, Err, IfOk, IfErr, OnErr, refl, sym, ap, subst}
 use Rattle.std.specs.Borrow.{MutBor}
 use Rattle.comemo_track.specs.Recording.{Recording}
-use Rattle.comemo.specs.Meaning.{Meaning, Invocation, Run, run}
+use Rattle.comemo.specs.Meaning.{Meaning, Invocation, run}
 use Rattle.comemo.specs.Cache.{Entries, Stands}
 use Rattle.comemo.specs.Begin.{PendingRun, came_to, IsRun, IsBrokenOff}
 use Rattle.comemo.specs.Finish.{Ends, Finished, BreaksOffRun}
@@ -11,7 +11,6 @@ use Rattle.comemo.specs.Closure.{Ran, Ended, IsFault, IsBroken}
 use Rattle.comemo.specs.declared.pending.Fault.{Fault}
 use Rattle.comemo.specs.declared.pending.Fault.TheVariants as fault
 use Rattle.comemo.specs.declared.pending.Reply.{Reply}
-use Rattle.comemo.specs.declared.pending.How.{How}
 use Rattle.comemo.specs.declared.pending.How.TheVariants as how
 
 -- only a spoiled run is incomplete, so that one that is finished was whole

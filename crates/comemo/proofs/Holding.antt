@@ -1,11 +1,7 @@
 -- What is known of the entries of a holder, told or not, makes what else is known of them.
-use Rattle.std.proofs.Common.{Result, Ok, Err, IfOk, IfErr, IfSome, MatchOption, OnOk, OnErr, ◌≡◌, ◌+◌, ℕ, Option, Some, None, List, [], ◌∷◌, IsTrue, refl, ap, inl, inr, subst, sym}
-use Rattle.std.specs.List.{Any}
-use Rattle.std.specs.List.Sorted.{IsPermutation}
+use Rattle.std.proofs.Common.{Result, Ok, Err, IfOk, IfErr, IfSome, MatchOption, OnOk, OnErr, ◌≡◌, ℕ, Option, Some, None, ◌∷◌, refl, ap, subst, sym}
 use Rattle.std.proofs.lemmas.List.Sorted.{IsPermutation-refl}
 use Rattle.std.specs.Cmp.{IsEquivalence}
-use Rattle.comemo_base.specs.Answers.{Agrees}
-use Rattle.comemo_base.specs.Lookup.{under}
 use Rattle.comemo_base.specs.Tree.{IsTree}
 use Rattle.comemo_base.proofs.Under.{Any-from_under}
 use Rattle.std.proofs.lemmas.List.Sorted.{IsPermutation-remove, IsPermutation-sym}

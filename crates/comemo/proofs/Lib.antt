@@ -17,6 +17,8 @@ pub mod Stepping
 pub mod JoinedHits
 pub mod ThroughMaps
 pub mod Again
+pub mod Recursions
+pub mod Texts
 pub use Rattle.comemo_base.proofs.Paths
 pub use Rattle.comemo_base.proofs.Under
 pub use Rattle.comemo_track.proofs.Telling

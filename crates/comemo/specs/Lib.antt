@@ -12,6 +12,7 @@ pub mod StepLaws
 pub mod Closure
 pub mod Function
 pub mod FunctionMut
+pub mod Recursive
 pub use Rattle.comemo_track.specs.Sending
 pub use Rattle.comemo_track.specs.Writing
 pub use Rattle.comemo_track.specs.WritingLaws

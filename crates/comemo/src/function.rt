@@ -1,5 +1,5 @@
 //! The library's front door: a memoized function of a key and a tracked value, as one trait and one call.
-ghost use Rattle.std.specs.Prelude.{◌≡◌, [], List, true, false, IsTrue, IfOk, IfErr, OnOk, OnErr};
+ghost use Rattle.std.specs.Prelude.{◌≡◌, [], List, true, false, IsTrue, IfOk, IfErr, OnOk, OnErr, ⊤};
 ghost use Rattle.comemo.specs.Meaning.{invocation, reading};
 ghost use Rattle.comemo.specs.MeaningLaws.{none_alike};
 ghost use Rattle.comemo.specs.Held.{HeldReply, Stays};
@@ -13,7 +13,7 @@ use crate::hold::Hold;
 use crate::pending::{Begun, Fault, How, Reply, begin};
 use comemo_track::constraint::Constraint;
 use comemo_track::input::Keyed;
-use comemo_track::track::{Breaking, Call, Sink, Track, Tracked};
+use comemo_track::track::{Breaking, Call, Sink, Top, Track, Tracked};
 use std::alloc::Global;
 use std::hash::Hash;
 use std::marker::{Model, PhantomData};
@@ -59,6 +59,8 @@ pub trait Function {
     type Out: Clone;
 
     /// What a run takes beside its arguments: the caches of the functions that it calls, or `()`.
+    ///
+    /// They can't hold the function's own cache, which the checker refuses: one that calls itself is a `Recursive`.
     type Needs;
 
     // at this key and these answers, this output is right
@@ -109,7 +111,7 @@ impl<'a, T: Track> Model for Recorder<'a, T> {
 
 impl<'a, T: Track> Recorder<'a, T> {
     /// A recorder of nothing.
-    fn new(alloc: Global, view: Tracked<'a, T>) -> Self
+    pub fn new(alloc: Global, view: Tracked<'a, T>) -> Self
         ensures value { result.value ≡ view.entry }
         ensures pairs { result.recording.pairs ≡ [] }
         ensures writes { result.recording.writes ≡ [] }
@@ -160,6 +162,30 @@ impl<'a, T: Track> Recorder<'a, T> {
         ensures err { OnErr result (Stays (H.entries cache.old) (H.entries cache.new)
             × ⟦<T as Told>⟧.broke_off self.old self.new) }
     {
+        let reply = self.call_reply(cache, needs, key, true)?;
+        Ok(reply.output)
+    }
+
+    /// Calls another memoized function of the same value, as `call` does, and gives its reply. With `enabled` false
+    /// there is no look-up, and nothing is kept.
+    ///
+    /// A fault is as of `call`, and it costs the same. This project's own.
+    pub fn call_reply<G: FunctionOf<T>, H: Hold<G>>(
+        &mut self,
+        cache: &mut H,
+        needs: &mut G::Needs,
+        key: G::Key,
+        enabled: bool,
+    ) -> Result<Reply<G::Out>, Fault>
+        ensures tells { Tells ⟦<T as Told>⟧.fits self.old self.new result
+            (λ reply m. G.def key m reply.output []) }
+        ensures reply { IfOk result (λ reply. HeldReply ⟦<G as Meant>⟧.meaning
+            (invocation key (T.answers self.old.value) enabled)
+            (H.entries cache.old) (H.entries cache.old)
+            (⟦<T as Told>⟧.took self.old self.new) reply (H.entries cache.new)) }
+        ensures err { OnErr result (Stays (H.entries cache.old) (H.entries cache.new)
+            × ⟦<T as Told>⟧.broke_off self.old self.new) }
+    {
         let reply = memoized(
             self.alloc,
             cache,
@@ -167,9 +193,9 @@ impl<'a, T: Track> Recorder<'a, T> {
             key,
             &self.view,
             &mut self.recording,
-            true,
+            enabled,
         )?;
-        Ok(reply.output)
+        Ok(reply)
     }
 }
 
@@ -208,6 +234,8 @@ impl<F: Function> Memo for MemoOf<F> {
 /// is one by its `MemoOf`, with nothing to write. This project's own.
 pub trait FunctionOf<T: Track>: Memo<Call = T::Call, Answer = T::Answer> {
     /// What a run takes beside its arguments: the caches of the functions that it calls, or `()`.
+    ///
+    /// They can't hold the function's own cache, which the checker refuses: one that calls itself is a `Recursive`.
     type Needs;
 
     /// Does the function, as `Function::run` does, and with the same said of its output and its faults.
@@ -292,4 +320,23 @@ pub fn memoized<
             pending.end(cache, sink, ran)
         }
     }
+}
+
+/// Calls a memoized function that needs nothing, and that no other run is around: `memoized` for the plain case.
+///
+/// It costs what `memoized` costs with a `Top` as its sink, for which no pair is cloned. This project's own: a call of a
+/// function under comemo's `#[memoize]`.
+pub fn called<M: FunctionOf<T, Needs = ()>, H: Hold<M>, T: Track>(
+    alloc: Global,
+    cache: &mut H,
+    key: M::Key,
+    of: &Tracked<'_, T>,
+) -> Result<Reply<M::Out>, Fault>
+    ensures right { IfOk result (λ reply. M.def key (T.answers of.now) reply.output []) }
+    ensures reply { IfOk result (λ reply. HeldReply ⟦<M as Meant>⟧.meaning
+        (invocation key (T.answers of.now) true) (H.entries cache.old) (H.entries cache.old)
+        (λ _ _. ⊤) reply (H.entries cache.new)) }
+    ensures err { OnErr result (Stays (H.entries cache.old) (H.entries cache.new)) }
+{
+    memoized(alloc, cache, &mut (), key, of, &mut Top::new(), true)
 }

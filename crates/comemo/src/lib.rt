@@ -41,6 +41,7 @@ pub mod function_mut;
 pub mod hold;
 pub mod parts;
 pub mod pending;
+pub mod recursive;
 pub mod shared;
 pub mod steps;
 
@@ -55,9 +56,10 @@ pub use comemo_track::{
 pub use comemo_tree::CallTree;
 pub use eviction::{Caches, Evict, Evictor};
 pub use evictors::register_evictor;
-pub use function::{Function, FunctionOf, MemoOf, Recorder, Told, memoized};
+pub use function::{Function, FunctionOf, MemoOf, Recorder, Told, called, memoized};
 pub use function_mut::{FunctionMut, FunctionMutOf, MemoOfMut, RecorderMut, ToldMut, memoized_mut};
 pub use hold::{Hold, Reads};
 pub use pending::{Begun, Fault, How, Invoked, Pending, Reply, begin};
+pub use recursive::{Inner, MemoOfRecursive, ReadsAlone, Recursive, Start};
 pub use shared::{Cache, Shared};
 pub use steps::{Step, StepReply};

@@ -1,4 +1,3 @@
-use Rattle.std.proofs.Common.{refl}
 use Rattle.comemo.proofs.Sendings.{on_err}
 use Rattle.comemo.proofs.Entries.{reads_same}
 use Rattle.comemo.proofs.Endings.{Ends-cloned, given, gives_itself, broken_itself}

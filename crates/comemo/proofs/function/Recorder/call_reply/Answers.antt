@@ -1,7 +1,7 @@
-use Rattle.std.proofs.Common.{refl, subst}
+use Rattle.std.proofs.Common.{[], refl, subst}
 use Rattle.comemo.proofs.Recorders.{held_keeps, tells_output, tells_broken, not_whole}
 use Rattle.comemo.proofs.Holding.{some_by}
-use Rattle.comemo.proofs.function.Recorder.call.Goals as goal
+use Rattle.comemo.proofs.function.Recorder.call_reply.Goals as goal
 
 pub invariant_of-self : goal.invariant_of-self
 invariant_of-self g c =
@@ -17,10 +17,11 @@ pub returns-clause-tells : goal.returns-clause-tells
 returns-clause-tells g c =
     let i = c.self.inside in
     let k = (some_by (g.H.Hold.entries c.args.cache.now) (g.H.Hold.entries c.args.cache.now) (g.H.Hold.entries c.memoized.new.cache) _ c.in_ok-reply.ensures.reply).3 in
-    rw (← c.self.view_is) (tells_output _ g.met.T.Call.Eq.laws g.met.T.Answer.Eq.laws _ _ _ _ (g.met.T.Track.alike i.view) refl c.self.invariant.agrees c.in_ok-reply.reply k (λ n d. subst (λ ws. g.G.Memo.def c.args.key n c.in_ok-reply.reply.output ws) (g.met.G.FunctionOf.reads c.args.key n c.in_ok-reply.reply.output k.writes d) d))
+    let t = tells_output _ g.met.T.Call.Eq.laws g.met.T.Answer.Eq.laws _ _ _ _ (g.met.T.Track.alike i.view) refl c.self.invariant.agrees {P = λ output m. g.G.Memo.def c.args.key m output []} c.in_ok-reply.reply k (λ n d. subst (λ ws. g.G.Memo.def c.args.key n c.in_ok-reply.reply.output ws) (g.met.G.FunctionOf.reads c.args.key n c.in_ok-reply.reply.output k.writes d) d) in
+    rw (← c.self.view_is) (record { same_value = t.same_value; before = t.before; told = t.told; fault = tt })
 
 pub returns-in_err-reply-clause-tells : goal.returns-in_err-reply-clause-tells
 returns-in_err-reply-clause-tells g c = rw (← c.self.view_is) (tells_broken refl c.from_residual.result c.from_residual.ensures.0 (not_whole c.in_err-reply.ensures.err.1))
 
 pub returns-clause-reply : goal.returns-clause-reply
-returns-clause-reply g c = (c.in_ok-reply.reply, refl, rw (← c.self.view_is) c.in_ok-reply.ensures.reply)
+returns-clause-reply g c = rw (← c.self.view_is) c.in_ok-reply.ensures.reply

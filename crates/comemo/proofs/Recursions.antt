@@ -1,0 +1,100 @@
+-- For the authors of functions that call themselves: what their calls tell, and what a recorder keeps on the way.
+use Rattle.std.proofs.Common.{◌≡◌, ◌∙◌, Bool, true, false, ◌↔◌, List, [], ◌++◌, Result, Ok, Err, IfErr, IsErrAnd, refl, sym, ap, subst}
+use Rattle.std.specs.Cmp.{IsEquivalence}
+use Rattle.comemo_base.specs.Answers.{Respects, Agrees}
+use Rattle.comemo_track.specs.Recording.{Recording, Took}
+use Rattle.comemo.specs.Meaning.{Meaning, run}
+use Rattle.comemo.specs.Cache.{Entries}
+use Rattle.comemo.specs.Begin.{PendingRun}
+use Rattle.comemo.specs.Finish.{Ends, Gives, Finished}
+use Rattle.comemo.specs.Function.{Recorded, IsRecorded, Fits, Tells}
+use Rattle.comemo.specs.Recursive.{TellsOwn, FinishedAs}
+use Rattle.comemo.specs.declared.pending.Fault.{Fault}
+use Rattle.comemo.specs.declared.pending.Fault.TheVariants as fault
+use Rattle.comemo.specs.declared.pending.Reply.{Reply}
+use Rattle.comemo.proofs.Recorders.{still_agrees, fitted, fits_taken}
+
+module _ {V C R X : Type 0} {fits : Recording C R → (C → R) → Type 0} {s t : Recorded V C R} where
+  -- a call of a function that calls itself is a call
+  pub own_tells : {P : X → (C → R) → Type 0} (r : Result X Fault) → TellsOwn fits s t r P → Tells fits s t r P
+  own_tells (Ok x) a = record { same_value = a.same_value; before = a.before; told = a.told; fault = tt }
+  own_tells (Err f) a = record { same_value = a.same_value; before = tt; told = tt; fault = λ e. absurd (a.fault e) }
+
+  -- a want of memory
+  pub own_memory : {P : X → (C → R) → Type 0} (r : Result X Fault) → t.value ≡ s.value → IsErrAnd r (λ f. f ≡ fault.Memory) → TellsOwn fits s t r P
+  own_memory (Ok x) v h = absurd h
+  own_memory (Err f) v h = record { same_value = v; before = tt; told = tt; whole = tt; fault = λ e. let no : fault.Memory ≡ fault.Incomplete = sym h ∙ e in cc }
+
+module _ {V C R : Type 0} {fits : Recording C R → (C → R) → Type 0} {X Y : Type 0} {P : X → (C → R) → Type 0} {Q : Y → (C → R) → Type 0} {x : X} {y : Y} where
+  -- what was told tells what follows from it
+  pub own_as : {s t : Recorded V C R} → TellsOwn fits s t (Ok x) P → ((m : C → R) → fits t.recording m → P x m → Q y m) → TellsOwn fits s t (Ok y) Q
+  own_as a so = record { same_value = a.same_value; before = a.before; told = λ m f. so m f (a.told m f); whole = a.whole; fault = tt }
+
+  -- two calls in turn tell what follows from both
+  pub own_then : {Z : Type 0} {s t u : Recorded V C R} {S : Z → (C → R) → Type 0} {z : Z} → TellsOwn fits s t (Ok x) P → TellsOwn fits t u (Ok y) Q → ((m : C → R) → fits u.recording m → P x m → Q y m → S z m) → TellsOwn fits s u (Ok z) S
+  own_then a b both = record {
+    same_value = b.same_value ∙ a.same_value;
+    before = λ m f. a.before m (b.before m f);
+    told = λ m f. both m f (a.told m (b.before m f)) (b.told m f);
+    whole = b.whole ∙ a.whole;
+    fault = tt;
+  }
+
+  -- two questions or calls in turn, where nothing is said of a loss
+  pub tells_then : {Z : Type 0} {s t u : Recorded V C R} {S : Z → (C → R) → Type 0} {z : Z} → Tells fits s t (Ok x) P → Tells fits t u (Ok y) Q → ((m : C → R) → fits u.recording m → P x m → Q y m → S z m) → Tells fits s u (Ok z) S
+  tells_then a b both = record {
+    same_value = b.same_value ∙ a.same_value;
+    before = λ m f. a.before m (b.before m f);
+    told = λ m f. both m f (a.told m (b.before m f)) (b.told m f);
+    fault = tt;
+  }
+
+-- what a recorder that had lost nothing was told holds of the answers of its value, as it was seen at the end
+pub own_now : {V C R X : Type 0} {eq : C → C → Bool} {same : R → R → Bool} {s t seen : Recorded V C R} {P : X → (C → R) → Type 0} {x : X} (answers : V → C → R) → ((v : V) → Respects eq same (answers v)) → s.recording.whole ≡ true → seen ≡ t → IsRecorded same (answers seen.value) seen.recording → TellsOwn (Fits eq same) s t (Ok x) P → P x (answers s.value)
+own_now {eq = eq} {same = same} {s = s} {t = t} {P = P} {x = x} answers alike w is kept a =
+    let agrees : IsRecorded same (answers t.value) t.recording = subst (λ u. IsRecorded same (answers u.value) u.recording) is kept in
+    subst (λ v. P x (answers v)) a.same_value (a.told (answers t.value) (record { whole = a.whole ∙ w; respects = alike t.value; agrees = agrees.agrees (a.whole ∙ w) }))
+
+module _ {K C R O : Type 0} (M : Meaning K C R O) (calls : IsEquivalence M.same_call) (answers : IsEquivalence M.same_answer) (m : C → R) (respects : Respects M.same_call M.same_answer m) {V : Type 0} {s t : Recorded V C R} (before : s.recording.whole ≡ true → Agrees M.same_answer m s.recording.pairs) (pairs : List (C × R)) (writes : List C) (agrees : Agrees M.same_answer m pairs) (gives : Gives M (Took M.same_call s.recording t.recording) pairs writes) where
+  -- a call that rests on pairs with which the present answers agree, and which went to the recorder, tells what is right by these
+  pub own_given : {X : Type 0} (output : X) {P : X → (C → R) → Type 0} → t.value ≡ s.value → ((n : C → R) → Respects M.same_call M.same_answer n → Agrees M.same_answer n pairs → P output n) → TellsOwn (Fits M.same_call M.same_answer) s t (Ok output) P
+  own_given output value right =
+      let taken = (gives.agreeing m respects).1 agrees in
+      record {
+        same_value = value;
+        before = fitted calls answers m respects gives.given writes gives.are_sent taken before;
+        told = λ n f. right n f.respects ((gives.agreeing n f.respects).0 (fits_taken calls answers m respects gives.given writes gives.are_sent taken before n f));
+        whole = gives.are_sent.whole;
+        fault = tt;
+      }
+
+-- a recorder that took nothing is as it was
+pub same_recorder : {V C R : Type 0} (v : V) {s t : Recording C R} {u : Recorded V C R} → t ≡ s → record { value = v; recording = s } ≡ u → record { value = v; recording = t } ≡ u
+same_recorder v e is = rw e is
+
+-- a recorder that took what the present answers agree with, and no writes, keeps what it kept
+pub given_keeps : {K C R O : Type 0} (M : Meaning K C R O) → IsEquivalence M.same_call → IsEquivalence M.same_answer → (m : C → R) → Respects M.same_call M.same_answer m → (s t : Recording C R) → IsRecorded M.same_answer m s → (pairs : List (C × R)) (writes : List C) → Agrees M.same_answer m pairs → writes ≡ [] → Gives M (Took M.same_call s t) pairs writes → IsRecorded M.same_answer m t
+given_keeps M calls answers m respects s t before pairs writes agrees none gives = record {
+  agrees = still_agrees calls answers m respects gives.given writes gives.are_sent ((gives.agreeing m respects).1 agrees) before.agrees;
+  no_writes = gives.are_sent.writes ∙ ap (λ V. V ++ writes) before.no_writes ∙ none;
+}
+
+-- a fault that is no write's, of a run of which nothing is lost
+pub is_memory : {A : Type 0} (f : Fault) {w : Bool} → w ≡ true → (f ≡ fault.Write → ⊥) → (let r : Result A Fault = Err f in r ≡ Err fault.Incomplete) ↔ (w ≡ false) → f ≡ fault.Memory
+is_memory fault.Memory w never is = refl
+is_memory fault.Write w never is = absurd (never refl)
+is_memory fault.Incomplete w never is = let no : true ≡ false = sym w ∙ is.0 refl in cc
+
+-- what holds of a fault, where it is handed on
+pub handed : {A : Type 0} (r : Result A Fault) (f : Fault) → IsErrAnd r (λ x. x ≡ f) → (X : Fault → Type 0) → X f → IfErr r X
+handed (Ok y) f e X x = tt
+handed (Err g) f e X x = subst X (sym e) x
+
+-- a run that is to be stored and wrote nothing, was finished so
+pub finished_as : {K C R O : Type 0} (M : Meaning K C R O) (es es' : Entries K C R O) (pending : PendingRun K C R) {sent : List (C × R) → List C → Type 0} (output : O) (reply : Reply O) → pending.enabled ≡ true → pending.recording.writes ≡ [] → Finished M es pending sent output reply es' → FinishedAs M es sent (run pending.key pending.recording.pairs output []) es'
+finished_as M es es' pending {sent} output reply enabled none done = record {
+  became = reply.how;
+  enabled = λ d. let no : true ≡ false = sym enabled ∙ done.disabled.0 d in cc;
+  ends = subst (λ ws. Ends M es (run pending.key pending.recording.pairs output ws) reply.how es') none done.ends;
+  gives = subst (λ ws. Gives M sent pending.recording.pairs ws) none done.gives;
+}

@@ -1,0 +1,55 @@
+-- For the authors of functions whose keys or calls are texts, or lists of texts.
+use Rattle.std.specs.Prelude.{◌≡◌, List, [], ◌∷◌, Bool, String, string_bytes}
+use Rattle.std.specs.Global.{Global}
+use Rattle.std.specs.List.{AllZip, fold}
+use Rattle.std.specs.String.{string_eq}
+use Rattle.std.proofs.Common.{IsTrue, rules, refl, sym, subst, ◌∙◌}
+use Rattle.std.specs.Cmp.{IsEquivalence}
+use Rattle.std.specs.Cmp.Lexicographic.{pointwise, same_text}
+use Rattle.std.proofs.lemmas.Cmp.{nat_list_eq_equiv}
+use Rattle.comemo_base.specs.Answers.{Respects}
+use Rattle.comemo_base.proofs.Paths.{turned, joined}
+use Rattle.comemo_track.specs.Multi.{first_call, first_answer}
+use Rattle.comemo_track.specs.declared.multi.MultiCall.{MultiCall}
+use Rattle.comemo_track.specs.declared.multi.MultiAnswer.{MultiAnswer}
+
+-- equal texts have the same bytes
+pub bytes_of_equal : (a b : String Global) → IsTrue (string_eq a b) → string_bytes a ≡ string_bytes b
+bytes_of_equal a b h = search (rules, same_text)
+
+-- texts of the same bytes are equal, as a text and its clone
+pub equal_of_bytes : (a b : String Global) → string_bytes b ≡ string_bytes a → IsTrue (string_eq a b)
+equal_of_bytes a b h = search (rules, nat_list_eq_equiv)
+
+pub texts_refl : (xs : List (String Global)) → IsTrue (pointwise string_eq xs xs)
+texts_refl [] = search rules
+texts_refl (x ∷ xs) = search (rules, equal_of_bytes x x refl, texts_refl xs)
+
+-- texts and their clones are equal in turn
+pub texts_clone : (xs ys : List (String Global)) → AllZip (λ s t. string_bytes t ≡ string_bytes s) xs ys → IsTrue (pointwise string_eq xs ys)
+texts_clone [] [] h = search rules
+texts_clone [] (y ∷ ys) h = search rules
+texts_clone (x ∷ xs) [] h = search rules
+texts_clone (x ∷ xs) (y ∷ ys) h = search (rules, equal_of_bytes x y h.0, texts_clone xs ys h.1)
+
+-- a fold whose step tells no equal items apart, gives the same for items that are equal in turn
+pub fold_alike : {O X : Type 0} (same : X → X → Bool) (f : O → X → O) → ((o : O) (x y : X) → IsTrue (same x y) → f o x ≡ f o y) → (o : O) (xs ys : List X) → IsTrue (pointwise same xs ys) → fold f o xs ≡ fold f o ys
+fold_alike same f alike o [] [] h = search rules
+fold_alike same f alike o [] (y ∷ ys) h = search rules
+fold_alike same f alike o (x ∷ xs) [] h = search rules
+fold_alike same f alike o (x ∷ xs) (y ∷ ys) h =
+    let both : IsTrue (same x y) × IsTrue (pointwise same xs ys) = search rules in
+    rw (alike o x y both.0) (fold_alike same f alike (f o y) xs ys both.1)
+
+module _ {C R : Type 0} {eq : C → C → Bool} {same : R → R → Bool} (m : C → R) (respects : Respects eq same m) where
+  -- what was told of a call is told of an equal call
+  pub told_of_equal : IsEquivalence same → (c d : C) (answer : R) → IsTrue (eq c d) → IsTrue (same (m c) answer) → IsTrue (same (m d) answer)
+  told_of_equal answers c d answer e h = joined answers (m d) (m c) answer (turned answers (m c) (m d) (respects c d e)) h
+
+  -- where g tells no equal answers apart, it gives the same of what was told of a call as of what answers an equal call
+  pub alike_of_told : {X : Type 0} (g : R → X) → ((a b : R) → IsTrue (same a b) → g a ≡ g b) → (c d : C) (answer : R) → IsTrue (eq c d) → IsTrue (same (m c) answer) → g answer ≡ g (m d)
+  alike_of_told g alike c d answer e h = sym (alike (m c) answer h) ∙ alike (m c) (m d) (respects c d e)
+
+-- answers that tell no equal calls apart do so at the first part
+pub first_respects : {X Y P Q : Type 0} (eq : MultiCall X Y → MultiCall X Y → Bool) (same : MultiAnswer P Q → MultiAnswer P Q → Bool) (m : MultiCall X Y → MultiAnswer P Q) (n : X → P) → Respects eq same m → ((c : X) → m (first_call c) ≡ first_answer (n c)) → Respects (λ c d. eq (first_call c) (first_call d)) (λ a b. same (first_answer a) (first_answer b)) n
+first_respects eq same m n respects first c d h = subst (λ b. IsTrue (same (first_answer (n c)) b)) (first d) (subst (λ a. IsTrue (same a (m (first_call d)))) (first c) (respects (first_call c) (first_call d) h))

@@ -1,0 +1,45 @@
+-- What a function that calls itself tells the run around it, and how its calls start and finish.
+use Rattle.std.specs.Prelude.{◌≡◌, true, List, IsTrue, [], Result, IfOk, OnOk, IfErr}
+use Rattle.comemo_track.specs.Recording.{Recording}
+use Rattle.comemo.specs.Meaning.{Meaning, Invocation, Run}
+use Rattle.comemo.specs.Cache.{Entries, HasNone}
+use Rattle.comemo.specs.Finish.{Ends, Gives}
+use Rattle.comemo.specs.Function.{Recorded}
+use Rattle.comemo.specs.declared.pending.Fault.{Fault}
+use Rattle.comemo.specs.declared.pending.Fault.TheVariants as fault
+use Rattle.comemo.specs.declared.pending.How.{How}
+use Rattle.comemo.specs.declared.pending.How.TheVariants as how
+use Rattle.comemo.specs.declared.recursive.Start.{Start}
+use Rattle.comemo.specs.declared.recursive.Start.TheVariants.{Hit, Run as Begins}
+
+-- the first of a hit's output, the second of a run that started
+abbrev pub OnStart : {O I : Type 0} → Start O I → (O → Type 0) → (I → Type 0) → Type 0
+OnStart (Hit output) P Q = P output
+OnStart (Begins run) P Q = Q run
+
+-- what a function tells a run by a call, which took its recorder from s to t: of the same value, where it is answered, nothing was
+-- lost, what fits the recording fitted it before, and P holds of the answer and of whatever fits; and it never says that the
+-- recording is incomplete
+pub record TellsOwn {V C R X : Type 0} (fits : Recording C R → (C → R) → Type 0) (s t : Recorded V C R) (r : Result X Fault) (P : X → (C → R) → Type 0) : Type 0 where
+  pub same_value : t.value ≡ s.value
+  pub before : OnOk r ((m : C → R) → fits t.recording m → fits s.recording m)
+  pub told : IfOk r (λ answer. (m : C → R) → fits t.recording m → P answer m)
+  pub whole : OnOk r (t.recording.whole ≡ s.recording.whole)
+  pub fault : IfErr r (λ f. f ≡ fault.Incomplete → ⊥)
+
+module _ {K C R O : Type 0} (M : Meaning K C R O) (es : Entries K C R O) where
+  -- a run starts, with a recorder of nothing, of the value of the recorder that started it, under a key that is equal to the
+  -- call's; no kept entry has the key and agrees
+  pub record Starts {V : Type 0} (call : Invocation K C R) (outer : Recorded V C R) (own : K) (inner : Recorded V C R) : Type 0 where
+    pub has_key : IsTrue (M.same_key call.key own)
+    pub same_value : inner.value ≡ outer.value
+    pub pairs : inner.recording.pairs ≡ []
+    pub whole : inner.recording.whole ≡ true
+    pub none : HasNone M es call
+
+  -- a run that came to this was finished: its pairs went to the recorder that started it, and it was stored, or it is said why not
+  pub record FinishedAs (sent : List (C × R) → List C → Type 0) (ran : Run K C R O) (es' : Entries K C R O) : Type 0 where
+    pub became : How
+    pub enabled : became ≡ how.Disabled → ⊥
+    pub ends : Ends M es ran became es'
+    pub gives : Gives M sent ran.pairs ran.writes

@@ -1,0 +1,250 @@
+//! Memoized functions that call themselves, or one another: a call by hand, for a recorder.
+ghost use Rattle.std.specs.Prelude.{◌≡◌, ◌↔◌, [], true, List, IsTrue, refl, IfOk, IfErr, OnErr, ⊤};
+ghost use Rattle.std.proofs.Common.{◌∙◌, ap};
+ghost use Rattle.comemo.specs.Meaning.{reading, invocation, run};
+ghost use Rattle.comemo.specs.MeaningLaws.{none_alike};
+ghost use Rattle.comemo.specs.Held.{Held, HeldReply, Leads, Stays};
+ghost use Rattle.comemo.specs.Function.{Laws};
+ghost use Rattle.comemo.specs.Recursive.{TellsOwn, OnStart, Starts, FinishedAs};
+ghost use Rattle.comemo_track.specs.InputLaws.{equal_if_one};
+
+use crate::cache::{Meant, Memo};
+use crate::function::{Recorder, Told};
+use crate::hold::Hold;
+use crate::pending::{Begun, Fault, How, Pending, Reply, begin};
+use comemo_track::input::Input;
+use comemo_track::track::{Call, Track, Tracked};
+use std::alloc::AllocError;
+use std::hash::Hash;
+use std::marker::PhantomData;
+
+/// A memoized function whose runs read alone: what it means of a key and answers, and that there are no writes.
+///
+/// This project's own.
+pub trait ReadsAlone: Memo {
+    // at this key and these answers, this output is right
+    ghost means: { Self.Key → (Self.Call → Self.Answer) → Self.Out → Type 0 };
+
+    // this, and no writes, is what the cache keeps
+    ghost reads: { (key : Self.Key) (m : Self.Call → Self.Answer)
+        (output : Self.Out) (writes : List Self.Call)
+        → Self.Memo.def key m output writes ↔ reading means key m output writes };
+}
+
+/// A memoized function that calls itself through its own cache: what it means, of a key and a tracked value.
+///
+/// It is a `Function` without a run, which is an ordinary function of the user's, from `Recorder::start` to
+/// `Recorder::finish`. This project's own: in comemo it is a function like any.
+pub trait Recursive {
+    /// What isn't tracked of the arguments: what a call is kept under.
+    type Key: Clone + Eq + Hash;
+
+    /// The tracked value that a run asks, or `()`.
+    type Of: Track;
+
+    /// What the function gives.
+    type Out: Clone;
+
+    // at this key and these answers, this output is right
+    ghost means: { Self.Key → (Self.Of.Call → Self.Of.Answer) → Self.Out → Type 0 };
+
+    // a clone of a key is equal, and the meaning tells apart neither equal keys nor an output from its clone
+    ghost laws: { Laws Self.Of.Call.eq Self.Of.Answer.eq Self.Key.eq Self.Key.is_clone
+        Self.Out.is_clone means };
+}
+
+/// What a cache takes such a function for: `CacheData<MemoOfRecursive<F>>` is the cache of `F`.
+///
+/// There is no value of it to make. This project's own.
+pub struct MemoOfRecursive<F> {
+    function: PhantomData<F>,
+}
+
+impl<F: Recursive> Memo for MemoOfRecursive<F> {
+    type Call = <F::Of as Track>::Call;
+
+    type Key = F::Key;
+
+    type Answer = <F::Of as Track>::Answer;
+
+    type Out = F::Out;
+
+    ghost def = { reading F.means };
+
+    ghost laws = { record {
+      outputs = λ key m a b _ r c right. (right.0, F.laws.outputs key m a b r c right.1);
+      keys = λ j k m output _ r e right. (right.0, F.laws.keys j k m output r e right.1);
+      writes = λ key m output V W _ same right.
+          (none_alike F.Of.Call.eq V W same right.0, right.1);
+      key_clones = F.laws.clones;
+      answer_clones = F.Of.clones;
+    } };
+}
+
+impl<F: Recursive> ReadsAlone for MemoOfRecursive<F> {
+    ghost means = { F.means };
+
+    ghost reads = { λ key m output writes. (λ right. right, λ right. right) };
+}
+
+/// How a call by hand started.
+///
+/// This project's own.
+pub enum Start<Out, Run> {
+    /// An entry agreed: its output.
+    Hit(Out),
+    /// None did: the run that is to be done.
+    Run(Run),
+}
+
+/// A run within a run, with a recorder of its own.
+///
+/// Where it is dropped, as by `?`, nothing is kept, and the run around it is told nothing. This project's own.
+#[derive(Drop)]
+pub struct Inner<'a, K, T: Track> {
+    /// What the run asks through.
+    pub recorder: Recorder<'a, T>,
+    /// A clone of the key, for the cache.
+    pub(crate) own: K,
+}
+
+/// A key that is lent, and a view.
+#[derive(Drop)]
+struct LentKey<'a, 'b, K: Clone + Eq + Hash, T> {
+    key: &'b K,
+    view: Tracked<'a, T>,
+    // a clone of a key is equal
+    ghost clones: { (x y : K) → K.is_clone x y → IsTrue (K.eq x y) },
+}
+
+impl<'a, 'b, K: Clone + Eq + Hash, T: Track> Input for LentKey<'a, 'b, K, T> {
+    type Call = T::Call;
+
+    type Key = K;
+
+    type Answer = T::Answer;
+
+    ghost key_of = { λ s. s.key.now };
+
+    ghost answers = { λ s. T.answers s.view };
+
+    ghost did = { λ s t _. (t.key.now ≡ s.key.now) × (t.view ≡ s.view) };
+
+    ghost alike = { λ s. T.alike s.view };
+
+    ghost starts = { λ s. (refl, refl) };
+
+    ghost joins = { λ s t u V W a b. (b.0 ∙ a.0, b.1 ∙ a.1) };
+
+    ghost keeps = { λ s t W a call reads. equal_if_one T.Answer.Eq.laws _ _
+        (ap (λ view. T.answers view call) a.1) };
+
+    ghost keeps_key = { λ s t W a. equal_if_one K.Eq.laws _ _ a.0 };
+
+    fn key(&self) -> Result<K, AllocError> {
+        self.key.clone()
+    }
+
+    fn call(&mut self, call: &T::Call) -> Result<T::Answer, AllocError> {
+        self.view.call(call)
+    }
+
+    fn call_mut(&mut self, _call: &T::Call) -> Result<(), AllocError> {
+        Ok(())
+    }
+}
+
+impl<'a, T: Track> Recorder<'a, T> {
+    /// Starts a call of a memoized function: gives the output that its cache keeps where an entry agrees, or a run to
+    /// be done.
+    ///
+    /// On a hit this recorder takes what the entry rests on. A run has a recorder of its own, of the same value, and
+    /// this one takes nothing yet. The one fault is `Memory`: then the cache is as it was, and this recording is
+    /// spoiled. It costs what `begin` costs, with a clone of the key, also for a hit. This project's own: the first half of
+    /// a call of a function under comemo's `#[memoize]`.
+    pub fn start<G: ReadsAlone<Call = T::Call, Answer = T::Answer>, H: Hold<G>>(
+        &mut self,
+        cache: &mut H,
+        key: &G::Key,
+    ) -> Result<Start<G::Out, Inner<'a, G::Key, T>>, Fault>
+        ensures tells { TellsOwn ⟦<T as Told>⟧.fits self.old self.new result
+            (λ start m. OnStart start (λ output. G.means key.now m output) (λ _. ⊤)) }
+        ensures hit { IfOk result (λ start. OnStart start
+            (λ output. (reply : Reply G.Out) × (reply.output ≡ output) × (reply.how ≡ How.Hit)
+            × HeldReply ⟦<G as Meant>⟧.meaning (invocation key.now (T.answers self.old.value) true)
+            (H.entries cache.old) (H.entries cache.old)
+            (⟦<T as Told>⟧.took self.old self.new) reply (H.entries cache.new)) (λ _. ⊤)) }
+        ensures run { IfOk result (λ start. OnStart start (λ _. ⊤)
+            (λ inner. Held (H.entries cache.old) (λ es. Starts ⟦<G as Meant>⟧.meaning es
+            (invocation key.now (T.answers self.old.value) true) self.old inner.own
+            inner.recorder) × (self.new ≡ self.old)
+            × Stays (H.entries cache.old) (H.entries cache.new))) }
+        ensures err { IfErr result (λ fault. (fault ≡ Fault.Memory)
+            × Stays (H.entries cache.old) (H.entries cache.new)
+            × ⟦<T as Told>⟧.broke_off self.old self.new) }
+    {
+        let alloc = self.alloc;
+        let mut input = LentKey {
+            key,
+            view: self.view.fork(alloc),
+        };
+        let pending = match begin(alloc, cache, &mut input, &mut self.recording, true)? {
+            Begun::Hit(output) => return Ok(Start::Hit(output)),
+            Begun::Run(pending) => pending,
+        };
+        let Pending {
+            alloc: _,
+            key: own,
+            enabled: _,
+            recording: _,
+        } = pending;
+        Ok(Start::Run(Inner {
+            recorder: Recorder::new(alloc, self.view.fork(alloc)),
+            own,
+        }))
+    }
+
+    /// Finishes a run that was started here, with its output, and keeps it.
+    ///
+    /// The output has to be right for all answers that agree with what the run recorded, of which nothing may be lost.
+    /// This recorder takes what the run recorded. The one fault is `Memory`: then the cache is as it was, and this
+    /// recording is spoiled. It costs what `Pending::finish` costs. This project's own: the second half of a call of a
+    /// function under comemo's `#[memoize]`.
+    pub fn finish<G: ReadsAlone<Call = T::Call, Answer = T::Answer>, H: Hold<G>>(
+        &mut self,
+        cache: &mut H,
+        key: &G::Key,
+        inner: Inner<'_, G::Key, T>,
+        output: G::Out,
+    ) -> Result<G::Out, Fault>
+        requires own { IsTrue (G.Key.eq key.now inner.own) }
+        requires value { inner.recorder.value ≡ self.now.value }
+        requires whole { inner.recorder.recording.whole ≡ true }
+        requires right { (m : T.Call → T.Answer)
+            → ⟦<T as Told>⟧.fits inner.recorder.recording m → G.means key.now m output }
+        ensures tells { TellsOwn ⟦<T as Told>⟧.fits self.old self.new result
+            (λ out m. G.means key.now m out) }
+        ensures finished { IfOk result (λ out. (out ≡ output)
+            × Leads (H.entries cache.old) (H.entries cache.new) (λ es es'.
+            FinishedAs ⟦<G as Meant>⟧.meaning es (⟦<T as Told>⟧.took self.old self.new)
+            (run inner.entry.own inner.entry.recorder.recording.pairs output []) es')) }
+        ensures err { IfErr result (λ fault. (fault ≡ Fault.Memory)
+            × Stays (H.entries cache.old) (H.entries cache.new)
+            × ⟦<T as Told>⟧.broke_off self.old self.new) }
+    {
+        let Inner { recorder, own } = inner;
+        let Recorder {
+            alloc,
+            view: _,
+            recording,
+        } = recorder;
+        let pending: Pending<G> = Pending {
+            alloc,
+            key: own,
+            enabled: true,
+            recording,
+        };
+        let reply = pending.finish(cache, &mut self.recording, output)?;
+        Ok(reply.output)
+    }
+}

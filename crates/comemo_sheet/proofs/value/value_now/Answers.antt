@@ -1,0 +1,7 @@
+use Rattle.comemo.proofs.Recursions.{own_now}
+use Rattle.comemo_sheet.specs.Sheets.{cell_answer}
+use Rattle.comemo_sheet.specs.SheetLaws.{cells_alike}
+use Rattle.comemo_sheet.proofs.value.value_now.Goals as goal
+
+pub returns : goal.returns
+returns c = rw (c.new-recorder.ensures.value, c.track.ensures) at (own_now (λ s. cell_answer s.cells) (λ s. cells_alike s.cells) c.new-recorder.ensures.whole c.recorder.view_is c.recorder.invariant c.in_ok-value.ensures)

@@ -1,0 +1,11 @@
+pub mod Fibonacci
+pub mod Sheets
+pub mod SheetLaws
+pub mod Totals
+pub mod TotalLaws
+pub mod Shown
+pub mod ShownLaws
+pub mod Values
+pub mod ValueLaws
+pub mod Plain
+pub mod PlainLaws

@@ -1,0 +1,46 @@
+//! The numbers of Fibonacci, each by way of those before it.
+ghost use Rattle.std.specs.Prelude.{◌≡◌, ◌%◌, ◌^◌};
+ghost use Rattle.std.proofs.Common.{rules};
+ghost use Rattle.comemo.specs.Recursive.{TellsOwn};
+ghost use Rattle.comemo_sheet.specs.Fibonacci.{fib};
+
+use comemo::function::Told;
+use comemo::{Fault, Hold, MemoOfRecursive, Recorder, Recursive, Start};
+
+/// The number of Fibonacci at a place, modulo 2 to the 64th.
+pub struct Fib;
+
+impl Recursive for Fib {
+    type Key = u64;
+
+    type Of = ();
+
+    type Out = u64;
+
+    ghost means = { λ n _ out. out ≡ fib n % 2 ^ 64 };
+
+    ghost laws = { Prim.search rules };
+}
+
+/// The number of Fibonacci at a place, by way of those before it, which are kept but for the first two.
+///
+/// Its cache is any holder of one: a `CacheData`, or a share of one that threads share.
+pub fn numbered<H: Hold<MemoOfRecursive<Fib>>>(
+    cache: &mut H,
+    place: u64,
+    of: &mut Recorder<'_, ()>,
+) -> Result<u64, Fault>
+    ensures { TellsOwn ⟦<() as Told>⟧.fits of.old of.new result
+        (λ number _. number ≡ fib place % 2 ^ 64) }
+{
+    if place < 2 {
+        return Ok(place);
+    }
+    let mut run = match of.start(cache, &place)? {
+        Start::Hit(number) => return Ok(number),
+        Start::Run(run) => run,
+    };
+    let one = numbered(cache, place - 1, &mut run.recorder)?;
+    let other = numbered(cache, place - 2, &mut run.recorder)?;
+    of.finish(cache, &place, run, one.wrapping_add(other))
+}

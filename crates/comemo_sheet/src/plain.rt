@@ -1,0 +1,60 @@
+//! The number of a cell, or why it has none: a memoized function that may fail.
+ghost use Rattle.std.specs.Prelude.{◌≡◌};
+ghost use Rattle.std.proofs.Common.{rules, ◌∙◌};
+ghost use Rattle.comemo_sheet.specs.Plain.{plain_number};
+ghost use Rattle.comemo_sheet.specs.PlainLaws.{plain_alike};
+ghost use Rattle.comemo_sheet.specs.declared.sheet.SheetCall.TheVariants.{Cell};
+
+use crate::sheet::{Content, Sheet, SheetCall};
+use comemo::{Fault, Function, Recorder};
+
+/// Why a cell has no number of its own.
+#[derive(Clone, Copy, Drop, Debug, PartialEq, Eq)]
+pub enum NoNumber {
+    /// Nothing stands there.
+    Nothing,
+    /// It is the sum of other cells.
+    Sum,
+}
+
+/// The number that stands in a cell itself, or why none does.
+pub struct PlainNumber;
+
+impl Function for PlainNumber {
+    type Key = String;
+
+    type Of = Sheet;
+
+    type Out = Result<i64, NoNumber>;
+
+    type Needs = ();
+
+    ghost means = { λ name m out. out ≡ plain_number (m (Cell name)) };
+
+    ghost laws = { record {
+      outputs = λ key m a b r c right. Prim.search rules;
+      keys = λ j k m output r e right.
+          right ∙ plain_alike (m (Cell j)) (m (Cell k)) (r (Cell j) (Cell k) e);
+      clones = Prim.search rules;
+    } };
+
+    fn run(
+        name: &String,
+        sheet: &mut Recorder<'_, Sheet>,
+        _needs: &mut (),
+    ) -> Result<Result<i64, NoNumber>, Fault> {
+        let content = sheet.ask(SheetCall::Cell(name.clone()?))?;
+        Ok(plain(&content))
+    }
+}
+
+/// The number in a content, or why it has none.
+fn plain(content: &Content) -> Result<i64, NoNumber>
+    ensures { result ≡ plain_number content.now }
+{
+    match content {
+        Content::Number(number) => Ok(*number),
+        Content::Empty => Err(NoNumber::Nothing),
+        Content::Sum(_) => Err(NoNumber::Sum),
+    }
+}

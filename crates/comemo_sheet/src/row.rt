@@ -1,0 +1,50 @@
+//! The total of a row of cells: a memoized function that asks in a loop.
+ghost use Rattle.std.specs.Prelude.{◌≡◌};
+ghost use Rattle.std.proofs.Common.{rules, ◌∙◌};
+ghost use Rattle.comemo_sheet.specs.Totals.{plus, total_of};
+ghost use Rattle.comemo_sheet.specs.TotalLaws.{total_alike};
+ghost use Rattle.comemo.proofs.Texts.{texts_clone};
+
+use crate::sheet::{Sheet, SheetCall};
+use comemo::{Fault, Function, Recorder};
+
+/// The sum of the numbers that stand in the cells of these names, which wraps.
+pub struct RowTotal;
+
+impl Function for RowTotal {
+    type Key = Vec<String>;
+
+    type Of = Sheet;
+
+    type Out = i64;
+
+    type Needs = ();
+
+    ghost means = { λ names m out. out ≡ total_of m names.items };
+
+    ghost laws = { record {
+      outputs = λ key m a b r c right. Prim.search rules;
+      keys = λ j k m output r e right. right ∙ total_alike m r j.items k.items e;
+      clones = λ x y h. texts_clone x.items y.items h.0;
+    } };
+
+    fn run(
+        names: &Vec<String>,
+        sheet: &mut Recorder<'_, Sheet>,
+        _needs: &mut (),
+    ) -> Result<i64, Fault> {
+        let mut total: i64 = 0;
+        for name in names {
+            let content = sheet.ask(SheetCall::Cell(name.clone()?))?;
+            total = add(total, content.number());
+        }
+        Ok(total)
+    }
+}
+
+/// A sum, which wraps.
+pub fn add(total: i64, number: i64) -> i64
+    ensures { result ≡ plus total number }
+{
+    total.wrapping_add(number)
+}

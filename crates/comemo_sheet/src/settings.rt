@@ -1,0 +1,66 @@
+//! How numbers are shown, as a tracked value.
+ghost use Rattle.std.specs.Prelude.{false, refl};
+ghost use Rattle.std.proofs.Common.{rules};
+
+use comemo::{Call, Track};
+use std::alloc::AllocError;
+
+/// What can be asked of settings.
+#[derive(Clone, Copy, Drop, Debug, PartialEq, Eq, Hash)]
+pub enum SettingsCall {
+    /// Whether numbers below 0 are hidden.
+    HidesNegative,
+    /// How wide a column is.
+    Width,
+}
+
+impl Call for SettingsCall {
+    ghost is_write = { λ _. false };
+
+    ghost same_kind = { λ x y h. refl };
+
+    ghost clones = { λ x y h. Prim.search rules };
+
+    fn is_mutable(&self) -> bool {
+        false
+    }
+}
+
+/// What settings answer.
+#[derive(Clone, Copy, Drop, Debug, PartialEq, Eq, PartialOrd, Ord)]
+pub enum Setting {
+    /// Whether it is so.
+    Is(bool),
+    /// How much it is.
+    Much(u64),
+}
+
+/// Settings.
+#[derive(Drop)]
+pub struct Settings {
+    /// Whether numbers below 0 are hidden.
+    pub hides_negative: bool,
+    /// How wide a column is.
+    pub width: u64,
+}
+
+impl Track for Settings {
+    type Call = SettingsCall;
+
+    type Answer = Setting;
+
+    ghost use Rattle.comemo_sheet.specs.Shown.{setting};
+
+    ghost answers = { λ s call. setting s.hides_negative s.width call };
+
+    ghost alike = { λ s x y h. Prim.search rules };
+
+    ghost clones = { λ x y h. Prim.search rules };
+
+    fn ask(&self, call: &SettingsCall) -> Result<Setting, AllocError> {
+        match call {
+            SettingsCall::HidesNegative => Ok(Setting::Is(self.hides_negative)),
+            SettingsCall::Width => Ok(Setting::Much(self.width)),
+        }
+    }
+}

@@ -1,0 +1,71 @@
+//! The number of a cell as settings show it: a memoized function of two tracked values, which calls another.
+ghost use Rattle.std.specs.Prelude.{◌≡◌};
+ghost use Rattle.std.proofs.Common.{rules, ◌∙◌, ap};
+ghost use Rattle.comemo.specs.Meaning.{reading};
+ghost use Rattle.comemo_sheet.specs.Shown.{shown};
+
+use crate::number::NumberIn;
+use crate::settings::{Setting, Settings, SettingsCall};
+use crate::sheet::{Content, Sheet, SheetCall};
+use comemo::{Both, CacheData, Fault, FunctionOf, Memo, MemoOf, MultiAnswer, MultiCall, Recorder};
+
+/// A number as it is shown.
+fn show(number: i64, hides_negative: Setting) -> i64
+    ensures { result ≡ shown hides_negative number }
+{
+    match hides_negative {
+        Setting::Is(true) if number < 0 => 0,
+        _ => number,
+    }
+}
+
+/// The number that stands in a cell as it is shown: 0 in its place where it is below 0 and such are hidden.
+pub struct Shown;
+
+impl Memo for Shown {
+    type Call = MultiCall<SheetCall, SettingsCall>;
+
+    type Key = String;
+
+    type Answer = MultiAnswer<Content, Setting>;
+
+    type Out = i64;
+
+    ghost use Rattle.comemo.specs.Multi.{OnParts, first_call};
+    ghost use Rattle.comemo_sheet.specs.SheetLaws.{number_alike, content_clones};
+    ghost use Rattle.comemo_sheet.specs.Sheets.{number_in};
+    ghost use Rattle.comemo_sheet.specs.declared.sheet.SheetCall.TheVariants.{Cell};
+    ghost use Rattle.comemo_sheet.specs.declared.settings.SettingsCall.TheVariants.{HidesNegative};
+
+    ghost def = { reading (λ name m out. OnParts m (λ sheet settings.
+        out ≡ shown (settings HidesNegative) (number_in (sheet (Cell name))))) };
+
+    ghost laws = { record {
+      outputs = λ key m a b writes r c right. Prim.search rules;
+      keys = λ j k m output writes r e right. (
+        right.0,
+        λ x y p q. right.1 x y p q
+            ∙ ap (shown (y HidesNegative)) (number_alike (x (Cell j)) (x (Cell k)) (Prim.search
+            (rules, r (first_call (Cell j)) (first_call (Cell k)) e, p (Cell j), p (Cell k)))),
+      );
+      writes = λ key m output V W r same right. Prim.search rules;
+      key_clones = Prim.search rules;
+      answer_clones = Prim.search (rules, content_clones);
+    } };
+}
+
+impl<'a> FunctionOf<Both<'a, Sheet, Settings>> for Shown {
+    type Needs = CacheData<MemoOf<NumberIn>>;
+
+    ghost reads = { λ key m out writes right. right.0 };
+
+    fn run(
+        name: &String,
+        both: &mut Recorder<'_, Both<'a, Sheet, Settings>>,
+        numbers: &mut CacheData<MemoOf<NumberIn>>,
+    ) -> Result<i64, Fault> {
+        let number = both.call_first(numbers, &mut (), name.clone()?)?;
+        let hides_negative = both.ask_second(SettingsCall::HidesNegative)?;
+        Ok(show(number, hides_negative))
+    }
+}

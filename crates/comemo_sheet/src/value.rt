@@ -1,0 +1,86 @@
+//! The value of a cell, by the cells that it refers to: a function that calls itself through its own cache.
+ghost use Rattle.std.specs.Prelude.{◌≡◌, IfOk};
+ghost use Rattle.std.proofs.Common.{rules, ◌∙◌};
+ghost use Rattle.comemo.specs.Recursive.{TellsOwn};
+ghost use Rattle.comemo_sheet.specs.Sheets.{cell_answer};
+ghost use Rattle.comemo_sheet.specs.Values.{both, value_of};
+ghost use Rattle.comemo_sheet.specs.ValueLaws.{value_alike};
+
+use crate::row::add;
+use crate::sheet::{Sheet, SheetCall};
+use comemo::function::Told;
+use comemo::{CacheData, Fault, MemoOfRecursive, Recorder, Recursive, Start, Track};
+use std::alloc::Global;
+
+/// The value of a cell: the number that stands there, or the sum of the values of the cells whose names do.
+///
+/// It goes down to a limit, so that it ends where cells refer to one another in a circle: then it is none.
+pub struct Value;
+
+impl Recursive for Value {
+    type Key = (String, u64);
+
+    type Of = Sheet;
+
+    type Out = Option<i64>;
+
+    ghost means = { λ key m out. out ≡ value_of m key.1 key.0 };
+
+    ghost laws = { record {
+      outputs = λ key m a b r c right. Prim.search rules;
+      keys = λ j k m output r e right. Prim.search (rules, value_alike m r j.1 j.0 k.0);
+      clones = Prim.search rules;
+    } };
+}
+
+/// The sum of two values; none where one is none.
+fn sum(total: Option<i64>, value: Option<i64>) -> Option<i64>
+    ensures { result ≡ both total value }
+{
+    match (total, value) {
+        (Some(total), Some(value)) => Some(add(total, value)),
+        _ => None,
+    }
+}
+
+/// The value of the cell of a name, kept, by cells down to a limit.
+pub fn valued(
+    cache: &mut CacheData<MemoOfRecursive<Value>>,
+    name: String,
+    limit: u64,
+    of: &mut Recorder<'_, Sheet>,
+) -> Result<Option<i64>, Fault>
+    ensures { TellsOwn ⟦<Sheet as Told>⟧.fits of.old of.new result
+        (λ value m. value ≡ value_of m limit name) }
+{
+    if limit == 0 {
+        return Ok(None);
+    }
+    let key = (name, limit);
+    let mut run = match of.start(cache, &key)? {
+        Start::Hit(value) => return Ok(value),
+        Start::Run(run) => run,
+    };
+    let content = run.recorder.ask(SheetCall::Cell(key.0.clone()?))?;
+    let mut total = Some(content.number());
+    for name in content.names() {
+        let value = valued(cache, name.clone()?, limit - 1, &mut run.recorder)?;
+        total = sum(total, value);
+    }
+    of.finish(cache, &key, run, total)
+}
+
+/// The value of the cell of a name in a sheet as it is, by cells down to a limit.
+pub fn value_now(
+    alloc: Global,
+    cache: &mut CacheData<MemoOfRecursive<Value>>,
+    sheet: &Sheet,
+    name: String,
+    limit: u64,
+) -> Result<Option<i64>, Fault>
+    ensures { IfOk result (λ value. value ≡ value_of (cell_answer sheet.now.cells) limit name) }
+{
+    let mut recorder = Recorder::new(alloc, sheet.track(alloc));
+    let value = valued(cache, name, limit, &mut recorder)?;
+    Ok(value)
+}

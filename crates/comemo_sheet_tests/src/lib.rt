@@ -1,0 +1,7 @@
+//! The spreadsheet and the numbers of Fibonacci at work.
+#![tactic(auto)]
+
+#[cfg(test)]
+mod cells;
+#[cfg(test)]
+mod numbers;

@@ -1,0 +1,5 @@
+//! The coat at work.
+#![tactic(auto)]
+
+#[cfg(test)]
+mod coats;
