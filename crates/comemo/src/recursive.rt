@@ -1,4 +1,4 @@
-//! Memoized functions that call themselves, or one another: a call by hand, for a recorder.
+//! Memoized functions that call themselves: a call by hand, for a recorder.
 ghost use Rattle.std.specs.Prelude.{◌≡◌, ◌↔◌, [], true, List, IsTrue, refl, IfOk, IfErr, OnErr, ⊤};
 ghost use Rattle.std.proofs.Common.{◌∙◌, ap};
 ghost use Rattle.comemo.specs.Meaning.{reading, invocation, run};
