@@ -44,6 +44,7 @@ mod steps;
 mod table;
 mod texts;
 mod trees;
+mod views;
 mod writes;
 
 pub use broken::Broken;

@@ -7,7 +7,7 @@ use comemo::{Begun, CacheData, Constraint, Fault, How, Memo, Reply, Top, Track, 
 use std::alloc::{AllocError, Global};
 
 /// A function of a place of which any text is right.
-struct AnySaid;
+pub(crate) struct AnySaid;
 
 impl Memo for AnySaid {
     type Call = PlaceCall;

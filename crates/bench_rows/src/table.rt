@@ -22,6 +22,7 @@ use crate::trees::{
     an_empty_path_is_found_unasked, calls_are_asked_in_order, paths_that_part,
     what_is_kept_is_found_alone, what_is_stored_stays,
 };
+use crate::views::a_view_asks_once;
 use crate::writes::hits_write_again;
 use std::alloc::Global;
 use std::rt::Clock;
@@ -63,6 +64,7 @@ pub fn run_rows<R: Threads + Wait + Clock + Sync>(rt: &R, alloc: Global) -> Outc
     rows.row("25", functions_are_kept(alloc));
     rows.row("R8", branches_and_evictions(rt, alloc));
     rows.row("R10", no_run_is_lost(alloc));
+    rows.row("R11", a_view_asks_once(alloc));
     rows.row("R13", touches_go_by_answers(alloc));
     rows.row("R13", other_questions(rt, alloc));
     rows

@@ -2,12 +2,13 @@
 
 use crate::dead::{Dead, Step};
 use bench_workers::{
-    Meeting, Null, branches_are_absorbed_in_order, doubled, evictions_reach_a_cache, threads,
-    two_runs_of_one_key, two_runs_that_ask_other_questions,
+    Meeting, Null, branches_are_absorbed_in_order, doubled, evictions_reach_a_cache,
+    evictions_reach_all_keys, threads, two_runs_of_one_key, two_runs_that_ask_other_questions,
 };
 use comemo::evictors::evict;
 use comemo::{
-    Cache, CacheData, Evict, Evictor, How, Memo, MemoOf, Top, Track, memoized, register_evictor,
+    Cache, CacheData, Evict, Evictor, Hashed, Hold, How, Memo, MemoOf, Top, Track, memoized,
+    register_evictor,
 };
 use comemo_guide::double::Double;
 use std::alloc::Global;
@@ -86,6 +87,39 @@ fn a_shared_cache_is_evicted(rt: HostRuntime) -> Result<(), Fail> {
     let cache: Cache<MemoOf<Null>> = Cache::new(alloc);
     let held = &mut cache.hold(&rt);
     assert_eq!(rt; evictions_reach_a_cache(alloc, held, &Idle), Ok(false));
+    Ok(())
+}
+
+#[test]
+fn an_eviction_reaches_all_keys(rt: HostRuntime) -> Result<(), Fail> {
+    let alloc = rt.alloc();
+    let cache: Arc<Cache<MemoOf<Double>>, Global> = Arc::new(alloc, Cache::new(alloc))?;
+    let evictor = Evictor::new(Arc::try_clone(&cache)?, rt.clone()?);
+    let held = &mut cache.hold(&rt);
+    assert_eq!(rt; evictions_reach_all_keys(alloc, held, &evictor), Ok(true));
+    let cache: Cache<MemoOf<Double>> = Cache::new(alloc);
+    let held = &mut cache.hold(&rt);
+    assert_eq!(rt; evictions_reach_all_keys(alloc, held, &Idle), Ok(false));
+    Ok(())
+}
+
+#[test]
+fn each_share_finds_what_another_kept(rt: HostRuntime) -> Result<(), Fail> {
+    let alloc = rt.alloc();
+    let cache: Cache<MemoOf<Double>> = Cache::new(alloc);
+    let nothing = ();
+    let view = nothing.track(alloc);
+    for share in 0..9_u32 {
+        let held = &mut cache.hold(&rt);
+        let reply = memoized(alloc, held, &mut (), 7, &view, &mut Top::new(), true)?;
+        let how = if share == 0 { How::Stored } else { How::Hit };
+        assert_eq!(rt; (reply.output, reply.how), (14, how));
+    }
+    cache.evict(&rt, 0);
+    for _ in 0..9_u32 {
+        let found = cache.hold(&rt).look(&7, &mut Hashed(7))?;
+        assert!(rt; found.is_none());
+    }
     Ok(())
 }
 

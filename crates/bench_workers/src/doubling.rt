@@ -1,8 +1,8 @@
 //! Doubles of numbers, kept in a cache that threads share.
 ghost use Rattle.std.specs.Prelude.{◌≡◌, ◌+◌, ◌%◌, ◌^◌, IfOk, IfSome};
 
-use crate::gate::{Gate, Meeting, TURNS};
-use comemo::{Begun, Fault, Hold, How, Keyed, MemoOf, Reply, Top, Track, begin};
+use crate::gate::{Gate, Meeting, Open, TURNS};
+use comemo::{Begun, Evict, Fault, Hold, How, Keyed, MemoOf, Reply, Top, Track, begin};
 use comemo_guide::double::Double;
 use std::alloc::Global;
 use std::rt::Clock;
@@ -74,4 +74,51 @@ pub fn two_runs_of_one_key<R: Threads + Clock + Sync, H: Hold<MemoOf<Double>> + 
     };
     let outputs = [first.output, second.output, third.output];
     Ok(hows && third.how == How::Hit && outputs == [42, 42, 42])
+}
+
+/// How many numbers are doubled in a round.
+const NUMBERS: u32 = 100;
+
+/// Whether a round of calls, one for each number, ends like this, and like that at one of the numbers.
+fn round_ends<H: Hold<MemoOf<Double>>>(
+    alloc: Global,
+    cache: &mut H,
+    how: How,
+    one: u32,
+    its: How,
+) -> Result<bool, Fault> {
+    for number in 0..NUMBERS {
+        let want = if number == one { its } else { how };
+        let Some(reply) = doubled(alloc, cache, number, &Open)? else {
+            return Ok(false);
+        };
+        if reply.how != want {
+            return Ok(false);
+        }
+    }
+    Ok(true)
+}
+
+/// Whether an eviction reaches the doubles of all numbers: where it drops all, each is stored anew, and of those that are
+/// as old as its bound it leaves the one that was hit last.
+pub fn evictions_reach_all_keys<H: Hold<MemoOf<Double>>, E: Evict>(
+    alloc: Global,
+    cache: &mut H,
+    evictor: &E,
+) -> Result<bool, Fault> {
+    if !round_ends(alloc, cache, How::Stored, 0, How::Stored)? {
+        return Ok(false);
+    }
+    if !round_ends(alloc, cache, How::Hit, 0, How::Hit)? {
+        return Ok(false);
+    }
+    evictor.evict(0);
+    if !round_ends(alloc, cache, How::Stored, 0, How::Stored)? {
+        return Ok(false);
+    }
+    evictor.evict(1);
+    let hit = doubled(alloc, cache, 42, &Open)?;
+    evictor.evict(1);
+    let is_hit = hit.is_some_and(|reply| reply.how == How::Hit);
+    Ok(is_hit && round_ends(alloc, cache, How::Stored, 42, How::Hit)?)
 }

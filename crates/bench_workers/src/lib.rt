@@ -18,7 +18,7 @@ mod nulls;
 mod workers;
 
 pub use branches::branches_are_absorbed_in_order;
-pub use doubling::{doubled, two_runs_of_one_key};
+pub use doubling::{doubled, evictions_reach_all_keys, two_runs_of_one_key};
 pub use empties::two_runs_that_ask_other_questions;
 pub use gate::{Gate, Meeting, Open, TURNS};
 pub use nulls::{Null, evictions_reach_a_cache};

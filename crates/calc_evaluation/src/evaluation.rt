@@ -91,18 +91,17 @@ fn begin_script<S: Sink<Call = JoinedCall, Answer = JoinedAnswer>>(
         return Err(EvalFault::Memory);
     };
     let mut input = Multi((Hashed(key), files.fork(alloc)));
-    let Ok(begun) = begin(alloc, cache, &mut input, sink, true) else {
-        return Err(EvalFault::Memory);
-    };
-    match begun {
-        Begun::Hit(outcome) => {
+    // One match and no test before it, which would move a `Pending` once more, also where none was begun.
+    match begin(alloc, cache, &mut input, sink, true) {
+        Ok(Begun::Hit(outcome)) => {
             if outcome.height > limit {
                 sink.spoil();
                 return Err(EvalFault::TooDeep);
             }
             Ok(Begun::Hit(outcome))
         }
-        Begun::Run(pending) => Ok(Begun::Run(pending)),
+        Ok(Begun::Run(pending)) => Ok(Begun::Run(pending)),
+        Err(_) => Err(EvalFault::Memory),
     }
 }
 
@@ -110,12 +109,12 @@ fn begin_script<S: Sink<Call = JoinedCall, Answer = JoinedAnswer>>(
 /// written once as a macro, since a function can't call itself for another sink.
 macro_rules! evaluate_script {
     ($alloc:ident, $cache:ident, $files:ident, $script:ident, $limit:ident, $sink:ident) => {
-        match begin_script($alloc, $cache, $files, $script, $limit, $sink)? {
-            Begun::Hit(output) => Ok(Reply {
+        match begin_script($alloc, $cache, $files, $script, $limit, $sink) {
+            Ok(Begun::Hit(output)) => Ok(Reply {
                 output,
                 how: How::Hit,
             }),
-            Begun::Run(mut pending) => {
+            Ok(Begun::Run(mut pending)) => {
                 match run_script($alloc, $cache, $files, $script, $limit, pending.recording()) {
                     Ok(outcome) => match pending.finish($cache, $sink, outcome) {
                         Ok(reply) => Ok(reply),
@@ -127,6 +126,7 @@ macro_rules! evaluate_script {
                     }
                 }
             }
+            Err(fault) => Err(fault),
         }
     };
 }

@@ -69,12 +69,13 @@ pub fn size<S: Sink<Call = JoinedCall, Answer = JoinedAnswer>>(
         return Err(Fault::Memory);
     };
     let mut input = Multi((Hashed(key), files.fork(alloc)));
-    match begin(alloc, cache, &mut input, sink, true)? {
-        Begun::Hit(output) => Ok(Reply {
+    // One match and no `?` before it, which would move a `Pending` once more, also where none was begun.
+    match begin(alloc, cache, &mut input, sink, true) {
+        Ok(Begun::Hit(output)) => Ok(Reply {
             output,
             how: How::Hit,
         }),
-        Begun::Run(mut pending) => {
+        Ok(Begun::Run(mut pending)) => {
             let Ok(text) = Files::read(alloc, files, path, pending.recording()) else {
                 pending.give_up(sink);
                 return Err(Fault::Memory);
@@ -82,5 +83,6 @@ pub fn size<S: Sink<Call = JoinedCall, Answer = JoinedAnswer>>(
             let output = text.len() as u64;
             pending.finish(cache, sink, output)
         }
+        Err(fault) => Err(fault),
     }
 }

@@ -37,6 +37,12 @@ of_memory fault.Memory P is never = is
 of_memory fault.Write P is never = absurd (never is)
 of_memory fault.Incomplete P is never = absurd is
 
+-- so it is, whichever fault came
+pub on_fault_is : (f : Fault) {P Q X : Type 0} → OnFault f P Q → (f ≡ fault.Memory → P → X) → (f ≡ fault.Write → Q → X) → X
+on_fault_is fault.Memory is p q = p refl is
+on_fault_is fault.Write is p q = q refl is
+on_fault_is fault.Incomplete is p q = absurd is
+
 -- it is for want of memory, where it didn't stop at a write
 pub for_memory : (f : Fault) (P : Type 0) {Q : Type 0} → OnFault f P Q → (Q → ⊥) → f ≡ fault.Memory
 for_memory fault.Memory P is never = refl

@@ -56,6 +56,16 @@ module _ {E : Type 0} where
   stored_in P es es' (Ok a) p = (es, es', p)
   stored_in P es es' (Err e) p = tt
 
+  -- a step that was done on entries is one of which nothing is told
+  pub stored_untold : {A X : Type 0} (P : E → E → Type 0) (a b : Option E) (r : Result A X) → OnOk r (Leads a b P) → OnOk r (Leads None None P)
+  stored_untold P a b (Ok x) p = some_led a b P p
+  stored_untold P a b (Err e) p = tt
+
+  -- nor of why one was not done
+  pub reason_untold : {A X : Type 0} (Q : X → E → Type 0) (a : Option E) (r : Result A X) → IfErr r (λ e. Held a (Q e)) → IfErr r (λ e. Held None (Q e))
+  reason_untold Q a (Ok x) p = tt
+  reason_untold Q a (Err e) p = some_held a (Q e) p
+
   -- what follows whichever entries it led between
   pub of_led : (o o' : Option E) (P : E → E → Type 0) {X : Type 0} → ((es es' : E) → P es es' → X) → Leads o o' P → X
   of_led o o' P f h = let k = some_led o o' P h in f k.0 k.1 k.2

@@ -1,6 +1,6 @@
 -- What is known of the entries of a holder of a cache. A cache's only holder tells them. One that shares it with other threads tells
 -- none, as these may change them at any moment.
-use Rattle.std.specs.Prelude.{◌≡◌, ⊤, List, Option, Some, None}
+use Rattle.std.specs.Prelude.{◌≡◌, ⊤, ◌⊎◌, List, Option, Some, None}
 use Rattle.comemo.specs.Meaning.{Meaning, Invocation}
 use Rattle.comemo.specs.Cache.{Entries}
 use Rattle.comemo.specs.Called.{IsReply}
@@ -31,6 +31,14 @@ module _ {E : Type 0} where
   Stays (Some es) None = ⊥
   Stays None (Some es') = ⊥
   Stays None None = ⊤
+
+  -- the entries that a way leads to went to others, as P says, or stayed, as where there is another way to them; it leads to as
+  -- many as before
+  abbrev pub ChangesBehind : (E → E → Type 0) → Option E → Option E → Type 0
+  ChangesBehind P (Some es) (Some es') = P es es' ⊎ (es' ≡ es)
+  ChangesBehind P (Some es) None = ⊥
+  ChangesBehind P None (Some es) = ⊥
+  ChangesBehind P None None = ⊤
 
 -- the reply to a call that began at one telling of the entries and ended at another
 abbrev pub HeldReply : {K C R O : Type 0} → Meaning K C R O → Invocation K C R → Option (Entries K C R O) → Option (Entries K C R O) → (List (C × R) → List C → Type 0) → Reply O → Option (Entries K C R O) → Type 0

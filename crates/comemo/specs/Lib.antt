@@ -19,6 +19,7 @@ pub use Rattle.comemo_track.specs.WritingLaws
 pub use Rattle.comemo_track.specs.Recording
 pub use Rattle.comemo_track.specs.RecordingLaws
 pub use Rattle.comemo_track.specs.Views
+pub use Rattle.comemo_track.specs.Answered
 pub use Rattle.comemo_track.specs.Multi
 pub use Rattle.comemo_track.specs.Mapped
 pub use Rattle.comemo_track.specs.MultiLaws

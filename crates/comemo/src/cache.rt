@@ -221,9 +221,10 @@ impl<M: Memo> CacheData<M> {
             (IsRefusedLook ⟦<M as Meant>⟧.meaning self.now
             (invocation key.now (In.answers input.old) true)) }
     {
-        let found = find_agreeing(&self.tree, key, input)?;
-        let Some((pairs, kept)) = found else {
-            return Ok(None);
+        let (pairs, kept) = match find_agreeing(&self.tree, key, input) {
+            Ok(Some((pairs, kept))) => (pairs, kept),
+            Ok(None) => return Ok(None),
+            Err(error) => return Err(error),
         };
         let output = kept.output.clone()?;
         let writes = kept.writes.clone()?;

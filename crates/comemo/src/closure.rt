@@ -110,16 +110,17 @@ pub fn memoize<
         In.did P.recorded (F.post func) input (⟦<S as Breaking>⟧.breaks_off sink.old sink.new)
         (⟦<S as Breaking>⟧.spoiled_after sink.old sink.new) es')) }
 {
-    match begin(alloc, cache, &mut input, sink, enabled)? {
-        Begun::Hit(output) => Ok(Reply {
+    match begin(alloc, cache, &mut input, sink, enabled) {
+        Ok(Begun::Hit(output)) => Ok(Reply {
             output,
             how: How::Hit,
         }),
-        Begun::Run(mut pending) => {
+        Ok(Begun::Run(mut pending)) => {
             let mut recording = P::empty(alloc);
             let ran = func(&mut input, &mut recording);
             pending.recording = recording.into_constraint();
             pending.end(cache, sink, ran)
         }
+        Err(fault) => Err(fault),
     }
 }

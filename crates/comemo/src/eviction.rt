@@ -73,7 +73,7 @@ pub trait Evict: Drop {
     fn evict(&self, max_age: usize);
 }
 
-/// Evicts a cache that threads share, by a right to wait for its lock that it holds. This project's own.
+/// Evicts a cache that threads share, by a right to wait for its locks that it holds. This project's own.
 #[derive(Drop)]
 pub struct Evictor<M: Memo, R: Wait + Drop> {
     cache: Arc<Cache<M>, Global>,

@@ -303,12 +303,13 @@ pub fn memoized<
         key,
         view: of.fork(alloc),
     };
-    match begin(alloc, cache, &mut input, sink, enabled)? {
-        Begun::Hit(output) => Ok(Reply {
+    // One match and no `?` before it, which would move a `Pending` once more, also where none was begun.
+    match begin(alloc, cache, &mut input, sink, enabled) {
+        Ok(Begun::Hit(output)) => Ok(Reply {
             output,
             how: How::Hit,
         }),
-        Begun::Run(mut pending) => {
+        Ok(Begun::Run(mut pending)) => {
             let mut recorder = Recorder::new(alloc, of.fork(alloc));
             let ran = M::run(&input.key, &mut recorder, needs);
             let Recorder {
@@ -319,6 +320,7 @@ pub fn memoized<
             pending.recording = recording;
             pending.end(cache, sink, ran)
         }
+        Err(fault) => Err(fault),
     }
 }
 

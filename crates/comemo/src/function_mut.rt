@@ -363,15 +363,16 @@ pub fn memoized_mut<
     let mut input = KeyedMut { key, value: of };
     let begun = begin(alloc, cache, &mut input, sink, enabled);
     let KeyedMut { key, value } = input;
-    match begun? {
-        Begun::Hit(output) => Ok(Reply {
+    match begun {
+        Ok(Begun::Hit(output)) => Ok(Reply {
             output,
             how: How::Hit,
         }),
-        Begun::Run(mut pending) => {
+        Ok(Begun::Run(mut pending)) => {
             let (ran, recording) = run_recorded::<M, T>(alloc, &key, value, needs);
             pending.recording = recording;
             pending.end(cache, sink, ran)
         }
+        Err(fault) => Err(fault),
     }
 }

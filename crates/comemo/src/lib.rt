@@ -49,9 +49,9 @@ pub use cache::{CacheData, Found, Meant, Memo};
 pub use closure::{Record, memoize};
 pub use comemo_base::{CallSequence, InsertError, Prehashed, SipHasher13, Tagged, hash, hash_any};
 pub use comemo_track::{
-    Both, BothMut, Breaking, Call, CallMap, Constraint, First, Hashed, Input, Keyed, KeyedMut,
-    MappedSink, Multi, MultiAnswer, MultiCall, Second, Sink, Top, Track, Tracked, TrackedMut,
-    TrackedMutWith, TrackedWith, Written,
+    Accelerated, Both, BothMut, Breaking, Call, CallMap, Constraint, First, Hashed, Input, Keyed,
+    KeyedMut, MappedSink, Multi, MultiAnswer, MultiCall, Second, Sink, Top, Track, Tracked,
+    TrackedMut, TrackedMutWith, TrackedWith, Written,
 };
 pub use comemo_tree::CallTree;
 pub use eviction::{Caches, Evict, Evictor};

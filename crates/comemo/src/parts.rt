@@ -108,7 +108,8 @@ impl<'a, 'b, A: Track, B: Track> Recorder<'a, Both<'b, A, B>> {
         ensures tells { Tells ⟦<Both<'b, A, B> as Told>⟧.fits self.old self.new result
             (λ output m. OnPart first_call first_answer m (λ part. G.def key part output [])) }
         ensures reply { IfOk result (λ output. (reply : Reply G.Out) × (reply.output ≡ output)
-            × HeldReply ⟦<G as Meant>⟧.meaning (invocation key (A.answers self.old.value.first) true)
+            × HeldReply ⟦<G as Meant>⟧.meaning
+            (invocation key (A.answers self.old.value.first) true)
             (H.entries cache.old) (H.entries cache.old)
             (Through first_call first_answer
             (⟦<Both<'b, A, B> as Told>⟧.took self.old self.new)) reply (H.entries cache.new)) }
@@ -130,7 +131,8 @@ impl<'a, 'b, A: Track, B: Track> Recorder<'a, Both<'b, A, B>> {
         ensures tells { Tells ⟦<Both<'b, A, B> as Told>⟧.fits self.old self.new result
             (λ output m. OnPart second_call second_answer m (λ part. G.def key part output [])) }
         ensures reply { IfOk result (λ output. (reply : Reply G.Out) × (reply.output ≡ output)
-            × HeldReply ⟦<G as Meant>⟧.meaning (invocation key (B.answers self.old.value.second) true)
+            × HeldReply ⟦<G as Meant>⟧.meaning
+            (invocation key (B.answers self.old.value.second) true)
             (H.entries cache.old) (H.entries cache.old)
             (Through second_call second_answer
             (⟦<Both<'b, A, B> as Told>⟧.took self.old self.new)) reply (H.entries cache.new)) }

@@ -606,13 +606,16 @@ pub fn begin<
         return Err(Fault::Memory);
     };
     if enabled {
-        let Ok(looked) = cache.look(&key, input) else {
-            sink.spoil();
-            return Err(Fault::Memory);
-        };
-        if let Some(found) = looked {
-            let output = give_found(alloc, cache, &key, found, input, sink)?;
-            return Ok(Begun::Hit(output));
+        match cache.look(&key, input) {
+            Ok(Some(found)) => {
+                let output = give_found(alloc, cache, &key, found, input, sink)?;
+                return Ok(Begun::Hit(output));
+            }
+            Ok(None) => {}
+            Err(_) => {
+                sink.spoil();
+                return Err(Fault::Memory);
+            }
         }
     }
     Ok(Begun::Run(Pending {

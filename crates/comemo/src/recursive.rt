@@ -188,9 +188,10 @@ impl<'a, T: Track> Recorder<'a, T> {
             key,
             view: self.view.fork(alloc),
         };
-        let pending = match begin(alloc, cache, &mut input, &mut self.recording, true)? {
-            Begun::Hit(output) => return Ok(Start::Hit(output)),
-            Begun::Run(pending) => pending,
+        let pending = match begin(alloc, cache, &mut input, &mut self.recording, true) {
+            Ok(Begun::Hit(output)) => return Ok(Start::Hit(output)),
+            Ok(Begun::Run(pending)) => pending,
+            Err(fault) => return Err(fault),
         };
         let Pending {
             alloc: _,

@@ -14,18 +14,113 @@ use std::marker::Model;
 /// list asks once, and a comparison of calls is mostly that of a word or two.
 const FEW: usize = 8;
 
+/// A map from calls to places that is a word long until there is a call in it, since most sequences never have one, and
+/// a sequence is moved more often than it is asked.
+#[derive(Drop)]
+struct Many<C: Eq + Hash> {
+    alloc: Global,
+    map: Option<Box<HashMap<C, usize>>>,
+}
+
+impl<C: Eq + Hash> Model for Many<C> {
+    ghost use Rattle.std.specs.HashMap.{spare};
+    ghost use Rattle.comemo_base.specs.Slots.{Places as Kept, places_code, entries_of_map, spare_of_map};
+
+    ghost Value = { Kept C };
+
+    ghost coded = { places_code C.code };
+
+    ghost view = { λ s. record { entries = entries_of_map s.map; room = spare_of_map s.map } };
+}
+
+impl<C: Eq + Hash> Many<C> {
+    /// None. It takes no memory.
+    fn new(alloc: Global) -> Self
+        ensures { result.entries ≡ [] }
+    {
+        Many { alloc, map: None }
+    }
+
+    /// The place of a call, or `None` where it has none. It takes constant expected time.
+    fn get(&self, call: &C) -> Option<usize>
+        ensures { result ≡ place_of C.eq self.now call.now }
+    {
+        match &self.map {
+            Some(map) => map.get(call).copied(),
+            None => None,
+        }
+    }
+
+    /// Makes room for so many calls more; for none it takes no memory.
+    ///
+    /// It stands apart, as `insert` does: a call of a function pays for the size of all its locals, and a map is large.
+    #[inline(never)]
+    fn reserve(&mut self, more: usize) -> Result<(), AllocError>
+    where
+        C: Drop,
+        ensures same { (call : C) → place_of C.eq self.new call ≡ place_of C.eq self.old call }
+        ensures room { OnOk result (more ≤ self.new.room) }
+        ensures err { OnErr result (self.new.entries ≡ self.old.entries) }
+    {
+        if more == 0 {
+            return Ok(());
+        }
+        let mut map = match self.map.take() {
+            Some(map) => map,
+            None => Box::new(self.alloc, HashMap::new(self.alloc))?,
+        };
+        let made = map.reserve(more);
+        self.map = Some(map);
+        made
+    }
+
+    /// Puts a call at a place. Where there is no memory it answers `AllocError`, and no place changes.
+    #[inline(never)]
+    fn insert(&mut self, call: C, place: usize) -> Result<(), AllocError>
+    where
+        C: Drop,
+        ensures put { OnOk result (PutsAt C.eq call place self.old self.new) }
+        ensures room { self.old.room ≤ self.new.room + 1 }
+        ensures succeeds { 0 < self.old.room → IsOk result }
+        ensures err { OnErr result (self.new.entries ≡ self.old.entries) }
+    {
+        let mut map = match self.map.take() {
+            Some(map) => map,
+            None => Box::new(self.alloc, HashMap::new(self.alloc))?,
+        };
+        let put = map.insert(call, place);
+        self.map = Some(map);
+        match put {
+            Ok(_) => Ok(()),
+            Err(_) => Err(AllocError),
+        }
+    }
+
+    /// Takes out the place of a call, and gives the call that stood there. Other places stay.
+    fn take(&mut self, call: &C) -> Option<C>
+        ensures found { MatchOption result (place_of C.eq self.old call.now ≡ None)
+            (λ known. C.eq call.now known ≡ true) }
+        ensures others { KeepsBut C.eq call.now self.old self.new }
+    {
+        let Some(map) = &mut self.map else {
+            return None;
+        };
+        let (known, _) = map.remove_entry(call)?;
+        Some(known)
+    }
+}
+
 /// The place of each call that was ever seen. No two of the calls are equal.
 #[derive(Drop)]
 pub(crate) struct Places<C: Eq + Hash> {
     // The first calls, of which each is compared.
     few: Vec<(C, usize)>,
     // Those that came when the list was full.
-    many: HashMap<C, usize>,
+    many: Many<C>,
 }
 
 impl<C: Eq + Hash> Model for Places<C> {
     ghost use Rattle.std.specs.Prelude.{◌++◌, vec_len, vec_capacity};
-    ghost use Rattle.std.specs.HashMap.{spare};
     ghost use Rattle.comemo_base.specs.Slots.{Places as Kept, places_code, room_of};
 
     ghost Value = { Kept C };
@@ -34,7 +129,7 @@ impl<C: Eq + Hash> Model for Places<C> {
 
     ghost view = { λ s. record {
       entries = s.few.items ++ s.many.entries;
-      room = room_of (vec_len s.few) (vec_capacity s.few) (spare s.many);
+      room = room_of (vec_len s.few) (vec_capacity s.few) s.many.room;
     } };
 }
 
@@ -59,7 +154,7 @@ impl<C: Eq + Hash> Places<C> {
     {
         Places {
             few: Vec::new(alloc),
-            many: HashMap::new(alloc),
+            many: Many::new(alloc),
         }
     }
 
@@ -70,14 +165,13 @@ impl<C: Eq + Hash> Places<C> {
         if let Some(at) = position(self.few.as_slice(), call) {
             return Some(self.few[at].1);
         }
-        if self.many.is_empty() {
-            return None;
-        }
-        self.many.get(call).copied()
+        self.many.get(call)
     }
 
     /// Makes room for more calls, so that to put them takes no memory.
     pub(crate) fn reserve(&mut self, more: usize) -> Result<(), AllocError>
+    where
+        C: Drop,
         ensures same { (call : C) → place_of C.eq self.new call ≡ place_of C.eq self.old call }
         ensures room { OnOk result (more ≤ self.new.room) }
         ensures err { OnErr result (self.new.entries ≡ self.old.entries) }
@@ -118,7 +212,6 @@ impl<C: Eq + Hash> Places<C> {
             let (known, _) = self.few.remove(at);
             return Some(known);
         }
-        let (known, _) = self.many.remove_entry(call)?;
-        Some(known)
+        self.many.take(call)
     }
 }

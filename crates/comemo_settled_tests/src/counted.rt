@@ -87,7 +87,8 @@ fn end(
     ensures agrees { (m : ℕ → ℕ)
         → Agrees nat_eq m run.new.pairs
         → Agrees nat_eq m run.old.pairs }
-    ensures whole { OnOk result ((call : ℕ) → call < bound → IsTrue (held nat_eq run.new.pairs call)) }
+    ensures whole { OnOk result ((call : ℕ) → call < bound
+        → IsTrue (held nat_eq run.new.pairs call)) }
 {
     for _ in 0..numbers.below(8) {
         let call = numbers.below(bound);
@@ -117,7 +118,8 @@ pub(crate) fn run_under(
 ) -> Result<Run, AllocError>
     requires above { 0 < key }
     requires below { key + 3 < 2 ^ 64 }
-    ensures { IfOk result (λ run. IsRun nat_eq nat_eq (λ m call. AsksCounted key m call) run.pairs) }
+    ensures { IfOk result
+        (λ run. IsRun nat_eq nat_eq (λ m call. AsksCounted key m call) run.pairs) }
 {
     let mut run = CallSequence::new(alloc);
     begin(key, answers, numbers, &mut run)?;

@@ -4,6 +4,7 @@
 pub mod fibonacci;
 pub mod number;
 pub mod plain;
+pub mod range;
 pub mod row;
 pub mod settings;
 pub mod sheet;

@@ -34,7 +34,7 @@ impl Recursive for Value {
 }
 
 /// The sum of two values; none where one is none.
-fn sum(total: Option<i64>, value: Option<i64>) -> Option<i64>
+pub fn sum(total: Option<i64>, value: Option<i64>) -> Option<i64>
     ensures { result ≡ both total value }
 {
     match (total, value) {

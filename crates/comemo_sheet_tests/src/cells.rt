@@ -1,8 +1,11 @@
 //! Functions of a spreadsheet: what they give, and which calls were answered from the cache.
 
-use comemo::{Both, CacheData, How, MemoOf, MemoOfRecursive, Top, Track, called, memoized};
+use comemo::{
+    Both, CacheData, Fault, How, MemoOf, MemoOfRecursive, Recorder, Top, Track, called, memoized,
+};
 use comemo_sheet::number::NumberIn;
 use comemo_sheet::plain::{NoNumber, PlainNumber};
+use comemo_sheet::range::{Kept, Range, range_total, ranged};
 use comemo_sheet::row::RowTotal;
 use comemo_sheet::settings::Settings;
 use comemo_sheet::sheet::{Content, Sheet};
@@ -165,5 +168,59 @@ fn a_circle_has_no_value(rt: HostRuntime) -> Result<(), Fail> {
     assert_eq!(rt; cache.len(), 6);
     set(alloc, &mut sheet, "A1", Content::Number(1))?;
     assert_eq!(rt; third(alloc, &mut cache, &sheet)?, Some(4));
+    Ok(())
+}
+
+/// The value of the cell of a name, by the totals of ranges down to the limit 4.
+fn by_ranges(
+    alloc: Global,
+    kept: &mut Kept,
+    sheet: &Sheet,
+    name: &str,
+) -> Result<Option<i64>, Fault> {
+    let mut recorder = Recorder::new(alloc, sheet.track(alloc));
+    ranged(kept, String::from_str(alloc, name)?, 4, &mut recorder)
+}
+
+#[test]
+fn two_functions_call_one_another(rt: HostRuntime) -> Result<(), Fail> {
+    let alloc = rt.alloc();
+    let mut sheet = small_sheet(alloc)?;
+    let again = names(alloc, &["A1", "A2"])?;
+    set(alloc, &mut sheet, "B2", Content::Sum(again))?;
+    let mut kept = (CacheData::new(alloc), CacheData::new(alloc));
+    for (name, value, cells, ranges) in [
+        // C1 at 4, B1 and A1 at 3, A1 and A2 at 2; their ranges at 3 and 2
+        ("C1", 4, 5, 2),
+        // B1, A1 and A2 at 4 and 3; the range at 3
+        ("B1", 3, 7, 3),
+        // B2 refers to the same range, which is kept
+        ("B2", 3, 8, 3),
+        ("C1", 4, 8, 3),
+    ] {
+        assert_eq!(rt; by_ranges(alloc, &mut kept, &sheet, name)?, Some(value));
+        assert_eq!(rt; kept.0.len(), cells);
+        assert_eq!(rt; kept.1.len(), ranges);
+    }
+    set(alloc, &mut sheet, "A1", Content::Number(10))?;
+    assert_eq!(rt; by_ranges(alloc, &mut kept, &sheet, "C1")?, Some(22));
+    Ok(())
+}
+
+#[test]
+fn a_range_in_a_circle_has_no_total(rt: HostRuntime) -> Result<(), Fail> {
+    let alloc = rt.alloc();
+    let mut sheet = small_sheet(alloc)?;
+    let circle = names(alloc, &["C1"])?;
+    set(alloc, &mut sheet, "A1", Content::Sum(circle))?;
+    let mut kept = (CacheData::new(alloc), CacheData::new(alloc));
+    let mut recorder = Recorder::new(alloc, sheet.track(alloc));
+    for (cells, total) in [(["A1", "A2"], None), (["A2", "A3"], Some(2))] {
+        let range = Range {
+            names: names(alloc, &cells)?,
+            limit: 4,
+        };
+        assert_eq!(rt; range_total(&mut kept, range, &mut recorder)?, total);
+    }
     Ok(())
 }

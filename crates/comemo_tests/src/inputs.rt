@@ -22,18 +22,19 @@ pub fn lent_location<S: Sink<Call = ContextCall, Answer = u64>>(
     ensures err { OnErr result ((cache.new ≡ cache.old)
         × IsBroken (⟦<S as Breaking>⟧.breaks_off sink.old sink.new)) }
 {
-    match begin(alloc, cache, context, sink, true)? {
-        Begun::Hit(output) => Ok(Reply {
+    match begin(alloc, cache, context, sink, true) {
+        Ok(Begun::Hit(output)) => Ok(Reply {
             output,
             how: How::Hit,
         }),
-        Begun::Run(mut pending) => {
+        Ok(Begun::Run(mut pending)) => {
             let Ok(at) = context.ask(ContextCall::Location, pending.recording()) else {
                 pending.give_up(sink);
                 return Err(Fault::Memory);
             };
             pending.finish(cache, sink, at)
         }
+        Err(fault) => Err(fault),
     }
 }
 

@@ -5,6 +5,10 @@
 #[cfg(test)]
 mod absorbing;
 #[cfg(test)]
+mod accelerated;
+#[cfg(test)]
+mod accelerated_tests;
+#[cfg(test)]
 mod again;
 #[cfg(test)]
 mod again_tests;

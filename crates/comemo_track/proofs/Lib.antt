@@ -7,3 +7,4 @@ pub mod Validating
 pub mod Through
 pub mod Joined
 pub mod KeyedViews
+pub mod Known

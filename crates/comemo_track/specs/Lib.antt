@@ -9,3 +9,4 @@ pub mod MappedLaws
 pub mod InputLaws
 pub mod Writing
 pub mod WritingLaws
+pub mod Answered

@@ -31,6 +31,7 @@
 //! `src/examples.rt`, through the crate `comemo`, which has all that this one has.
 #![tactic(auto)]
 
+pub mod accelerate;
 pub mod both;
 pub mod both_mut;
 pub mod constraint;
@@ -40,6 +41,7 @@ pub mod multi;
 pub mod track;
 pub mod writing;
 
+pub use accelerate::Accelerated;
 pub use both::Both;
 pub use both_mut::BothMut;
 pub use constraint::Constraint;

@@ -221,7 +221,7 @@ impl<K: Eq + Hash, C: Eq + Hash, R: Ord, T> CallTree<K, C, R, T> {
         let mut at = start.first;
         // The pairs on the way. Where there is no memory for them the look-up goes on without, since `None` is still an
         // answer, and only a path that is found may be refused.
-        let mut trail = Vec::new(self.alloc);
+        let mut trail = new_trail(self.alloc, at);
         let mut lost = false;
         'down: loop {
             match at {
@@ -361,6 +361,20 @@ impl<K: Eq + Hash, C: Eq + Hash, R: Ord, T> CallTree<K, C, R, T> {
         ensures { IsShape C.eq R.eq K.eq self.now result }
     {
         shape_of(&self.inner, &self.leaves, &self.starts)
+    }
+}
+
+/// For how many pairs a trail has room from its first node on, so that most paths are found with one request for memory.
+const TRAIL_ROOM: usize = 16;
+
+/// An empty list for the pairs on the way down from a node. It has room for some of them where the node asks a call, unless
+/// there is no memory for so many: then it grows by the pairs that come.
+fn new_trail<'a, C, R: Drop>(alloc: Global, first: Node) -> Vec<(&'a C, R)>
+    ensures { result.items ≡ [] }
+{
+    match first {
+        Node::Leaf(_) => Vec::new(alloc),
+        Node::Inner(_) => Vec::with_capacity(alloc, TRAIL_ROOM).unwrap_or(Vec::new(alloc)),
     }
 }
 

@@ -98,15 +98,16 @@ fn count_within(
         key: numbers,
         value: counter,
     };
-    match begin(alloc, cache, &mut input, recording, true)? {
-        Begun::Hit(output) => Ok(Reply {
+    match begin(alloc, cache, &mut input, recording, true) {
+        Ok(Begun::Hit(output)) => Ok(Reply {
             output,
             how: How::Hit,
         }),
-        Begun::Run(mut pending) => {
+        Ok(Begun::Run(mut pending)) => {
             let ran = add_each(alloc, cache, numbers, input.value, pending.recording());
             pending.end(cache, recording, ran)
         }
+        Err(fault) => Err(fault),
     }
 }
 
@@ -130,14 +131,15 @@ pub fn count_up(
         key: numbers,
         value: counter,
     };
-    match begin(alloc, cache, &mut input, &mut sink, true)? {
-        Begun::Hit(output) => Ok(Reply {
+    match begin(alloc, cache, &mut input, &mut sink, true) {
+        Ok(Begun::Hit(output)) => Ok(Reply {
             output,
             how: How::Hit,
         }),
-        Begun::Run(mut pending) => {
+        Ok(Begun::Run(mut pending)) => {
             let ran = add_each(alloc, cache, numbers, input.value, pending.recording());
             pending.end(cache, &mut sink, ran)
         }
+        Err(fault) => Err(fault),
     }
 }

@@ -38,12 +38,13 @@ pub fn length_of(
     ensures err { OnErr result (cache.new ≡ cache.old) }
 {
     let mut sink = Top::new();
-    match begin(alloc, cache, text, &mut sink, true)? {
-        Begun::Hit(output) => Ok(Reply {
+    match begin(alloc, cache, text, &mut sink, true) {
+        Ok(Begun::Hit(output)) => Ok(Reply {
             output,
             how: How::Hit,
         }),
-        Begun::Run(pending) => pending.finish(cache, &mut sink, text.0.len() as u64),
+        Ok(Begun::Run(pending)) => pending.finish(cache, &mut sink, text.0.len() as u64),
+        Err(fault) => Err(fault),
     }
 }
 
@@ -82,12 +83,13 @@ pub fn length_by_number(
     ensures err { OnErr result (cache.new ≡ cache.old) }
 {
     let mut sink = Top::new();
-    match begin(alloc, cache, &mut Hashed(hash(text)), &mut sink, true)? {
-        Begun::Hit(output) => Ok(Reply {
+    match begin(alloc, cache, &mut Hashed(hash(text)), &mut sink, true) {
+        Ok(Begun::Hit(output)) => Ok(Reply {
             output,
             how: How::Hit,
         }),
-        Begun::Run(pending) => pending.finish(cache, &mut sink, text.len() as u64),
+        Ok(Begun::Run(pending)) => pending.finish(cache, &mut sink, text.len() as u64),
+        Err(fault) => Err(fault),
     }
 }
 
@@ -122,11 +124,12 @@ pub fn length_by_kept_number(
     ensures err { OnErr result (cache.new ≡ cache.old) }
 {
     let mut sink = Top::new();
-    match begin(alloc, cache, &mut Hashed(hash(kept)), &mut sink, true)? {
-        Begun::Hit(output) => Ok(Reply {
+    match begin(alloc, cache, &mut Hashed(hash(kept)), &mut sink, true) {
+        Ok(Begun::Hit(output)) => Ok(Reply {
             output,
             how: How::Hit,
         }),
-        Begun::Run(pending) => pending.finish(cache, &mut sink, kept.len() as u64),
+        Ok(Begun::Run(pending)) => pending.finish(cache, &mut sink, kept.len() as u64),
+        Err(fault) => Err(fault),
     }
 }

@@ -82,12 +82,12 @@ pub fn sum<H: Hold<SumMemo>>(
         key,
         view: cells.fork(alloc),
     };
-    match begin(alloc, cache, &mut input, &mut sink, true)? {
-        Begun::Hit(output) => Ok(Reply {
+    match begin(alloc, cache, &mut input, &mut sink, true) {
+        Ok(Begun::Hit(output)) => Ok(Reply {
             output,
             how: How::Hit,
         }),
-        Begun::Run(mut pending) => {
+        Ok(Begun::Run(mut pending)) => {
             let mut view = cells.fork(alloc);
             let Ok(output) = add_cells(key, &mut view, pending.recording()) else {
                 pending.give_up(&mut sink);
@@ -95,5 +95,6 @@ pub fn sum<H: Hold<SumMemo>>(
             };
             pending.finish(cache, &mut sink, output)
         }
+        Err(fault) => Err(fault),
     }
 }

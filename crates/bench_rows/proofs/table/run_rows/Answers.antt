@@ -39,5 +39,6 @@ returns g c =
     let upto24 = next _ _ _ _ c.row-25.ensures.held c.row-25.ensures.earlier c.row-25.ensures.failed (24, omega arith, refl) upto23 in
     let upto25 = next _ _ _ _ c.row-26.ensures.held c.row-26.ensures.earlier c.row-26.ensures.failed (25, omega arith, refl) upto24 in
     let upto26 = next _ _ _ _ c.row-27.ensures.held c.row-27.ensures.earlier c.row-27.ensures.failed (26, omega arith, refl) upto25 in
-    let upto27 = next _ _ _ _ c.row-28.ensures.held c.row-28.ensures.earlier c.row-28.ensures.failed (26, omega arith, refl) upto26 in
-    upto27
+    let upto27 = next _ _ _ _ c.row-28.ensures.held c.row-28.ensures.earlier c.row-28.ensures.failed (27, omega arith, refl) upto26 in
+    let upto28 = next _ _ _ _ c.row-29.ensures.held c.row-29.ensures.earlier c.row-29.ensures.failed (27, omega arith, refl) upto27 in
+    upto28

@@ -60,23 +60,23 @@ evaluate_part-returns-in_err-reply-in-Eval-clause-deep t c = λ bytes is e.
     let deep = c.in_err-reply-in-Eval.ensures.deep (ap (λ f. Err f) (handed_on c.from_residual.result c.in_err-reply-in-Eval.field-0.0 _ c.from_residual.ensures.1 e)) in
     (_, _, rw c.in-Eval.is at is, (own, named, text_read c.args.files.now asks), rw c.as_str.ensures at deep)
 
-pub evaluate_within-returns-in-Hit-clause-outcome : goal.evaluate_within-returns-in-Hit-clause-outcome
-evaluate_within-returns-in-Hit-clause-outcome t c =
-    let (key, same, hit) = rw c.in-Hit.is at c.in_ok-output.ensures.begun in
+pub evaluate_within-returns-in-Ok-Hit-clause-outcome : goal.evaluate_within-returns-in-Ok-Hit-clause-outcome
+evaluate_within-returns-in-Ok-Hit-clause-outcome t c =
+    let (key, same, hit) = rw (c.in-Ok-Hit.is, c.in-Ok-Hit.field-0-is) at c.begin_script.ensures.begun in
     (script_given c.args.files.now same hit.1, hit.0)
 
-pub evaluate_within-returns-in-Hit-clause-reply : goal.evaluate_within-returns-in-Hit-clause-reply
-evaluate_within-returns-in-Hit-clause-reply t c =
-    let (key, same, hit) = rw c.in-Hit.is at c.in_ok-output.ensures.begun in
+pub evaluate_within-returns-in-Ok-Hit-clause-reply : goal.evaluate_within-returns-in-Ok-Hit-clause-reply
+evaluate_within-returns-in-Ok-Hit-clause-reply t c =
+    let (key, same, hit) = rw (c.in-Ok-Hit.is, c.in-Ok-Hit.field-0-is) at c.begin_script.ensures.begun in
     record { key = key; names = same; mid = c.args.cache.now; calls = λ not. absurd (not refl); is_reply = hit.1 }
 
-pub evaluate_within-returns-in-Hit-clause-led : goal.evaluate_within-returns-in-Hit-clause-led
-evaluate_within-returns-in-Hit-clause-led t c = led_by_reply c.args.files.now (evaluate_within-returns-in-Hit-clause-reply t c)
+pub evaluate_within-returns-in-Ok-Hit-clause-led : goal.evaluate_within-returns-in-Ok-Hit-clause-led
+evaluate_within-returns-in-Ok-Hit-clause-led t c = led_by_reply c.args.files.now (evaluate_within-returns-in-Ok-Hit-clause-reply t c)
 
 pub evaluate_within-finish-requires : goal.evaluate_within-finish-requires
 evaluate_within-finish-requires t c = λ whole.
-    let (key, same, run) = rw c.in-Run.is at c.in_ok-output.ensures.begun in
-    run_stands _ _ _ key c.in-Run.pending.key _ same run.2.has_key (rw c.recording.ensures.value run.2.writes) c.in-Ok.ensures.writes c.in-Ok.ensures.learns whole
+    let (key, same, run) = rw (c.in-Ok-Run.is, c.in-Ok-Run.field-0-is) at c.begin_script.ensures.begun in
+    run_stands _ _ _ key c.in-Ok-Run.pending.key _ same run.2.has_key (rw c.recording.ensures.value run.2.writes) c.in-Ok.ensures.writes c.in-Ok.ensures.learns whole
 
 pub evaluate_within-returns-in-Ok-finish-clause-outcome : goal.evaluate_within-returns-in-Ok-finish-clause-outcome
 evaluate_within-returns-in-Ok-finish-clause-outcome t c =
@@ -85,33 +85,33 @@ evaluate_within-returns-in-Ok-finish-clause-outcome t c =
 
 pub evaluate_within-returns-in-Ok-finish-clause-reply : goal.evaluate_within-returns-in-Ok-finish-clause-reply
 evaluate_within-returns-in-Ok-finish-clause-reply t c =
-    let (key, same, run) = rw c.in-Run.is at c.in_ok-output.ensures.begun in
+    let (key, same, run) = rw (c.in-Ok-Run.is, c.in-Ok-Run.field-0-is) at c.begin_script.ensures.begun in
     let ran = c.in-Ok.ensures in
-    let stands = run_stands _ _ _ key c.in-Run.pending.key _ same run.2.has_key (rw c.recording.ensures.value run.2.writes) ran.writes ran.learns ran.fits.whole in
+    let stands = run_stands _ _ _ key c.in-Ok-Run.pending.key _ same run.2.has_key (rw c.recording.ensures.value run.2.writes) ran.writes ran.learns ran.fits.whole in
     record {
       key = key;
       names = same;
       mid = c.run_script.new.cache;
-      calls = λ _. rw (rw c.in-Run.is at c.in_ok-output.ensures.kept) at ran.led;
+      calls = λ _. rw (rw (c.in-Ok-Run.is, c.in-Ok-Run.field-0-is) at c.begin_script.ensures.kept) at ran.led;
       is_reply = reply_by_run run.2 ran.fits.agrees stands (rw (c.in-Ok-finish.is, run.1) at c.finish.ensures.finished);
     }
 
 pub evaluate_within-returns-in-Ok-finish-clause-led : goal.evaluate_within-returns-in-Ok-finish-clause-led
 evaluate_within-returns-in-Ok-finish-clause-led t c = led_by_reply c.args.files.now (evaluate_within-returns-in-Ok-finish-clause-reply t c)
 
-pub evaluate_within-returns-in_err-output-clause-failed : goal.evaluate_within-returns-in_err-output-clause-failed
-evaluate_within-returns-in_err-output-clause-failed t c = on_err c.from_residual.result (is_refused c.in_err-output.ensures.err_keeps)
+pub evaluate_within-returns-in-Err-clause-failed : goal.evaluate_within-returns-in-Err-clause-failed
+evaluate_within-returns-in-Err-clause-failed t c = is_refused c.in-Err.ensures.err_keeps
 
 pub evaluate_within-returns-in-Err-finish-clause-failed : goal.evaluate_within-returns-in-Err-finish-clause-failed
 evaluate_within-returns-in-Err-finish-clause-failed t c =
-    let (key, same, run) = rw c.in-Run.is at c.in_ok-output.ensures.begun in
+    let (key, same, run) = rw (c.in-Ok-Run.is, c.in-Ok-Run.field-0-is) at c.begin_script.ensures.begun in
     let (kept, spoiled) = rw c.in-Err-finish.is at c.finish.ensures.err in
-    rw kept (has_no_end (missed_by_run c.args.files.now same run.2) (rw (rw c.in-Run.is at c.in_ok-output.ensures.kept) at c.in-Ok.ensures.led))
+    rw kept (has_no_end (missed_by_run c.args.files.now same run.2) (rw (rw (c.in-Ok-Run.is, c.in-Ok-Run.field-0-is) at c.begin_script.ensures.kept) at c.in-Ok.ensures.led))
 
-pub evaluate_within-returns-in-Err-clause-failed : goal.evaluate_within-returns-in-Err-clause-failed
-evaluate_within-returns-in-Err-clause-failed t c =
-    let (key, same, run) = rw c.in-Run.is at c.in_ok-output.ensures.begun in
-    is_broken (missed_by_run c.args.files.now same run.2) (rw (rw c.in-Run.is at c.in_ok-output.ensures.kept) at c.in-Err.ensures.failed)
+pub evaluate_within-returns-in-Err-run_script-clause-failed : goal.evaluate_within-returns-in-Err-run_script-clause-failed
+evaluate_within-returns-in-Err-run_script-clause-failed t c =
+    let (key, same, run) = rw (c.in-Ok-Run.is, c.in-Ok-Run.field-0-is) at c.begin_script.ensures.begun in
+    is_broken (missed_by_run c.args.files.now same run.2) (rw (rw (c.in-Ok-Run.is, c.in-Ok-Run.field-0-is) at c.begin_script.ensures.kept) at c.in-Err-run_script.ensures.failed)
 
 pub run_script-returns-in_err-outcome-clause-deep : goal.run_script-returns-in_err-outcome-clause-deep
 run_script-returns-in_err-outcome-clause-deep t c = λ e.

@@ -19,40 +19,40 @@ returns-then-limit-eq0-clause-err g c = broke_at_once g.met.S.Sink.starts same_a
 pub returns-in_default-clause-err : goal.returns-in_default-clause-err
 returns-in_default-clause-err g c = broke_at_once g.met.S.Sink.starts same_answer (with_key (answers_of c.args.files.now)) _ _ c.spoil-in_default.ensures
 
-pub returns-in_default-begin-clause-err : goal.returns-in_default-begin-clause-err
-returns-in_default-begin-clause-err g c =
-    let memory = of_memory c.in_default-begin.field-0 _ c.in_default-begin.ensures.err (λ write. never_stops (files_respect c.fork.result) (λ output writes d. d.0) write.1) in
+pub returns-clause-err : goal.returns-clause-err
+returns-clause-err g c =
+    let memory = of_memory c.in-Err.field-0 _ c.in-Err.ensures.err (λ write. never_stops (files_respect c.fork.result) (λ output writes d. d.0) write.1) in
     broke_at_begin (rw c.fork.ensures at memory).2
 
-pub returns-in_default-begin-clause-err_keeps : goal.returns-in_default-begin-clause-err_keeps
-returns-in_default-begin-clause-err_keeps g c =
-    let memory = of_memory c.in_default-begin.field-0 _ c.in_default-begin.ensures.err (λ write. never_stops (files_respect c.fork.result) (λ output writes d. d.0) write.1) in
+pub returns-clause-err_keeps : goal.returns-clause-err_keeps
+returns-clause-err_keeps g c =
+    let memory = of_memory c.in-Err.field-0 _ c.in-Err.ensures.err (λ write. never_stops (files_respect c.fork.result) (λ output writes d. d.0) write.1) in
     inl memory.0
 
 pub returns-then-outcome-limit-clause-err_keeps : goal.returns-then-outcome-limit-clause-err_keeps
 returns-then-outcome-limit-clause-err_keeps g c =
-    let (hit, touched) = rw (c.in-Hit.is, c.fork.ensures) at c.in-Ok-begin.ensures.hit in
+    let (hit, touched) = rw (c.in-Ok-Hit.is, c.in-Ok-Hit.field-0-is, c.fork.ensures) at c.begin.ensures.hit in
     inr (c.in-Ok.key, c.in-Ok.ensures.ok, touched)
 
 pub returns-then-outcome-limit-clause-err : goal.returns-then-outcome-limit-clause-err
 returns-then-outcome-limit-clause-err g c =
-    let (hit, touched) = rw (c.in-Hit.is, c.fork.ensures) at c.in-Ok-begin.ensures.hit in
+    let (hit, touched) = rw (c.in-Ok-Hit.is, c.in-Ok-Hit.field-0-is, c.fork.ensures) at c.begin.ensures.hit in
     broke_after same_answer (with_key (answers_of c.args.files.now)) _ _ _ hit.pairs hit.writes hit.agrees hit.right.0 hit.are_sent c.spoil-then-outcome-limit.ensures
 
 pub returns-then-outcome-limit-clause-deep : goal.returns-then-outcome-limit-clause-deep
 returns-then-outcome-limit-clause-deep g c = λ _.
     let m = answers_of c.args.files.now in
-    let (hit, touched) = rw (c.in-Hit.is, c.fork.ensures) at c.in-Ok-begin.ensures.hit in
+    let (hit, touched) = rw (c.in-Ok-Hit.is, c.in-Ok-Hit.field-0-is, c.fork.ensures) at c.begin.ensures.hit in
     let means = hit.right.1 m (λ c. refl) in
-    deep_of_height (At m) (subst (λ script. Means (At m) script c.in-Hit.outcome.value c.in-Hit.outcome.height) c.in-Ok.ensures.ok means) c.args.limit c.if-outcome-limit.true
+    deep_of_height (At m) (subst (λ script. Means (At m) script c.in-Ok-Hit.outcome.value c.in-Ok-Hit.outcome.height) c.in-Ok.ensures.ok means) c.args.limit c.if-outcome-limit.true
 
-pub returns-in-Hit-clause-begun : goal.returns-in-Hit-clause-begun
-returns-in-Hit-clause-begun g c =
-    let (hit, touched) = rw (c.in-Hit.is, c.fork.ensures) at c.in-Ok-begin.ensures.hit in
+pub returns-in-Ok-Hit-clause-begun : goal.returns-in-Ok-Hit-clause-begun
+returns-in-Ok-Hit-clause-begun g c =
+    let (hit, touched) = rw (c.in-Ok-Hit.is, c.in-Ok-Hit.field-0-is, c.fork.ensures) at c.begin.ensures.hit in
     (c.in-Ok.key, c.in-Ok.ensures.ok, (search rules, reply_by_hit (keyed_calls tests) (keyed_answers tests) c.args.cache.now _ hit touched))
 
-pub returns-clause-begun : goal.returns-clause-begun
-returns-clause-begun g c =
-    let (run, unchanged, kept, same) = rw (c.in-Run.is, c.fork.ensures) at c.in-Ok-begin.ensures.run in
+pub returns-in-Ok-Run-clause-begun : goal.returns-in-Ok-Run-clause-begun
+returns-in-Ok-Run-clause-begun g c =
+    let (run, unchanged, kept, same) = rw (c.in-Ok-Run.is, c.in-Ok-Run.field-0-is, c.fork.ensures) at c.begin.ensures.run in
     let room : 0 < c.args.limit = omega (arith, c.if-limit-eq0.false) in
     (c.in-Ok.key, c.in-Ok.ensures.ok, (room, kept, run))

@@ -6,33 +6,33 @@ use Rattle.calc_files.specs.Files.{answers_of, with_key}
 use Rattle.calc_files.specs.Joined.{same_answer}
 use Rattle.calc_evaluation.specs.Evaluations.{evaluating}
 use Rattle.calc_evaluation.proofs.Evaluations.{script_given, run_stands, of_files, exact_at_ok, exact_at_fault}
-use Rattle.calc_files.proofs.WhatReadsTell.{on_err, broke_at_once}
+use Rattle.calc_files.proofs.WhatReadsTell.{broke_at_once}
 use Rattle.calc_evaluation.proofs.Calls.{missed_by_run, led_by_reply}
 use Rattle.calc_files.proofs.JoinedCalls.{tests}
 use Rattle.calc_evaluation.proofs.evaluation.evaluate.Goals as goal
 
-pub returns-in-Hit-clause-outcome : goal.returns-in-Hit-clause-outcome
-returns-in-Hit-clause-outcome g c =
-    let (key, same, hit) = rw c.in-Hit.is at c.in_ok-output.ensures.begun in
+pub returns-in-Ok-Hit-clause-outcome : goal.returns-in-Ok-Hit-clause-outcome
+returns-in-Ok-Hit-clause-outcome g c =
+    let (key, same, hit) = rw (c.in-Ok-Hit.is, c.in-Ok-Hit.field-0-is) at c.begin_script.ensures.begun in
     (script_given c.args.files.now same hit.1, hit.0)
 
-pub returns-in-Hit-clause-reply : goal.returns-in-Hit-clause-reply
-returns-in-Hit-clause-reply g c =
-    let (key, same, hit) = rw c.in-Hit.is at c.in_ok-output.ensures.begun in
+pub returns-in-Ok-Hit-clause-reply : goal.returns-in-Ok-Hit-clause-reply
+returns-in-Ok-Hit-clause-reply g c =
+    let (key, same, hit) = rw (c.in-Ok-Hit.is, c.in-Ok-Hit.field-0-is) at c.begin_script.ensures.begun in
     record { key = key; names = same; mid = c.args.cache.now; calls = λ not. absurd (not refl); is_reply = hit.1 }
 
-pub returns-in-Hit-clause-led : goal.returns-in-Hit-clause-led
-returns-in-Hit-clause-led g c = led_by_reply c.args.files.now (returns-in-Hit-clause-reply g c)
+pub returns-in-Ok-Hit-clause-led : goal.returns-in-Ok-Hit-clause-led
+returns-in-Ok-Hit-clause-led g c = led_by_reply c.args.files.now (returns-in-Ok-Hit-clause-reply g c)
 
-pub returns-in-Hit-clause-too_deep : goal.returns-in-Hit-clause-too_deep
-returns-in-Hit-clause-too_deep g c =
-    let (key, same, hit) = rw c.in-Hit.is at c.in_ok-output.ensures.begun in
+pub returns-in-Ok-Hit-clause-too_deep : goal.returns-in-Ok-Hit-clause-too_deep
+returns-in-Ok-Hit-clause-too_deep g c =
+    let (key, same, hit) = rw (c.in-Ok-Hit.is, c.in-Ok-Hit.field-0-is) at c.begin_script.ensures.begun in
     exact_at_ok c.args.files.now (script_given c.args.files.now same hit.1) hit.0
 
 pub finish-requires : goal.finish-requires
 finish-requires g c = λ whole.
-    let (key, same, run) = rw c.in-Run.is at c.in_ok-output.ensures.begun in
-    run_stands _ _ _ key c.in-Run.pending.key _ same run.2.has_key (rw c.recording.ensures.value run.2.writes) c.in-Ok.ensures.writes c.in-Ok.ensures.learns whole
+    let (key, same, run) = rw (c.in-Ok-Run.is, c.in-Ok-Run.field-0-is) at c.begin_script.ensures.begun in
+    run_stands _ _ _ key c.in-Ok-Run.pending.key _ same run.2.has_key (rw c.recording.ensures.value run.2.writes) c.in-Ok.ensures.writes c.in-Ok.ensures.learns whole
 
 pub returns-in-Ok-finish-clause-outcome : goal.returns-in-Ok-finish-clause-outcome
 returns-in-Ok-finish-clause-outcome g c =
@@ -41,14 +41,14 @@ returns-in-Ok-finish-clause-outcome g c =
 
 pub returns-in-Ok-finish-clause-reply : goal.returns-in-Ok-finish-clause-reply
 returns-in-Ok-finish-clause-reply g c =
-    let (key, same, run) = rw c.in-Run.is at c.in_ok-output.ensures.begun in
+    let (key, same, run) = rw (c.in-Ok-Run.is, c.in-Ok-Run.field-0-is) at c.begin_script.ensures.begun in
     let ran = c.in-Ok.ensures in
-    let stands = run_stands _ _ _ key c.in-Run.pending.key _ same run.2.has_key (rw c.recording.ensures.value run.2.writes) ran.writes ran.learns ran.fits.whole in
+    let stands = run_stands _ _ _ key c.in-Ok-Run.pending.key _ same run.2.has_key (rw c.recording.ensures.value run.2.writes) ran.writes ran.learns ran.fits.whole in
     record {
       key = key;
       names = same;
       mid = c.run_script.new.cache;
-      calls = λ _. rw (rw c.in-Run.is at c.in_ok-output.ensures.kept) at ran.led;
+      calls = λ _. rw (rw (c.in-Ok-Run.is, c.in-Ok-Run.field-0-is) at c.begin_script.ensures.kept) at ran.led;
       is_reply = reply_by_run run.2 ran.fits.agrees stands (rw (c.in-Ok-finish.is, run.1) at c.finish.ensures.finished);
     }
 
@@ -58,39 +58,39 @@ returns-in-Ok-finish-clause-led g c = led_by_reply c.args.files.now (returns-in-
 pub returns-in-Ok-finish-clause-too_deep : goal.returns-in-Ok-finish-clause-too_deep
 returns-in-Ok-finish-clause-too_deep g c = exact_at_ok c.args.files.now (of_files c.args.files.now c.in-Ok.ensures.learns c.in-Ok.ensures.fits) c.in-Ok.ensures.low
 
-pub returns-in_err-output-clause-failed : goal.returns-in_err-output-clause-failed
-returns-in_err-output-clause-failed g c = on_err c.from_residual.result (is_refused c.in_err-output.ensures.err_keeps)
-
-pub returns-in_err-output-clause-too_deep : goal.returns-in_err-output-clause-too_deep
-returns-in_err-output-clause-too_deep g c =
-    exact_at_fault c.args.files.now c.from_residual.result c.in_err-output.field-0.0 c.from_residual.ensures.1 (λ e. c.in_err-output.ensures.deep (ap (λ f. Err f) e))
-
-pub returns-in_err-output-clause-err : goal.returns-in_err-output-clause-err
-returns-in_err-output-clause-err g c = on_err c.from_residual.result c.in_err-output.ensures.err
-
-pub returns-in-Err-finish-clause-failed : goal.returns-in-Err-finish-clause-failed
-returns-in-Err-finish-clause-failed g c =
-    let (key, same, run) = rw c.in-Run.is at c.in_ok-output.ensures.begun in
-    let (kept, broken) = rw c.in-Err-finish.is at c.finish.ensures.err in
-    rw kept (has_no_end (missed_by_run c.args.files.now same run.2) (rw (rw c.in-Run.is at c.in_ok-output.ensures.kept) at c.in-Ok.ensures.led))
-
-pub returns-in-Err-finish-clause-err : goal.returns-in-Err-finish-clause-err
-returns-in-Err-finish-clause-err g c =
-    let (key, same, run) = rw c.in-Run.is at c.in_ok-output.ensures.begun in
-    let (kept, broken) = rw (c.in-Err-finish.is, run.1) at c.finish.ensures.err in
-    let fits = c.in-Ok.ensures.fits in
-    broke_at_end evaluating (with_key (answers_of c.args.files.now)) (keyed_calls tests) (keyed_answers tests) fits.respects fits.agrees broken
-
 pub returns-in-Err-clause-failed : goal.returns-in-Err-clause-failed
-returns-in-Err-clause-failed g c =
-    let (key, same, run) = rw c.in-Run.is at c.in_ok-output.ensures.begun in
-    is_broken (missed_by_run c.args.files.now same run.2) (rw (rw c.in-Run.is at c.in_ok-output.ensures.kept) at c.in-Err.ensures.failed)
+returns-in-Err-clause-failed g c = is_refused c.in-Err.ensures.err_keeps
 
 pub returns-in-Err-clause-too_deep : goal.returns-in-Err-clause-too_deep
 returns-in-Err-clause-too_deep g c =
     exact_at_fault c.args.files.now _ c.in-Err.fault refl (λ e. c.in-Err.ensures.deep (ap (λ f. Err f) e))
 
 pub returns-in-Err-clause-err : goal.returns-in-Err-clause-err
-returns-in-Err-clause-err g c =
-    let (key, same, run) = rw c.in-Run.is at c.in_ok-output.ensures.begun in
+returns-in-Err-clause-err g c = c.in-Err.ensures.err
+
+pub returns-in-Err-finish-clause-failed : goal.returns-in-Err-finish-clause-failed
+returns-in-Err-finish-clause-failed g c =
+    let (key, same, run) = rw (c.in-Ok-Run.is, c.in-Ok-Run.field-0-is) at c.begin_script.ensures.begun in
+    let (kept, broken) = rw c.in-Err-finish.is at c.finish.ensures.err in
+    rw kept (has_no_end (missed_by_run c.args.files.now same run.2) (rw (rw (c.in-Ok-Run.is, c.in-Ok-Run.field-0-is) at c.begin_script.ensures.kept) at c.in-Ok.ensures.led))
+
+pub returns-in-Err-finish-clause-err : goal.returns-in-Err-finish-clause-err
+returns-in-Err-finish-clause-err g c =
+    let (key, same, run) = rw (c.in-Ok-Run.is, c.in-Ok-Run.field-0-is) at c.begin_script.ensures.begun in
+    let (kept, broken) = rw (c.in-Err-finish.is, run.1) at c.finish.ensures.err in
+    let fits = c.in-Ok.ensures.fits in
+    broke_at_end evaluating (with_key (answers_of c.args.files.now)) (keyed_calls tests) (keyed_answers tests) fits.respects fits.agrees broken
+
+pub returns-in-Err-run_script-clause-failed : goal.returns-in-Err-run_script-clause-failed
+returns-in-Err-run_script-clause-failed g c =
+    let (key, same, run) = rw (c.in-Ok-Run.is, c.in-Ok-Run.field-0-is) at c.begin_script.ensures.begun in
+    is_broken (missed_by_run c.args.files.now same run.2) (rw (rw (c.in-Ok-Run.is, c.in-Ok-Run.field-0-is) at c.begin_script.ensures.kept) at c.in-Err-run_script.ensures.failed)
+
+pub returns-in-Err-run_script-clause-too_deep : goal.returns-in-Err-run_script-clause-too_deep
+returns-in-Err-run_script-clause-too_deep g c =
+    exact_at_fault c.args.files.now _ c.in-Err-run_script.fault refl (λ e. c.in-Err-run_script.ensures.deep (ap (λ f. Err f) e))
+
+pub returns-in-Err-run_script-clause-err : goal.returns-in-Err-run_script-clause-err
+returns-in-Err-run_script-clause-err g c =
+    let (key, same, run) = rw (c.in-Ok-Run.is, c.in-Ok-Run.field-0-is) at c.begin_script.ensures.begun in
     broke_at_once g.met.S.Sink.starts same_answer (with_key (answers_of c.args.files.now)) _ _ (rw run.1 at c.give_up.ensures)

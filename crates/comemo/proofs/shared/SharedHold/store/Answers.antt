@@ -1,8 +1,8 @@
-use Rattle.comemo.proofs.Holding.{stored_in}
+use Rattle.comemo.proofs.Holding.{stored_untold, reason_untold}
 use Rattle.comemo.proofs.shared.SharedHold.store.Goals as goal
 
-pub store-requires-clause-reads : goal.store-requires-clause-reads
-store-requires-clause-reads g c = rw (← c.into_sequence.ensures) at c.requires.reads
-
 pub returns-clause-stored : goal.returns-clause-stored
-returns-clause-stored g c = stored_in _ _ _ c.store.result (rw c.into_sequence.ensures at c.store.ensures.stored)
+returns-clause-stored g c = stored_untold _ _ _ c.store-stored.result (rw c.into_sequence-reads.ensures at c.store-stored.ensures.stored)
+
+pub returns-clause-reason : goal.returns-clause-reason
+returns-clause-reason g c = reason_untold _ _ c.store-stored.result (rw c.into_sequence-reads.ensures at c.store-stored.ensures.reason)

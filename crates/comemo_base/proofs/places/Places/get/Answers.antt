@@ -1,5 +1,5 @@
 use Rattle.std.proofs.Common.{◌∙◌, sym, ap, Some}
-use Rattle.comemo_base.proofs.Behind.{lookup-past, lookup-first, lookup-nothing}
+use Rattle.comemo_base.proofs.Behind.{lookup-past, lookup-first}
 use Rattle.comemo_base.proofs.places.Places.get.Goals as goal
 
 pub returns-in-Some : goal.returns-in-Some
@@ -9,12 +9,7 @@ returns-in-Some g c =
     let first = lookup-first (g.C.PartialEq.eq call) c.self.inside.few.items c.self.inside.many.entries c.in-Some.at c.index.result.now (rw (← c.as_slice.ensures.value) found.0) (rw (← c.as_slice.ensures.value) found.1) (rw (← c.as_slice.ensures.value) found.2) in
     rw (← c.self.view_is) (ap (λ p. Some p.1) c.index.ensures ∙ sym first)
 
-pub returns-then-is_empty : goal.returns-then-is_empty
-returns-then-is_empty g c =
-    let past = lookup-past (g.C.PartialEq.eq c.args.call.now) c.self.inside.few.items c.self.inside.many.entries (rw (← c.as_slice.ensures.value) c.in_default.ensures) in
-    rw (← c.self.view_is) (sym (past ∙ lookup-nothing (g.C.PartialEq.eq c.args.call.now) _ (c.is_empty.ensures.0 c.if-is_empty.true)))
-
 pub returns : goal.returns
 returns g c =
     let past = lookup-past (g.C.PartialEq.eq c.args.call.now) c.self.inside.few.items c.self.inside.many.entries (rw (← c.as_slice.ensures.value) c.in_default.ensures) in
-    rw (← c.self.view_is) (c.copied.ensures ∙ c.get.ensures.value ∙ sym past)
+    rw (← c.self.view_is) (c.get.ensures ∙ sym past)

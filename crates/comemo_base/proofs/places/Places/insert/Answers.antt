@@ -13,4 +13,4 @@ pub returns-clause-put : goal.returns-clause-put
 returns-clause-put g c = λ other.
     let s = c.self.inside in
     let absent : lookup (g.C.PartialEq.eq c.args.call) (s.few.items ++ s.many.entries) ≡ None = rw (← c.self.view_is) at c.requires.new in
-    rw (← c.self.view_is) (lookup-put_behind g.met.C.Eq.laws c.args.call c.args.place s.few.items s.many.entries c.insert.new.self.entries other absent (c.in_ok-insert.ensures.updates.0 other))
+    rw (← c.self.view_is) (lookup-put_behind g.met.C.Eq.laws c.args.call c.args.place s.few.items s.many.entries c.insert.new.self.entries other absent (c.in_ok-insert.ensures.put other))

@@ -11,11 +11,11 @@ returns-in-Some-clause-others g c = λ other apart.
     let here : HoldsAt (λ e. g.C.PartialEq.eq c.args.call.now e.0 ≡ true) s.few.items c.in-Some.at = rw (← c.as_slice.ensures.value) found.2 in
     rw (← c.self.view_is, c.remove-known.ensures.items) (lookup-without (g.C.PartialEq.eq other) s.few.items s.many.entries c.in-Some.at below (λ d. other_passes g.met.C.Eq.laws c.args.call.now other _ apart (here d)))
 
-pub returns-in_err-known-clause-found : goal.returns-in_err-known-clause-found
-returns-in_err-known-clause-found g c =
-    let past = lookup-past (g.C.PartialEq.eq c.args.call.now) c.self.inside.few.items c.self.inside.many.entries (rw (← c.as_slice.ensures.value) c.in_default.ensures) in
-    rw (c.from_residual.ensures, ← c.self.view_is) (past ∙ sym c.in_err-known.ensures.value)
-
 pub returns-clause-others : goal.returns-clause-others
 returns-clause-others g c = λ other apart.
-    rw (← c.self.view_is) (lookup-behind (g.C.PartialEq.eq other) c.self.inside.few.items c.self.inside.many.entries c.remove_entry.new.self.entries (c.remove_entry.ensures.updates.0 other ∙ rw apart refl))
+    rw (← c.self.view_is) (lookup-behind (g.C.PartialEq.eq other) c.self.inside.few.items c.self.inside.many.entries c.take.new.self.entries (c.take.ensures.others other apart))
+
+pub returns-clause-found : goal.returns-clause-found
+returns-clause-found g c =
+    let past = lookup-past (g.C.PartialEq.eq c.args.call.now) c.self.inside.few.items c.self.inside.many.entries (rw (← c.as_slice.ensures.value) c.in_default.ensures) in
+    rw (← c.self.view_is, past) c.take.ensures.found

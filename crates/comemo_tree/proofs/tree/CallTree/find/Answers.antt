@@ -22,7 +22,7 @@ returns-in_default-clause-agreeing g c = λ m respects computed.
 
 pub down-init : goal.down-init
 down-init g c = record {
-  led = ([], [], refl, tt, (c.in-Some.start.now.first, ap (option_map (λ (s : Start _). s.first)) (sym c.in-Some.ensures.value), refl), λ k d l. absurd (omega arith), λ _. rw c.new-trail.ensures.items refl);
+  led = ([], [], refl, tt, (c.in-Some.start.now.first, ap (option_map (λ (s : Start _). s.first)) (sym c.in-Some.ensures.value), refl), λ k d l. absurd (omega arith), λ _. rw c.new_trail-trail.ensures refl);
 }
 
 pub index-requires : goal.index-requires

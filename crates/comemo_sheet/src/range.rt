@@ -1,0 +1,104 @@
+//! The value of a cell by the totals of ranges, and the total of a range by the values of cells: two functions that
+//! call one another, each through a cache of its own.
+ghost use Rattle.std.specs.Prelude.{◌≡◌, Some, pos};
+ghost use Rattle.std.proofs.Common.{rules};
+ghost use Rattle.comemo.specs.Recursive.{TellsOwn};
+ghost use Rattle.comemo.proofs.Texts.{texts_clone};
+ghost use Rattle.comemo_sheet.specs.Values.{sum_of, value_of};
+ghost use Rattle.comemo_sheet.specs.ValueLaws.{range_alike};
+
+use crate::sheet::{Content, Sheet, SheetCall};
+use crate::value::{Value, sum};
+use comemo::function::Told;
+use comemo::{CacheData, Fault, MemoOfRecursive, Recorder, Recursive, Start};
+
+/// The cells of these names, with the limit down to which their values go.
+#[derive(Clone, Drop, Debug, PartialEq, Eq, Hash)]
+pub struct Range {
+    /// The names of the cells.
+    pub names: Vec<String>,
+    /// The limit.
+    pub limit: u64,
+}
+
+/// The sum of the values of the cells of a range; none where one is none.
+///
+/// It is kept once for all cells that refer to the range.
+pub struct RangeTotal;
+
+impl Recursive for RangeTotal {
+    type Key = Range;
+
+    type Of = Sheet;
+
+    type Out = Option<i64>;
+
+    ghost means = { λ range m out.
+        out ≡ sum_of (value_of m range.limit) (Some (pos 0)) range.names.items };
+
+    ghost laws = { record {
+      outputs = λ key m a b r c right. Prim.search rules;
+      keys = λ j k m output r e right.
+          Prim.search (rules, range_alike m r j.limit j.names.items k.names.items);
+      clones = λ x y h. Prim.search (rules, texts_clone);
+    } };
+}
+
+/// What both functions keep. The first is a cache of `valued` too, which means the same.
+pub type Kept = (
+    CacheData<MemoOfRecursive<Value>>,
+    CacheData<MemoOfRecursive<RangeTotal>>,
+);
+
+/// The value of the cell of a name, kept, by the totals of ranges, by cells down to a limit.
+#[cycle(ranging)]
+pub fn ranged(
+    kept: &mut Kept,
+    name: String,
+    limit: u64,
+    of: &mut Recorder<'_, Sheet>,
+) -> Result<Option<i64>, Fault>
+    ensures { TellsOwn ⟦<Sheet as Told>⟧.fits of.old of.new result
+        (λ value m. value ≡ value_of m limit name) }
+{
+    if limit == 0 {
+        return Ok(None);
+    }
+    let key = (name, limit);
+    let mut run = match of.start(&mut kept.0, &key)? {
+        Start::Hit(value) => return Ok(value),
+        Start::Run(run) => run,
+    };
+    let content = run.recorder.ask(SheetCall::Cell(key.0.clone()?))?;
+    let value = match content {
+        Content::Empty => Some(0),
+        Content::Number(number) => Some(number),
+        Content::Sum(names) => {
+            let limit = limit - 1;
+            range_total(kept, Range { names, limit }, &mut run.recorder)?
+        }
+    };
+    of.finish(&mut kept.0, &key, run, value)
+}
+
+/// The total of a range, kept, by the values of its cells.
+#[cycle(ranging)]
+pub fn range_total(
+    kept: &mut Kept,
+    range: Range,
+    of: &mut Recorder<'_, Sheet>,
+) -> Result<Option<i64>, Fault>
+    ensures { TellsOwn ⟦<Sheet as Told>⟧.fits of.old of.new result
+        (λ total m. total ≡ sum_of (value_of m range.limit) (Some (pos 0)) range.names.items) }
+{
+    let mut run = match of.start(&mut kept.1, &range)? {
+        Start::Hit(total) => return Ok(total),
+        Start::Run(run) => run,
+    };
+    let mut total = Some(0);
+    for name in &range.names {
+        let value = ranged(kept, name.clone()?, range.limit, &mut run.recorder)?;
+        total = sum(total, value);
+    }
+    of.finish(&mut kept.1, &range, run, total)
+}
