@@ -111,10 +111,12 @@ pub fn memoize<
         (⟦<S as Breaking>⟧.spoiled_after sink.old sink.new) es')) }
 {
     match begin(alloc, cache, &mut input, sink, enabled) {
-        Ok(Begun::Hit(output)) => Ok(Reply {
-            output,
-            how: How::Hit,
-        }),
+        Ok(Begun::Hit(output)) => {
+            return Ok(Reply {
+                output,
+                how: How::Hit,
+            });
+        }
         Ok(Begun::Run(mut pending)) => {
             let mut recording = P::empty(alloc);
             let ran = func(&mut input, &mut recording);

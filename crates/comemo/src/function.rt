@@ -303,12 +303,15 @@ pub fn memoized<
         key,
         view: of.fork(alloc),
     };
-    // One match and no `?` before it, which would move a `Pending` once more, also where none was begun.
+    // One match and no `?` before it, which would move a `Pending` once more, also where none was begun. A hit returns at
+    // once: its reply as the value of the match would be moved twice.
     match begin(alloc, cache, &mut input, sink, enabled) {
-        Ok(Begun::Hit(output)) => Ok(Reply {
-            output,
-            how: How::Hit,
-        }),
+        Ok(Begun::Hit(output)) => {
+            return Ok(Reply {
+                output,
+                how: How::Hit,
+            });
+        }
         Ok(Begun::Run(mut pending)) => {
             let mut recorder = Recorder::new(alloc, of.fork(alloc));
             let ran = M::run(&input.key, &mut recorder, needs);

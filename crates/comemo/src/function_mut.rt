@@ -364,10 +364,12 @@ pub fn memoized_mut<
     let begun = begin(alloc, cache, &mut input, sink, enabled);
     let KeyedMut { key, value } = input;
     match begun {
-        Ok(Begun::Hit(output)) => Ok(Reply {
-            output,
-            how: How::Hit,
-        }),
+        Ok(Begun::Hit(output)) => {
+            return Ok(Reply {
+                output,
+                how: How::Hit,
+            });
+        }
         Ok(Begun::Run(mut pending)) => {
             let (ran, recording) = run_recorded::<M, T>(alloc, &key, value, needs);
             pending.recording = recording;

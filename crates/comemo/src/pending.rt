@@ -483,6 +483,21 @@ fn replay<In: Input, S: Sink<Call = In::Call, Answer = In::Answer>>(
     Ok(())
 }
 
+/// Clones of the answers of a path.
+fn answers_of<C: Call, R: Clone + Ord>(
+    alloc: Global,
+    pairs: &Vec<(C, R)>,
+) -> Result<Vec<R>, AllocError>
+    requires { (x y : R) → R.is_clone x y → IsTrue (R.eq x y) }
+    ensures { IfOk result (λ answers. HasAnswers R.eq pairs.now.items answers.items) }
+{
+    let mut answers = Vec::with_capacity(alloc, pairs.len())?;
+    for (_, answer) in pairs {
+        answers.push(answer.clone()?)?;
+    }
+    Ok(answers)
+}
+
 /// Clones of the answers of a path that was found, where its entry has an age; of none where it has none to lose.
 fn answers_of_aged<M: Memo>(alloc: Global, found: &Found<M>) -> Result<Vec<M::Answer>, AllocError>
     ensures { IfOk result (λ answers. (found.now.age ≡ 0 → ⊥)
@@ -491,11 +506,7 @@ fn answers_of_aged<M: Memo>(alloc: Global, found: &Found<M>) -> Result<Vec<M::An
     if found.age == 0 {
         return Ok(Vec::new(alloc));
     }
-    let mut answers = Vec::with_capacity(alloc, found.pairs.len())?;
-    for (_, answer) in &found.pairs {
-        answers.push(answer.clone()?)?;
-    }
-    Ok(answers)
+    answers_of(alloc, &found.pairs)
 }
 
 /// Gives what a look-up found: its path to the sink, its writes to the input and the sink, and its output. Before the

@@ -82,11 +82,14 @@ pub fn sum<H: Hold<SumMemo>>(
         key,
         view: cells.fork(alloc),
     };
+    // A hit returns at once: its reply as the value of the match would be moved twice.
     match begin(alloc, cache, &mut input, &mut sink, true) {
-        Ok(Begun::Hit(output)) => Ok(Reply {
-            output,
-            how: How::Hit,
-        }),
+        Ok(Begun::Hit(output)) => {
+            return Ok(Reply {
+                output,
+                how: How::Hit,
+            });
+        }
         Ok(Begun::Run(mut pending)) => {
             let mut view = cells.fork(alloc);
             let Ok(output) = add_cells(key, &mut view, pending.recording()) else {
