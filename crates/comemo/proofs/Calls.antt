@@ -4,11 +4,11 @@ use Rattle.std.proofs.Common.{◌≡◌, Bool, true, false, List, [], ◌∷◌,
 use Rattle.std.specs.Cmp.{IsEquivalence}
 use Rattle.comemo_base.specs.Answers.{Respects, Agrees}
 use Rattle.comemo_track.specs.Recording.{Recording}
-use Rattle.comemo.specs.Begin.{PendingRun, came_to, IsHit, IsRun, IsBrokenOff, IsStopped}
+use Rattle.comemo.specs.Begin.{PendingRun, came_to, HasToRun, IsHit, IsRun, IsBrokenOff, IsStopped}
 use Rattle.comemo.specs.Begun.{OnFault}
-use Rattle.comemo.specs.Meaning.{Meaning, Invocation, run}
+use Rattle.comemo.specs.Meaning.{Meaning, Invocation, invocation, run}
 use Rattle.comemo.specs.Cache.{Entries, Stands, Touches}
-use Rattle.comemo.specs.Called.{IsReply}
+use Rattle.comemo.specs.Called.{IsReply, RanAs}
 use Rattle.comemo.specs.Finish.{Ends, Finished, BreaksOffRun, BrokeOff}
 use Rattle.comemo.specs.declared.pending.How.TheVariants as how
 use Rattle.comemo.specs.declared.pending.Fault.{Fault}
@@ -76,6 +76,10 @@ pub write_handed : {A : Type 0} (r : Result A Fault) (f : Fault) → IsErrAnd r 
 write_handed (Ok x) f e w P Q q = tt
 write_handed (Err g) f e w P Q q = subst (λ x. OnFault x P Q) (sym (e ∙ w)) q
 
+-- a run that was finished with an output, was finished with the reply's
+pub finished_itself : {K C R O : Type 0} {M : Meaning K C R O} {es es' : Entries K C R O} {pending : PendingRun K C R} {sent : List (C × R) → List C → Type 0} {output : O} {reply : Reply O} → Finished M es pending sent output reply es' → Finished M es pending sent reply.output reply es'
+finished_itself {M = M} {es} {es'} {pending} {sent} {output} {reply} done = subst (λ o. Finished M es pending sent o reply es') (sym done.same) done
+
 module _ {K C R O : Type 0} {M : Meaning K C R O} {es : Entries K C R O} {call : Invocation K C R} where
   -- a run that began, however it is seen
   pub run_seen : {seen begun : PendingRun K C R} → seen ≡ begun → IsRun M es call begun → IsRun M es call seen
@@ -112,6 +116,14 @@ module _ {K C R O : Type 0} {M : Meaning K C R O} {es : Entries K C R O} {call :
       disabled = rw (← is.is_enabled) done.disabled;
     });
   }
+
+  -- a run under a key of its own that is equal to the call's, replied so
+  pub reply_by_own_run : {own : K} → HasToRun M es call own → {mid es' : Entries K C R O} {sent : List (C × R) → List C → Type 0} {reply : Reply O} → RanAs M (invocation own call.answers call.enabled) mid sent reply es' → IsReply M call es mid sent reply es'
+  unfolding reply_by_run
+  reply_by_own_run {own} has {reply = reply} ran =
+      let begun : PendingRun K C R = record { key = own; enabled = call.enabled; recording = record { pairs = []; writes = []; whole = true; room = 0 } } in
+      let is : IsRun M es call begun = record { has_key = has.has_key; right = has.right; is_enabled = refl; pairs = refl; writes = refl; whole = refl; none = has.none } in
+      reply_by_run {begun = begun} {t = ran.recording} is ran.agrees (subst (λ ws. Stands M (run own ran.recording.pairs reply.output ws)) (sym ran.no_writes) ran.stands) ran.finished
 
   -- the writes that a reply rests on were done too, and led to whatever is the same
   also_done : {mid es' : Entries K C R O} {sent : List (C × R) → List C → Type 0} {reply : Reply O} {V : Type 0} (did : V → V → List C → Type 0) (i j k : V) → k ≡ j → (is : IsReply M call es mid sent reply es') → did i j is.writes → IsReply M call es mid (λ P W. sent P W × did i k W) reply es'

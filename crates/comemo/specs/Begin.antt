@@ -25,6 +25,13 @@ abbrev pub came_to : {K C R O : Type 0} → PendingRun K C R → O → Run K C R
 came_to s output = run s.key s.recording.pairs output s.recording.writes
 
 module _ {K C R O : Type 0} (M : Meaning K C R O) (es : Entries K C R O) (call : Invocation K C R) where
+  -- a run is to be done under this key, which is the call's up to equality, and where the call is enabled no kept entry has the
+  -- key and agrees
+  pub record HasToRun (own : K) : Type 0 where
+    pub has_key : IsTrue (M.same_key call.key own)
+    pub right : (n : C → R) (output : O) (writes : List C) → Respects M.same_call M.same_answer n → M.def own n output writes → M.def call.key n output writes
+    pub none : call.enabled ≡ true → HasNone M es call
+
   -- a run begins with the key, up to equality, and an empty recording that is whole, and where it is enabled no kept entry
   -- has the key and agrees
   pub record IsRun (begun : PendingRun K C R) : Type 0 where

@@ -1,6 +1,8 @@
 -- By which way a call began, or why it did not.
 use Rattle.comemo.specs.declared.pending.Begun.{Begun}
 use Rattle.comemo.specs.declared.pending.Begun.TheVariants.{Hit, Run}
+use Rattle.comemo.specs.declared.pending.Looked.{Looked}
+use Rattle.comemo.specs.declared.pending.Looked.TheVariants as looked
 use Rattle.comemo.specs.declared.pending.Fault.{Fault}
 use Rattle.comemo.specs.declared.pending.Fault.TheVariants as fault
 use Rattle.comemo.specs.Begin.{PendingRun}
@@ -16,3 +18,8 @@ abbrev pub OnFault : Fault → Type 0 → Type 0 → Type 0
 OnFault fault.Memory P Q = P
 OnFault fault.Write P Q = Q
 OnFault fault.Incomplete P Q = ⊥
+
+-- the first of a hit's output, the second of the key of a run
+abbrev pub OnLooked : {O K : Type 0} → Looked O K → (O → Type 0) → (K → Type 0) → Type 0
+OnLooked (looked.Hit output) P Q = P output
+OnLooked (looked.Run own) P Q = Q own

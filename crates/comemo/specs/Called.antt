@@ -1,10 +1,11 @@
 -- What a memoized function replies to a call.
-use Rattle.std.specs.Prelude.{◌≡◌, ◌↔◌, ◌⊎◌, ◌++◌, true, false, List, map, IsTrue}
+use Rattle.std.specs.Prelude.{◌≡◌, ◌↔◌, ◌⊎◌, ◌++◌, [], true, false, List, map, IsTrue}
 use Rattle.std.specs.List.Sorted.{IsPermutation}
 use Rattle.comemo_base.specs.Answers.{Agrees}
 use Rattle.comemo.specs.Meaning.{Meaning, Invocation, Run, run}
 use Rattle.comemo.specs.Cache.{Entries, Stands, HasNone, Has, Touches, young}
-use Rattle.comemo.specs.Finish.{Ends, Gives}
+use Rattle.comemo_track.specs.Recording.{Recording}
+use Rattle.comemo.specs.Finish.{Ends, Finished, Gives}
 use Rattle.comemo.specs.declared.pending.Reply.{Reply}
 use Rattle.comemo.specs.declared.pending.How.{How}
 use Rattle.comemo.specs.declared.pending.How.TheVariants as how
@@ -24,6 +25,15 @@ module _ {K C R O : Type 0} (M : Meaning K C R O) (call : Invocation K C R) wher
     pub has_key : IsTrue (M.same_key call.key own)
     pub ends : Ends M mid (record ran { key = own }) reply es'
     pub disabled : (reply ≡ how.Disabled) ↔ (call.enabled ≡ false)
+
+  -- a run under the call's own key came to the reply: it recorded reads, which the call's answers agree with, and by which alone its
+  -- output is right; and it was finished
+  pub record RanAs (es : Entries K C R O) (sent : List (C × R) → List C → Type 0) (reply : Reply O) (es' : Entries K C R O) : Type 0 where
+    pub recording : Recording C R
+    pub no_writes : recording.writes ≡ []
+    pub agrees : Agrees M.same_answer call.answers recording.pairs
+    pub stands : Stands M (run call.key recording.pairs reply.output [])
+    pub finished : Finished M es (record { key = call.key; enabled = call.enabled; recording = recording }) sent reply.output reply es'
 
   -- the reply to a call: it rests on reads that the call's answers agree with, and on writes, by which alone its output is
   -- right at the key, and which went to the sink. It came by a hit, or by a run, which began at the entries es and ended at mid

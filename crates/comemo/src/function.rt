@@ -2,7 +2,8 @@
 ghost use Rattle.std.specs.Prelude.{◌≡◌, [], List, true, false, IsTrue, IfOk, IfErr, OnOk, OnErr, ⊤};
 ghost use Rattle.comemo.specs.Meaning.{invocation, reading};
 ghost use Rattle.comemo.specs.MeaningLaws.{none_alike};
-ghost use Rattle.comemo.specs.Held.{HeldReply, Stays};
+ghost use Rattle.comemo.specs.Called.{RanAs};
+ghost use Rattle.comemo.specs.Held.{HeldReply, Leads, Stays};
 ghost use Rattle.comemo.specs.Finish.{BrokeOff};
 ghost use Rattle.comemo_track.specs.Recording.{Recording, Took, Spoiled};
 ghost use Rattle.comemo_track.specs.Sending.{Asks, BreaksOff};
@@ -10,7 +11,7 @@ ghost use Rattle.comemo.specs.Function.{Recorded, Fits, Tells, Laws};
 
 use crate::cache::{Meant, Memo};
 use crate::hold::Hold;
-use crate::pending::{Begun, Fault, How, Reply, begin};
+use crate::pending::{Fault, How, Looked, Pending, Reply, look_up};
 use comemo_track::constraint::Constraint;
 use comemo_track::input::Keyed;
 use comemo_track::track::{Breaking, Call, Sink, Top, Track, Tracked};
@@ -303,28 +304,53 @@ pub fn memoized<
         key,
         view: of.fork(alloc),
     };
-    // One match and no `?` before it, which would move a `Pending` once more, also where none was begun. A hit returns at
-    // once: its reply as the value of the match would be moved twice.
-    match begin(alloc, cache, &mut input, sink, enabled) {
-        Ok(Begun::Hit(output)) => {
+    // A hit returns at once: its reply as the value of the match would be moved twice.
+    match look_up(alloc, cache, &mut input, sink, enabled) {
+        Ok(Looked::Hit(output)) => {
             return Ok(Reply {
                 output,
                 how: How::Hit,
             });
         }
-        Ok(Begun::Run(mut pending)) => {
-            let mut recorder = Recorder::new(alloc, of.fork(alloc));
-            let ran = M::run(&input.key, &mut recorder, needs);
-            let Recorder {
-                alloc: _,
-                view: _,
-                recording,
-            } = recorder;
-            pending.recording = recording;
-            pending.end(cache, sink, ran)
-        }
+        Ok(Looked::Run(own)) => run_kept(alloc, cache, needs, own, of, sink, enabled),
         Err(fault) => Err(fault),
     }
+}
+
+/// Runs a function under its cache's own key, and ends the run. It stands apart, so that a call that hits makes no room
+/// for it.
+#[inline(never)]
+fn run_kept<M: FunctionOf<T>, H: Hold<M>, T: Track, S: Sink<Call = T::Call, Answer = T::Answer>>(
+    alloc: Global,
+    cache: &mut H,
+    needs: &mut M::Needs,
+    key: M::Key,
+    of: &Tracked<'_, T>,
+    sink: &mut S,
+    enabled: bool,
+) -> Result<Reply<M::Out>, Fault>
+    ensures ran { IfOk result (λ reply.
+        Leads (H.entries cache.old) (H.entries cache.new) (λ es es'.
+        RanAs ⟦<M as Meant>⟧.meaning (invocation key (T.answers of.now) enabled) es
+        (S.took sink.old sink.new) reply es')) }
+    ensures err { OnErr result (Stays (H.entries cache.old) (H.entries cache.new)
+        × BrokeOff T.Answer.eq (T.answers of.now)
+        (⟦<S as Breaking>⟧.breaks_off sink.old sink.new)) }
+{
+    let mut recorder = Recorder::new(alloc, of.fork(alloc));
+    let ran = M::run(&key, &mut recorder, needs);
+    let Recorder {
+        alloc: _,
+        view: _,
+        recording,
+    } = recorder;
+    let pending: Pending<M> = Pending {
+        alloc,
+        key,
+        enabled,
+        recording,
+    };
+    pending.end(cache, sink, ran)
 }
 
 /// Calls a memoized function that needs nothing, and that no other run is around: `memoized` for the plain case.

@@ -7,8 +7,8 @@ ghost use Rattle.comemo.specs.Meaning.{Invocation, SameWrites, exactly, invocati
 ghost use Rattle.comemo.specs.Cache.{Stands, Touches};
 ghost use Rattle.comemo.specs.Found.{TouchesFound};
 ghost use Rattle.comemo_tree.specs.Change.{HasAnswers};
-ghost use Rattle.comemo.specs.Begin.{Reaches, IsHit, IsRun, IsBrokenOff, IsStopped, came_to};
-ghost use Rattle.comemo.specs.Begun.{OnBegun, OnFault};
+ghost use Rattle.comemo.specs.Begin.{Reaches, HasToRun, IsHit, IsRun, IsBrokenOff, IsStopped, came_to};
+ghost use Rattle.comemo.specs.Begun.{OnBegun, OnFault, OnLooked};
 ghost use Rattle.comemo.specs.Finish.{Ends, Gives, Finished, BreaksOffRun};
 ghost use Rattle.comemo.specs.Held.{Held, Leads, Stays};
 
@@ -564,6 +564,72 @@ fn give_found<
     Ok(output)
 }
 
+/// What a look-up for a call came to.
+pub(crate) enum Looked<Out, Key> {
+    /// An entry agreed: its output.
+    Hit(Out),
+    /// None did, or none was looked for: the key of the run that is to be done.
+    Run(Key),
+}
+
+/// Looks for an entry that agrees, and gives its output as a hit does; or gives the key of a run that is to be done.
+///
+/// It is what `begin` does before it makes a recording, for which a call that hits needs no room.
+pub(crate) fn look_up<
+    M: Memo,
+    H: Hold<M>,
+    In: Input<Call = M::Call, Key = M::Key, Answer = M::Answer>,
+    S: Sink<Call = M::Call, Answer = M::Answer>,
+>(
+    alloc: Global,
+    cache: &mut H,
+    input: &mut In,
+    sink: &mut S,
+    enabled: bool,
+) -> Result<Looked<M::Out, M::Key>, Fault>
+    ensures hit { IfOk result (λ l. OnLooked l
+        (λ output. Leads (H.entries cache.old) (H.entries cache.new) (λ es es'.
+        IsHit ⟦<M as Meant>⟧.meaning es (⟦<In as Invoked>⟧.invoked input.old enabled)
+        (In.did input.old input.new) (S.took sink.old sink.new) output
+        × Touches ⟦<M as Meant>⟧.meaning es
+        (⟦<In as Invoked>⟧.invoked input.old enabled) es'))
+        (λ _. ⊤)) }
+    ensures run { IfOk result (λ l. OnLooked l (λ _. ⊤)
+        (λ own. Held (H.entries cache.old) (λ es.
+        HasToRun ⟦<M as Meant>⟧.meaning es (⟦<In as Invoked>⟧.invoked input.old enabled) own)
+        × In.did input.old input.new [] × (sink.new ≡ sink.old)
+        × Stays (H.entries cache.old) (H.entries cache.new))) }
+    ensures reached { Reaches In.did input.old input.new }
+    ensures err { IfErr result (λ fault. OnFault fault
+        (Stays (H.entries cache.old) (H.entries cache.new) × In.did input.old input.new []
+        × Held (H.entries cache.old) (λ es. IsBrokenOff ⟦<M as Meant>⟧.meaning es
+        (⟦<In as Invoked>⟧.invoked input.old enabled)
+        (⟦<S as Breaking>⟧.breaks_off sink.old sink.new)))
+        (Leads (H.entries cache.old) (H.entries cache.new) (λ es es'.
+        Touches ⟦<M as Meant>⟧.meaning es (⟦<In as Invoked>⟧.invoked input.old enabled) es'
+        × IsStopped ⟦<M as Meant>⟧.meaning es (⟦<In as Invoked>⟧.invoked input.old enabled)
+        (In.did input.old input.new) (⟦<S as Breaking>⟧.spoiled_after sink.old sink.new)))) }
+{
+    let Ok(key) = input.key() else {
+        sink.spoil();
+        return Err(Fault::Memory);
+    };
+    if enabled {
+        match cache.look(&key, input) {
+            Ok(Some(found)) => {
+                let output = give_found(alloc, cache, &key, found, input, sink)?;
+                return Ok(Looked::Hit(output));
+            }
+            Ok(None) => {}
+            Err(_) => {
+                sink.spoil();
+                return Err(Fault::Memory);
+            }
+        }
+    }
+    Ok(Looked::Run(key))
+}
+
 /// Begins a call of a memoized function: looks for an entry that agrees, and gives its output; or begins a run.
 ///
 /// With `enabled` false there is no look-up, and the run won't be stored. On a hit the entry's path is given to the
@@ -612,27 +678,15 @@ pub fn begin<
         × IsStopped ⟦<M as Meant>⟧.meaning es (⟦<In as Invoked>⟧.invoked input.old enabled)
         (In.did input.old input.new) (⟦<S as Breaking>⟧.spoiled_after sink.old sink.new)))) }
 {
-    let Ok(key) = input.key() else {
-        sink.spoil();
-        return Err(Fault::Memory);
-    };
-    if enabled {
-        match cache.look(&key, input) {
-            Ok(Some(found)) => {
-                let output = give_found(alloc, cache, &key, found, input, sink)?;
-                return Ok(Begun::Hit(output));
-            }
-            Ok(None) => {}
-            Err(_) => {
-                sink.spoil();
-                return Err(Fault::Memory);
-            }
-        }
+    // A hit returns at once: as the value of the match it would be moved with the room of a `Pending`.
+    match look_up(alloc, cache, input, sink, enabled) {
+        Ok(Looked::Hit(output)) => return Ok(Begun::Hit(output)),
+        Ok(Looked::Run(key)) => Ok(Begun::Run(Pending {
+            alloc,
+            key,
+            enabled,
+            recording: Constraint::new(alloc),
+        })),
+        Err(fault) => Err(fault),
     }
-    Ok(Begun::Run(Pending {
-        alloc,
-        key,
-        enabled,
-        recording: Constraint::new(alloc),
-    }))
 }

@@ -103,7 +103,7 @@ fn hit_same_view<R: Clock>(
     let watch = Stopwatch::start(rt);
     let mut all: u64 = 0;
     for _ in 0..operations {
-        all = all.wrapping_add(sum(alloc, &mut cache, key, &view)?.output);
+        all = all.wrapping_add(sum(alloc, &mut cache, key, &view)?);
     }
     Ok(Seen {
         nanoseconds: watch.nanoseconds(rt),
@@ -125,7 +125,7 @@ fn hit_new_view<R: Clock>(
     let watch = Stopwatch::start(rt);
     let mut all: u64 = 0;
     for _ in 0..operations {
-        all = all.wrapping_add(sum(alloc, &mut cache, key, &cells.track(alloc))?.output);
+        all = all.wrapping_add(sum(alloc, &mut cache, key, &cells.track(alloc))?);
     }
     Ok(Seen {
         nanoseconds: watch.nanoseconds(rt),
@@ -147,7 +147,7 @@ fn miss_new_keys<R: Clock>(
     let mut all: u64 = 0;
     for start in 0..operations {
         let key = SumKey { start, count };
-        all = all.wrapping_add(sum(alloc, &mut cache, key, &view)?.output);
+        all = all.wrapping_add(sum(alloc, &mut cache, key, &view)?);
     }
     Ok(Seen {
         nanoseconds: watch.nanoseconds(rt),
@@ -167,7 +167,7 @@ fn miss_last_differs<R: Clock>(rt: &R, alloc: Global, operations: u64) -> Result
     let mut all: u64 = 0;
     for number in 0..operations {
         cells.set(9, number);
-        all = all.wrapping_add(sum(alloc, &mut cache, key, &cells.track(alloc))?.output);
+        all = all.wrapping_add(sum(alloc, &mut cache, key, &cells.track(alloc))?);
     }
     Ok(Seen {
         nanoseconds: watch.nanoseconds(rt),
@@ -194,7 +194,7 @@ fn hit_among<R: Clock>(
     for hit in 0..operations {
         // The kept numbers in a scattered order.
         cells.set(0, hit.wrapping_mul(7919).wrapping_add(13) % entries.max(1));
-        all = all.wrapping_add(sum(alloc, &mut cache, key, &cells.track(alloc))?.output);
+        all = all.wrapping_add(sum(alloc, &mut cache, key, &cells.track(alloc))?);
     }
     Ok(Seen {
         nanoseconds: watch.nanoseconds(rt),
@@ -221,7 +221,7 @@ fn hit_among_keys<R: Clock>(
         // The keys in a scattered order.
         let start = hit.wrapping_mul(7919).wrapping_add(13) % keys.max(1);
         let key = SumKey { start, count: 1 };
-        all = all.wrapping_add(sum(alloc, &mut cache, key, &view)?.output);
+        all = all.wrapping_add(sum(alloc, &mut cache, key, &view)?);
     }
     Ok(Seen {
         nanoseconds: watch.nanoseconds(rt),

@@ -56,7 +56,7 @@ fn add_up<R: Wait>(
             start: share.start(thread, step),
             count: share.count,
         };
-        all = all.wrapping_add(sum(alloc, held, key, &view)?.output);
+        all = all.wrapping_add(sum(alloc, held, key, &view)?);
     }
     Ok(all)
 }
