@@ -5,7 +5,7 @@ ghost use Rattle.comemo.specs.Lookup.{under};
 ghost use Rattle.comemo.specs.Insertion.{IsReason};
 ghost use Rattle.comemo.specs.Meaning.{exactly, run};
 ghost use Rattle.comemo.specs.Cache.{Entries, Stands};
-ghost use Rattle.comemo.specs.Finish.{Stores};
+ghost use Rattle.comemo.specs.Storing.{Stores};
 ghost use Rattle.comemo.specs.Held.{Held, Leads, Stays};
 
 use comemo::{CacheData, Call, Found, Hold, Input, InsertError, Meant, Memo, Reads, Shared};

@@ -16,7 +16,8 @@ use Rattle.comemo.specs.Tree.{Stored, stored}
 use Rattle.comemo.proofs.Paths.{joined}
 use Rattle.comemo.proofs.Under.{All-from_under}
 use Rattle.comemo.specs.Cache.{Kept}
-use Rattle.comemo.specs.Finish.{Ends, Stores}
+use Rattle.comemo.specs.Finish.{Ends}
+use Rattle.comemo.specs.Storing.{Stores}
 use Rattle.comemo.specs.Meaning.{Run, run}
 use Rattle.comemo.specs.Multi.{second_call, second_answer}
 use Rattle.comemo.specs.declared.pending.How.TheVariants as how

@@ -14,13 +14,14 @@ use Rattle.comemo_base.proofs.Paths.{joined, turned}
 use Rattle.comemo_base.proofs.Under.{Any-from_under, All-from_under}
 use Rattle.comemo_track.specs.Recording.{Recording, Took}
 use Rattle.comemo_track.proofs.Telling.{told_pairs}
-use Rattle.comemo.specs.Meaning.{Meaning, Invocation, Run, run, invocation}
-use Rattle.comemo.specs.Cache.{Kept, Entries, IsEntryOf, HasNone}
+use Rattle.comemo_cache.specs.Meaning.{Meaning, Invocation, Run, run, invocation}
+use Rattle.comemo_cache.specs.Cache.{Kept, Entries, IsEntryOf, HasNone}
 use Rattle.comemo.specs.Called.{IsReply}
-use Rattle.comemo.specs.Finish.{Ends, Stores}
+use Rattle.comemo.specs.Finish.{Ends}
+use Rattle.comemo_cache.specs.Storing.{Stores}
 use Rattle.comemo.specs.declared.pending.Reply.{Reply}
 use Rattle.comemo.specs.declared.pending.How.TheVariants as how
-use Rattle.comemo.proofs.Entries.{All-cons, HasNone-alike}
+use Rattle.comemo_cache.proofs.Entries.{All-cons, HasNone-alike}
 
 module _ {C R : Type 0} {eq : C → C → Bool} {same : R → R → Bool} (answers : IsEquivalence same) (m : C → R) (respects : Respects eq same m) where
   -- answers that agree with pairs agree with each pair that is among them

@@ -6,8 +6,8 @@ use Rattle.comemo_base.specs.Answers.{Respects, Agrees}
 use Rattle.comemo_track.specs.Recording.{Recording}
 use Rattle.comemo.specs.Begin.{PendingRun, came_to, HasToRun, IsHit, IsRun, IsBrokenOff, IsStopped}
 use Rattle.comemo.specs.Begun.{OnFault}
-use Rattle.comemo.specs.Meaning.{Meaning, Invocation, invocation, run}
-use Rattle.comemo.specs.Cache.{Entries, Stands, Touches}
+use Rattle.comemo_cache.specs.Meaning.{Meaning, Invocation, invocation, run}
+use Rattle.comemo_cache.specs.Cache.{Entries, Stands, Touches}
 use Rattle.comemo.specs.Called.{IsReply, RanAs}
 use Rattle.comemo.specs.Finish.{Ends, Finished, BreaksOffRun, BrokeOff}
 use Rattle.comemo.specs.declared.pending.How.TheVariants as how

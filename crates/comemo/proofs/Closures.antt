@@ -2,10 +2,11 @@
 use Rattle.std.proofs.Common.{◌≡◌, ◌↔◌, inl, inr, Bool, true, false, List, [], Result, Ok, Err, IfOk, IfErr, OnErr, refl, sym, ap, subst}
 use Rattle.std.specs.Borrow.{MutBor}
 use Rattle.comemo_track.specs.Recording.{Recording}
-use Rattle.comemo.specs.Meaning.{Meaning, Invocation, run}
-use Rattle.comemo.specs.Cache.{Entries, Stands}
+use Rattle.comemo_cache.specs.Meaning.{Meaning, Invocation, run}
+use Rattle.comemo_cache.specs.Cache.{Entries, Stands}
 use Rattle.comemo.specs.Begin.{PendingRun, came_to, IsRun, IsBrokenOff}
 use Rattle.comemo.specs.Finish.{Ends, Finished, BreaksOffRun}
+use Rattle.comemo_cache.proofs.Sendings.{mapped}
 use Rattle.comemo.proofs.Calls.{recorded, stands_at_call, never_refused}
 use Rattle.comemo.specs.Closure.{Ran, Ended, IsFault, IsBroken}
 use Rattle.comemo.specs.declared.pending.Fault.{Fault}
@@ -19,12 +20,7 @@ whole_of_ok (Ok x) true h = refl
 whole_of_ok (Ok x) false h = let e = h.1 refl in cc
 whole_of_ok (Err e) w h = tt
 
--- what holds of one result holds of it where it says more
-pub mapped : {A E : Type 0} {P Q : A → Type 0} → ((a : A) → P a → Q a) → (r : Result A E) → IfOk r P → IfOk r Q
-mapped f (Ok a) p = f a p
-mapped f (Err e) p = tt
-
--- the same, with a fact that does not depend on the result
+-- as `mapped`, with a fact that does not depend on the result
 pub mapped_by : {A E X : Type 0} {P Q : A → Type 0} → (X → (a : A) → P a → Q a) → (r : Result A E) → IfOk r P → X → IfOk r Q
 mapped_by f r p x = mapped (f x) r p
 

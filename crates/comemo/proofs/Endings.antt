@@ -3,10 +3,10 @@ use Rattle.std.proofs.Common.{Bool, List, [], ◌∷◌, sym, subst}
 use Rattle.std.specs.Cmp.{IsEquivalence}
 use Rattle.comemo_base.specs.Tree.{IsSamePath}
 use Rattle.comemo_base.proofs.Paths.{Agrees-same, IsSamePath-turned}
-use Rattle.comemo.specs.Meaning.{Meaning, run, exactly, SameWrites}
-use Rattle.comemo.specs.Cache.{Entries}
+use Rattle.comemo_cache.specs.Meaning.{Meaning, run, exactly, SameWrites}
+use Rattle.comemo_cache.specs.Cache.{Entries}
 use Rattle.comemo.specs.Finish.{Ends, Gives, BreaksOffRun}
-use Rattle.comemo.proofs.Writings.{SameWrites-joined}
+use Rattle.comemo_cache.proofs.Writings.{SameWrites-joined}
 use Rattle.comemo.specs.declared.pending.How.{How}
 use Rattle.comemo.specs.declared.pending.How.TheVariants as how
 

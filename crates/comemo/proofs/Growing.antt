@@ -4,8 +4,8 @@ use Rattle.std.proofs.lemmas.List.{map-append}
 use Rattle.std.specs.List.Sorted.{IsPermutation}
 use Rattle.std.proofs.lemmas.List.Sorted.{IsPermutation-refl, IsPermutation-sym, IsPermutation-trans, IsPermutation-map, IsPermutation-append_right}
 use Rattle.comemo_base.specs.Tree.{stored}
-use Rattle.comemo.specs.Meaning.{Meaning, Invocation, Run}
-use Rattle.comemo.specs.Cache.{Entries, Touches, young}
+use Rattle.comemo_cache.specs.Meaning.{Meaning, Invocation, Run}
+use Rattle.comemo_cache.specs.Cache.{Entries, Touches, young}
 use Rattle.comemo.specs.Called.{Grows}
 use Rattle.comemo.specs.Finish.{Ends}
 use Rattle.comemo.specs.declared.pending.How.{How}

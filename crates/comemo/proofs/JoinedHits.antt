@@ -8,8 +8,8 @@ use Rattle.comemo_track.specs.declared.multi.MultiAnswer.{MultiAnswer}
 use Rattle.comemo_track.specs.declared.multi.MultiAnswer.TheVariants as answer
 use Rattle.comemo_track.proofs.Joined.{TellsCalls, joined_respect}
 use Rattle.comemo.specs.Begin.{IsHit}
-use Rattle.comemo.specs.Meaning.{Meaning, invocation}
-use Rattle.comemo.specs.Cache.{Entries}
+use Rattle.comemo_cache.specs.Meaning.{Meaning, invocation}
+use Rattle.comemo_cache.specs.Cache.{Entries}
 
 -- a hit at joined answers is right at them
 pub joined_hit : {K X Y P Q O : Type 0} {M : Meaning K (MultiCall X Y) (MultiAnswer P Q) O} {es : Entries K (MultiCall X Y) (MultiAnswer P Q) O} {key : K} {m : X → P} {n : Y → Q} {enabled : Bool} {done : List (MultiCall X Y) → Type 0} {sent : List (MultiCall X Y × MultiAnswer P Q) → List (MultiCall X Y) → Type 0} {output : O}

@@ -5,11 +5,10 @@ use Rattle.comemo_base.specs.Answers.{Respects, Agrees}
 use Rattle.comemo_base.proofs.Paths.{turned, joined}
 use Rattle.comemo_track.specs.Recording.{Recording, Took, Spoiled}
 use Rattle.comemo_track.specs.Sending.{Asks, BreaksOff}
-use Rattle.comemo.specs.Meaning.{Meaning, Invocation}
-use Rattle.comemo.specs.Cache.{Entries}
-use Rattle.comemo.specs.Called.{IsReply}
-use Rattle.comemo.specs.Held.{HeldReply}
-use Rattle.comemo.proofs.Holding.{some_by}
+use Rattle.comemo_cache.specs.Meaning.{Meaning, Invocation}
+use Rattle.comemo_cache.specs.Cache.{Entries}
+use Rattle.comemo.specs.Called.{IsReply, HeldReply}
+use Rattle.comemo_cache.proofs.Holding.{some_by}
 use Rattle.comemo.specs.Finish.{BrokeOff}
 use Rattle.comemo.specs.Function.{Recorded, IsRecorded, Fits, Tells}
 use Rattle.comemo.specs.declared.pending.Fault.{Fault}

@@ -10,8 +10,8 @@ use Rattle.comemo_track.specs.Sending.{Asks, BreaksOff, SpoiledAfter}
 use Rattle.comemo_track.specs.Writing.{SameReads, Done}
 use Rattle.comemo_track.specs.WritingLaws.{done_keeps}
 use Rattle.comemo.specs.Function.{Fits}
-use Rattle.comemo.specs.Meaning.{Meaning, Invocation, invocation}
-use Rattle.comemo.specs.Cache.{Entries}
+use Rattle.comemo_cache.specs.Meaning.{Meaning, Invocation, invocation}
+use Rattle.comemo_cache.specs.Cache.{Entries}
 use Rattle.comemo.specs.Called.{IsReply}
 use Rattle.comemo.specs.declared.pending.Reply.{Reply}
 use Rattle.comemo.specs.Begin.{Reaches}

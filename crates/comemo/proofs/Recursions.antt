@@ -3,8 +3,8 @@ use Rattle.std.proofs.Common.{◌≡◌, ◌∙◌, Bool, true, false, ◌↔◌
 use Rattle.std.specs.Cmp.{IsEquivalence}
 use Rattle.comemo_base.specs.Answers.{Respects, Agrees}
 use Rattle.comemo_track.specs.Recording.{Recording, Took}
-use Rattle.comemo.specs.Meaning.{Meaning, run}
-use Rattle.comemo.specs.Cache.{Entries}
+use Rattle.comemo_cache.specs.Meaning.{Meaning, run}
+use Rattle.comemo_cache.specs.Cache.{Entries}
 use Rattle.comemo.specs.Begin.{PendingRun}
 use Rattle.comemo.specs.Finish.{Ends, Gives, Finished}
 use Rattle.comemo.specs.Function.{Recorded, IsRecorded, Fits, Tells}

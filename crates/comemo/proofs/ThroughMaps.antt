@@ -6,8 +6,8 @@ use Rattle.comemo_base.specs.Answers.{Respects, Agrees}
 use Rattle.comemo_track.specs.Mapped.{mapped_pairs, Through}
 use Rattle.comemo_track.specs.Recording.{Recording, Took}
 use Rattle.comemo_track.specs.Sending.{BreaksOff}
-use Rattle.comemo.specs.Meaning.{invocation}
-use Rattle.comemo.specs.Cache.{Entries}
+use Rattle.comemo_cache.specs.Meaning.{invocation}
+use Rattle.comemo_cache.specs.Cache.{Entries}
 use Rattle.comemo.specs.Called.{IsReply}
 use Rattle.comemo.specs.Finish.{BrokeOff}
 use Rattle.comemo.specs.Function.{Recorded, IsRecorded, Fits, Tells, OnPart}

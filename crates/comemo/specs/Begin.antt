@@ -3,8 +3,8 @@ use Rattle.std.specs.Prelude.{◌≡◌, ◌⊎◌, Bool, true, List, [], ◌∷
 use Rattle.std.specs.Coded.{Coded, code_by, coded×, coded_bool}
 use Rattle.comemo_base.specs.Answers.{Respects, Agrees}
 use Rattle.comemo_track.specs.Recording.{Recording, recording_code}
-use Rattle.comemo.specs.Meaning.{Meaning, Invocation, Run, run}
-use Rattle.comemo.specs.Cache.{Entries, Stands, HasNone, Has}
+use Rattle.comemo_cache.specs.Meaning.{Meaning, Invocation, Run, run}
+use Rattle.comemo_cache.specs.Cache.{Entries, Stands, HasNone, Has}
 
 -- some writes lead from a value to another, by this word for what writes do
 abbrev pub Reaches : {V C : Type 0} → (V → V → List C → Type 0) → V → V → Type 0

@@ -1,9 +1,10 @@
 -- What a memoized function replies to a call.
-use Rattle.std.specs.Prelude.{◌≡◌, ◌↔◌, ◌⊎◌, ◌++◌, [], true, false, List, map, IsTrue}
+use Rattle.std.specs.Prelude.{◌≡◌, ◌↔◌, ◌⊎◌, ◌++◌, [], true, false, List, Option, map, IsTrue}
 use Rattle.std.specs.List.Sorted.{IsPermutation}
 use Rattle.comemo_base.specs.Answers.{Agrees}
-use Rattle.comemo.specs.Meaning.{Meaning, Invocation, Run, run}
-use Rattle.comemo.specs.Cache.{Entries, Stands, HasNone, Has, Touches, young}
+use Rattle.comemo_cache.specs.Meaning.{Meaning, Invocation, Run, run}
+use Rattle.comemo_cache.specs.Cache.{Entries, Stands, HasNone, Has, Touches, young}
+use Rattle.comemo_cache.specs.Held.{LeadsBy}
 use Rattle.comemo_track.specs.Recording.{Recording}
 use Rattle.comemo.specs.Finish.{Ends, Finished, Gives}
 use Rattle.comemo.specs.declared.pending.Reply.{Reply}
@@ -48,3 +49,7 @@ module _ {K C R O : Type 0} (M : Meaning K C R O) (call : Invocation K C R) wher
 -- but for ages, no entry was lost, and some may have come
 abbrev pub Grows : {K C R O : Type 0} → Entries K C R O → Entries K C R O → Type 0
 Grows {K} {C} {R} {O} es es' = (more : Entries K C R O) × IsPermutation (map young (more ++ es)) (map young es')
+
+-- the reply to a call that began at one telling of the entries and ended at another
+abbrev pub HeldReply : {K C R O : Type 0} → Meaning K C R O → Invocation K C R → Option (Entries K C R O) → Option (Entries K C R O) → (List (C × R) → List C → Type 0) → Reply O → Option (Entries K C R O) → Type 0
+HeldReply M call began ended sent reply after = LeadsBy began ended after (λ es mid es'. IsReply M call es mid sent reply es')

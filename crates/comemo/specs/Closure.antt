@@ -2,8 +2,8 @@
 use Rattle.std.specs.Prelude.{◌≡◌, ◌↔◌, ◌⊎◌, ⊤, true, false, List, [], IsTrue, Result, Ok, Err}
 use Rattle.std.specs.Borrow.{MutBor}
 use Rattle.comemo_track.specs.Recording.{Recording}
-use Rattle.comemo.specs.Meaning.{Meaning, Invocation, run}
-use Rattle.comemo.specs.Cache.{Entries, Stands, HasNone, Touches}
+use Rattle.comemo_cache.specs.Meaning.{Meaning, Invocation, run}
+use Rattle.comemo_cache.specs.Cache.{Entries, Stands, HasNone, Touches}
 use Rattle.comemo.specs.Begin.{IsBrokenOff, IsStopped}
 use Rattle.comemo.specs.Finish.{Ends, Gives, BreaksOffRun}
 use Rattle.comemo.specs.declared.pending.Fault.{Fault}

@@ -3,9 +3,10 @@ use Rattle.std.specs.Prelude.{◌≡◌, ◌↔◌, Bool, true, false, List}
 use Rattle.comemo_base.specs.Answers.{Respects, Agrees}
 use Rattle.comemo_base.specs.Tree.{IsSamePath}
 use Rattle.comemo_base.specs.Lookup.{under}
-use Rattle.comemo_base.specs.Insertion.{Exists, Misses, Adds}
-use Rattle.comemo.specs.Meaning.{Meaning, Run, SameWrites}
-use Rattle.comemo.specs.Cache.{Kept, Entries}
+use Rattle.comemo_base.specs.Insertion.{Exists, Misses}
+use Rattle.comemo_cache.specs.Meaning.{Meaning, Run}
+use Rattle.comemo_cache.specs.Cache.{Entries}
+use Rattle.comemo_cache.specs.Storing.{Stores}
 use Rattle.comemo.specs.Begin.{PendingRun, came_to}
 use Rattle.comemo.specs.declared.pending.How.{How}
 use Rattle.comemo.specs.declared.pending.How.TheVariants as how
@@ -13,23 +14,10 @@ use Rattle.comemo.specs.declared.pending.Reply.{Reply}
 
 module _ {K C R O : Type 0} (M : Meaning K C R O) (es : Entries K C R O) where
   module _ (ran : Run K C R O) where
-    -- one more entry, of age 0: a clone of the output, and the writes up to equality, at the path that the pairs take, under an
-    -- equal key
-    pub record AddsRun (es' : Entries K C R O) : Type 0 where
-      pub kept : Kept O C
-      pub is_clone : M.is_clone ran.output kept.output
-      pub same_writes : SameWrites M.same_call ran.writes kept.writes
-      pub is_new : kept.age ≡ 0
-      pub adds : Adds M.same_call M.same_answer M.same_key es ran.key ran.pairs kept es'
-
-    -- so a run is stored: no entry has all its pairs among those of the run, none lacks a call of it, and there is one more
-    abbrev pub Stores : Entries K C R O → Type 0
-    Stores es' = (¬ Exists M.same_call M.same_answer (under M.same_key es ran.key) ran.pairs) × (¬ Misses M.same_call M.same_answer (under M.same_key es ran.key) ran.pairs) × AddsRun es'
-
     -- the entries after a run that came to this, by what became of it; only a stored run adds one
     abbrev pub Ends : How → Entries K C R O → Type 0
     Ends how.Hit es' = ⊥
-    Ends how.Stored es' = Stores es'
+    Ends how.Stored es' = Stores M es ran es'
     Ends how.AlreadyExists es' = Exists M.same_call M.same_answer (under M.same_key es ran.key) ran.pairs × (es' ≡ es)
     Ends how.MissingCall es' = Misses M.same_call M.same_answer (under M.same_key es ran.key) ran.pairs × (es' ≡ es)
     Ends how.NotStored es' = es' ≡ es

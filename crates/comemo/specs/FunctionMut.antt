@@ -1,10 +1,10 @@
 -- What a memoized function that writes means, and what its run does and is told.
-use Rattle.std.specs.Prelude.{◌≡◌, ◌⊎◌, Bool, true, false, IsTrue, List, Result, IfOk, OnOk, IfErr}
+use Rattle.std.specs.Prelude.{◌≡◌, ◌⊎◌, ◌++◌, Bool, true, false, IsTrue, List, Result, IfOk, OnOk, IfErr}
 use Rattle.std.specs.Borrow.{MutBor}
 use Rattle.comemo_base.specs.Answers.{Respects, Agrees}
 use Rattle.comemo_track.specs.Recording.{Recording}
-use Rattle.comemo.specs.Meaning.{Meaning, Invocation, SameWrites}
-use Rattle.comemo.specs.Cache.{Entries, Touches}
+use Rattle.comemo_cache.specs.Meaning.{Meaning, Invocation, SameWrites}
+use Rattle.comemo_cache.specs.Cache.{Entries, Touches}
 use Rattle.comemo.specs.Begin.{Reaches, IsStopped}
 use Rattle.comemo.specs.Finish.{BrokeOff}
 use Rattle.comemo.specs.declared.pending.Fault.{Fault}
@@ -30,6 +30,10 @@ lent value recording = record { value = value; recording = recording }
 abbrev pub AgreesNow : {V C R : Type 0} → (R → R → Bool) → (V → C → R) → Lent V C R → Type 0
 AgreesNow same answers s = s.recording.now.whole ≡ true → Agrees same (answers s.value.now) s.recording.now.pairs
 
+-- the writes that were recorded from s to t are such
+abbrev pub Since : {V C R : Type 0} → Lent V C R → Lent V C R → (List C → Type 0) → Type 0
+Since {C = C} s t P = (writes : List C) × (t.recording.now.writes ≡ s.recording.now.writes ++ writes) × P writes
+
 module _ {V C R : Type 0} (did : V → V → List C → Type 0) where
   -- what became of what a recorder was lent, from s to t: both are in their places, and writes alone changed the value. While nothing
   -- is lost of the recording, the writes that were recorded, which led to the value as it was, are followed by those that were
@@ -49,6 +53,10 @@ module _ {V C R : Type 0} (did : V → V → List C → Type 0) where
     pub before : OnOk r ((m : C → R) → fits t.recording.now m → fits s.recording.now m)
     pub told : IfOk r (λ answer. (m : C → R) → fits t.recording.now m → P answer m)
     pub fault : IfErr r (λ f. f ≡ fault.Incomplete → t.recording.now.whole ≡ false)
+
+-- the same, where P holds of the answer, of whatever fits, and of the writes that were recorded since
+abbrev pub TellsWrites : {V C R : Type 0} → (V → V → List C → Type 0) → {X : Type 0} → (Recording C R → (C → R) → Type 0) → Lent V C R → Lent V C R → Result X Fault → (X → (C → R) → List C → Type 0) → Type 0
+TellsWrites did fits s t r P = TellsMut did fits s t r (λ x m. Since s t (P x m))
 
 -- what stands after a fault of a call of a function that writes: the entries are as they were and the sink was broken off, or a hit
 -- was stopped at a write that was refused

@@ -1,7 +1,7 @@
 -- Laws of what functions mean, which traits ask. They say nothing that a reader must believe.
 use Rattle.std.proofs.Common.{◌≡◌, ◌∙◌, Bool, List, [], ◌∷◌, IsTrue, refl, sym, ap, subst}
-use Rattle.comemo.specs.Meaning.{SameWrites}
-use Rattle.comemo.specs.Cache.{MemoLaws}
+use Rattle.comemo_cache.specs.Meaning.{SameWrites}
+use Rattle.comemo_cache.specs.Cache.{MemoLaws}
 use Rattle.comemo.specs.FunctionMut.{LawsMut}
 
 -- where there are no writes, no equal ones are there

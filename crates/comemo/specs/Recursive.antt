@@ -1,8 +1,8 @@
 -- What a function that calls itself tells the run around it, and how its calls start and finish.
 use Rattle.std.specs.Prelude.{◌≡◌, true, List, IsTrue, [], Result, IfOk, OnOk, IfErr}
 use Rattle.comemo_track.specs.Recording.{Recording}
-use Rattle.comemo.specs.Meaning.{Meaning, Invocation, Run}
-use Rattle.comemo.specs.Cache.{Entries, HasNone}
+use Rattle.comemo_cache.specs.Meaning.{Meaning, Invocation, Run}
+use Rattle.comemo_cache.specs.Cache.{Entries, HasNone}
 use Rattle.comemo.specs.Finish.{Ends, Gives}
 use Rattle.comemo.specs.Function.{Recorded}
 use Rattle.comemo.specs.declared.pending.Fault.{Fault}

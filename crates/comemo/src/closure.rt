@@ -3,14 +3,14 @@ ghost use Rattle.std.specs.Prelude.{◌≡◌, [], true, IfOk, IfErr, OnErr, Ok}
 ghost use Rattle.std.specs.Borrow.{MutBor};
 ghost use Rattle.comemo.specs.Begin.{IsHit};
 ghost use Rattle.comemo_track.specs.Recording.{Recording};
-ghost use Rattle.comemo.specs.Meaning.{run};
-ghost use Rattle.comemo.specs.Cache.{Stands, Touches};
-ghost use Rattle.comemo.specs.Held.{Held, Leads, LeadsBy};
+ghost use Rattle.comemo_cache.specs.Meaning.{run};
+ghost use Rattle.comemo_cache.specs.Cache.{Stands, Touches};
+ghost use Rattle.comemo_cache.specs.Held.{Held, Leads, LeadsBy};
 ghost use Rattle.comemo.specs.Closure.{Starts, Ran, Ended, IsFault, IsBroken};
 
-use crate::cache::{Meant, Memo};
-use crate::hold::Hold;
 use crate::pending::{Begun, Fault, How, Invoked, Reply, begin};
+use comemo_cache::cache::{Meant, Memo};
+use comemo_cache::hold::Hold;
 use comemo_track::constraint::Constraint;
 use comemo_track::input::Input;
 use comemo_track::track::{Breaking, Call, Sink};

@@ -1,17 +1,17 @@
 //! The library's front door: a memoized function of a key and a tracked value, as one trait and one call.
 ghost use Rattle.std.specs.Prelude.{◌≡◌, [], List, true, false, IsTrue, IfOk, IfErr, OnOk, OnErr, ⊤};
-ghost use Rattle.comemo.specs.Meaning.{invocation, reading};
+ghost use Rattle.comemo_cache.specs.Meaning.{invocation, reading};
 ghost use Rattle.comemo.specs.MeaningLaws.{none_alike};
-ghost use Rattle.comemo.specs.Called.{RanAs};
-ghost use Rattle.comemo.specs.Held.{HeldReply, Leads, Stays};
+ghost use Rattle.comemo.specs.Called.{RanAs, HeldReply};
+ghost use Rattle.comemo_cache.specs.Held.{Leads, Stays};
 ghost use Rattle.comemo.specs.Finish.{BrokeOff};
 ghost use Rattle.comemo_track.specs.Recording.{Recording, Took, Spoiled};
 ghost use Rattle.comemo_track.specs.Sending.{Asks, BreaksOff};
 ghost use Rattle.comemo.specs.Function.{Recorded, Fits, Tells, Laws};
 
-use crate::cache::{Meant, Memo};
-use crate::hold::Hold;
 use crate::pending::{Fault, How, Looked, Pending, Reply, look_up};
+use comemo_cache::cache::{Meant, Memo};
+use comemo_cache::hold::Hold;
 use comemo_track::constraint::Constraint;
 use comemo_track::input::Keyed;
 use comemo_track::track::{Breaking, Call, Sink, Top, Track, Tracked};

@@ -1,18 +1,19 @@
 //! The front door of functions that write: a memoized function of a key and a tracked value that its run writes to.
 ghost use Rattle.std.specs.Prelude.{◌≡◌, [], ◌∷◌, ◌++◌, List, true, false, IsTrue, IfOk, IfErr, OnOk, OnErr, ⊤};
-ghost use Rattle.comemo.specs.Meaning.{invocation};
-ghost use Rattle.comemo.specs.Held.{Leads, HeldReply, Stays};
+ghost use Rattle.comemo.specs.Called.{HeldReply};
+ghost use Rattle.comemo_cache.specs.Meaning.{invocation};
+ghost use Rattle.comemo_cache.specs.Held.{Leads, Stays};
 ghost use Rattle.comemo.specs.Begin.{Reaches};
 ghost use Rattle.comemo.specs.Finish.{BrokeOff};
-ghost use Rattle.comemo.specs.FunctionMut.{Lent, lent, AgreesNow, Goes, TellsMut, LawsMut, IsFailed};
+ghost use Rattle.comemo.specs.FunctionMut.{Lent, lent, AgreesNow, Goes, TellsMut, TellsWrites, LawsMut, IsFailed};
 ghost use Rattle.comemo_base.specs.Answers.{Agrees};
 ghost use Rattle.comemo_track.specs.Recording.{Recording, Took, Spoiled};
 ghost use Rattle.comemo_track.specs.Sending.{Asks, BreaksOff, SpoiledAfter};
 
-use crate::cache::{Meant, Memo};
 use crate::function::{FunctionOf, Told, memoized};
-use crate::hold::Hold;
 use crate::pending::{Begun, Fault, How, Reply, begin};
+use comemo_cache::cache::{Meant, Memo};
+use comemo_cache::hold::Hold;
 use comemo_track::constraint::Constraint;
 use comemo_track::input::KeyedMut;
 use comemo_track::track::{Breaking, Call, Sink, Track, Written};
@@ -195,11 +196,9 @@ impl<'a, 'b, T: Track> RecorderMut<'a, 'b, T> {
     ) -> Result<G::Out, Fault>
         requires agrees { ⟦<T as ToldMut>⟧.agrees (lent self.old.value self.old.recording) }
         ensures agrees { ⟦<T as ToldMut>⟧.agrees (lent self.new.value self.new.recording) }
-        ensures tells { TellsMut ⟦<T as Written>⟧.did ⟦<T as Told>⟧.fits
+        ensures tells { TellsWrites ⟦<T as Written>⟧.did ⟦<T as Told>⟧.fits
             (lent self.old.value self.old.recording) (lent self.new.value self.new.recording) result
-            (λ output m. (writes : List T.Call)
-            × (self.new.recording.now.writes ≡ self.old.recording.now.writes ++ writes)
-            × G.def key m output writes) }
+            (λ output m writes. G.def key m output writes) }
         ensures reply { IfOk result (λ output. (reply : Reply G.Out) × (reply.output ≡ output)
             × HeldReply ⟦<G as Meant>⟧.meaning (invocation key (T.answers self.old.value.now) true)
             (H.entries cache.old) (H.entries cache.old)

@@ -32,34 +32,28 @@
 //! `src/examples.rt`, where `Warmth` stands too; how such a function is written says `docs/GUIDE.md`.
 #![tactic(auto)]
 
-pub mod cache;
 pub mod closure;
-pub mod eviction;
-pub mod evictors;
 pub mod function;
 pub mod function_mut;
-pub mod hold;
 pub mod parts;
 pub mod pending;
 pub mod recursive;
-pub mod shared;
-pub mod steps;
+pub mod recursive_mut;
 
-pub use cache::{CacheData, Found, Meant, Memo};
 pub use closure::{Record, memoize};
 pub use comemo_base::{CallSequence, InsertError, Prehashed, SipHasher13, Tagged, hash, hash_any};
+pub use comemo_cache::{
+    Cache, CacheData, Caches, Evict, Evictor, Found, Hold, Meant, Memo, Reads, Shared, Step,
+    StepReply, evictors, register_evictor,
+};
 pub use comemo_track::{
     Accelerated, Both, BothMut, Breaking, Call, CallMap, Constraint, First, Hashed, Input, Keyed,
     KeyedMut, MappedSink, Multi, MultiAnswer, MultiCall, Second, Sink, Top, Track, Tracked,
     TrackedMut, TrackedMutWith, TrackedWith, Written,
 };
 pub use comemo_tree::CallTree;
-pub use eviction::{Caches, Evict, Evictor};
-pub use evictors::register_evictor;
 pub use function::{Function, FunctionOf, MemoOf, Recorder, Told, called, memoized};
 pub use function_mut::{FunctionMut, FunctionMutOf, MemoOfMut, RecorderMut, ToldMut, memoized_mut};
-pub use hold::{Hold, Reads};
 pub use pending::{Begun, Fault, How, Invoked, Pending, Reply, begin};
 pub use recursive::{Inner, MemoOfRecursive, ReadsAlone, Recursive, Start};
-pub use shared::{Cache, Shared};
-pub use steps::{Step, StepReply};
+pub use recursive_mut::{InnerMut, MemoOfRecursiveMut, RecursiveMut};

@@ -1,15 +1,16 @@
 //! What a run asks of two tracked values that are one.
 ghost use Rattle.std.specs.Prelude.{◌≡◌, [], true, false, IsTrue, IfOk, IfErr, OnOk, OnErr};
-ghost use Rattle.comemo.specs.Meaning.{invocation};
-ghost use Rattle.comemo.specs.Held.{HeldReply, Stays};
+ghost use Rattle.comemo.specs.Called.{HeldReply};
+ghost use Rattle.comemo_cache.specs.Meaning.{invocation};
+ghost use Rattle.comemo_cache.specs.Held.{Stays};
 ghost use Rattle.comemo_track.specs.Sending.{Asks};
 ghost use Rattle.comemo_track.specs.Mapped.{Through};
 ghost use Rattle.comemo.specs.Function.{Tells, OnPart};
 
-use crate::cache::Meant;
 use crate::function::{FunctionOf, Recorder, Told, memoized};
-use crate::hold::Hold;
 use crate::pending::{Fault, Reply};
+use comemo_cache::cache::Meant;
+use comemo_cache::hold::Hold;
 use comemo_track::both::Both;
 use comemo_track::mapped::{CallMap, MappedSink};
 use comemo_track::multi::{First, MultiAnswer, MultiCall, Second};

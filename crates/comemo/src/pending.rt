@@ -3,18 +3,18 @@
 ghost use Rattle.std.specs.Prelude.{◌≡◌, ◌≤◌, [], ◌∷◌, ◌++◌, ◌↔◌, List, Bool, true, false, length, IsTrue, IfOk, IfErr, OnOk, OnErr, Ok, Err, ⊤};
 ghost use Rattle.std.specs.List.{All};
 ghost use Rattle.comemo_base.specs.Tree.{IsSamePath};
-ghost use Rattle.comemo.specs.Meaning.{Invocation, SameWrites, exactly, invocation, run};
-ghost use Rattle.comemo.specs.Cache.{Stands, Touches};
-ghost use Rattle.comemo.specs.Found.{TouchesFound};
+ghost use Rattle.comemo_cache.specs.Meaning.{Invocation, SameWrites, exactly, invocation, run};
+ghost use Rattle.comemo_cache.specs.Cache.{Stands, Touches};
+ghost use Rattle.comemo_cache.specs.Found.{TouchesFound};
 ghost use Rattle.comemo_tree.specs.Change.{HasAnswers};
 ghost use Rattle.comemo.specs.Begin.{Reaches, HasToRun, IsHit, IsRun, IsBrokenOff, IsStopped, came_to};
 ghost use Rattle.comemo.specs.Begun.{OnBegun, OnFault, OnLooked};
 ghost use Rattle.comemo.specs.Finish.{Ends, Gives, Finished, BreaksOffRun};
-ghost use Rattle.comemo.specs.Held.{Held, Leads, Stays};
+ghost use Rattle.comemo_cache.specs.Held.{Held, Leads, Stays};
 
-use crate::cache::{Found, Meant, Memo};
-use crate::hold::Hold;
 use comemo_base::{CallSequence, InsertError};
+use comemo_cache::cache::{Found, Meant, Memo};
+use comemo_cache::hold::Hold;
 use comemo_track::constraint::Constraint;
 use comemo_track::input::Input;
 use comemo_track::track::{Breaking, Call, Sink};

@@ -1,17 +1,18 @@
 //! Memoized functions that call themselves: a call by hand, for a recorder.
 ghost use Rattle.std.specs.Prelude.{◌≡◌, ◌↔◌, [], true, List, IsTrue, refl, IfOk, IfErr, OnErr, ⊤};
 ghost use Rattle.std.proofs.Common.{◌∙◌, ap};
-ghost use Rattle.comemo.specs.Meaning.{reading, invocation, run};
+ghost use Rattle.comemo.specs.Called.{HeldReply};
+ghost use Rattle.comemo_cache.specs.Meaning.{reading, invocation, run};
 ghost use Rattle.comemo.specs.MeaningLaws.{none_alike};
-ghost use Rattle.comemo.specs.Held.{Held, HeldReply, Leads, Stays};
+ghost use Rattle.comemo_cache.specs.Held.{Held, Leads, Stays};
 ghost use Rattle.comemo.specs.Function.{Laws};
 ghost use Rattle.comemo.specs.Recursive.{TellsOwn, OnStart, Starts, FinishedAs};
 ghost use Rattle.comemo_track.specs.InputLaws.{equal_if_one};
 
-use crate::cache::{Meant, Memo};
 use crate::function::{Recorder, Told};
-use crate::hold::Hold;
 use crate::pending::{Begun, Fault, How, Pending, Reply, begin};
+use comemo_cache::cache::{Meant, Memo};
+use comemo_cache::hold::Hold;
 use comemo_track::input::Input;
 use comemo_track::track::{Call, Track, Tracked};
 use std::alloc::AllocError;

@@ -6,3 +6,4 @@ pub mod Loads
 pub mod LoadLaws
 pub mod Regions
 pub mod RegionLaws
+pub mod Rulers

@@ -35,6 +35,7 @@ pub mod orders;
 pub mod passes;
 pub mod region;
 pub mod report;
+pub mod ruler;
 pub mod several;
 pub mod shared;
 pub mod tally;

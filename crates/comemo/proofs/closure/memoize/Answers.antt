@@ -1,8 +1,9 @@
 use Rattle.std.proofs.Common.{Ok, [], refl, inl, inr}
 use Rattle.comemo.proofs.Calls.{run_seen, on_fault, on_fault_is, stopped_so}
-use Rattle.comemo.proofs.Closures.{mapped, no_hit, ran_from, ended, failed, left_broken}
-use Rattle.comemo.proofs.Sendings.{breaks_at_once}
-use Rattle.comemo.proofs.Holding.{some_held, some_led, stayed, held_any, held_map, held_err, held_leads, held_broken, led_by, led_first, leads_map}
+use Rattle.comemo_cache.proofs.Sendings.{mapped}
+use Rattle.comemo.proofs.Closures.{no_hit, ran_from, ended, failed, left_broken}
+use Rattle.comemo_cache.proofs.Sendings.{breaks_at_once}
+use Rattle.comemo_cache.proofs.Holding.{some_held, some_led, stayed, held_any, held_map, held_err, held_leads, held_broken, led_by, led_first, leads_map}
 use Rattle.comemo.proofs.closure.memoize.Goals as goal
 
 pub end-requires : goal.end-requires

@@ -1,7 +1,7 @@
 use Rattle.std.proofs.Common.{[], subst}
 use Rattle.comemo.proofs.Calls.{reply_by_hit, reply_by_own_run, broke_at_begin, on_fault, never_stops}
-use Rattle.comemo.proofs.Closures.{mapped}
-use Rattle.comemo.proofs.Holding.{some_held, some_led, of_led, stayed, led_by, led_from}
+use Rattle.comemo_cache.proofs.Sendings.{mapped}
+use Rattle.comemo_cache.proofs.Holding.{some_held, some_led, of_led, stayed, led_by, led_from}
 use Rattle.comemo.proofs.function.memoized.Goals as goal
 
 pub returns-in-Ok-Hit-clause-reply : goal.returns-in-Ok-Hit-clause-reply

@@ -1,10 +1,10 @@
 use Rattle.std.proofs.Common.{◌∙◌, [], sym, subst, ap}
 use Rattle.comemo_base.specs.Answers.{Agrees}
 use Rattle.comemo.specs.Function.{Recorded}
-use Rattle.comemo.proofs.Sendings.{breaks_at_once}
+use Rattle.comemo_cache.proofs.Sendings.{breaks_at_once}
 use Rattle.comemo.proofs.Calls.{broke_by_run, finished_itself}
-use Rattle.comemo.proofs.Closures.{mapped}
-use Rattle.comemo.proofs.Holding.{leads_map}
+use Rattle.comemo_cache.proofs.Sendings.{mapped}
+use Rattle.comemo_cache.proofs.Holding.{leads_map}
 use Rattle.comemo.proofs.function.run_kept.Goals as goal
 
 pub end-requires : goal.end-requires

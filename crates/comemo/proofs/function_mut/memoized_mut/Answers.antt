@@ -1,11 +1,12 @@
 use Rattle.std.proofs.Common.{rules, refl, [], inl, inr, sym, subst}
 use Rattle.comemo_base.specs.Answers.{Agrees}
 use Rattle.comemo_track.specs.Writing.{Done}
-use Rattle.comemo.proofs.Sendings.{breaks_at_once}
+use Rattle.comemo_cache.proofs.Sendings.{breaks_at_once}
 use Rattle.comemo.proofs.Calls.{run_seen, reply_by_done_hit, reply_by_done_run, stopped_as, broke_at_begin, broke_by_run, on_fault}
 use Rattle.comemo.proofs.RecordersMut.{done_at}
-use Rattle.comemo.proofs.Closures.{mapped, mapped_by, mapped_err}
-use Rattle.comemo.proofs.Holding.{some_held, some_led, of_led, stayed, led_by, led_from, leads_same, leads_map}
+use Rattle.comemo_cache.proofs.Sendings.{mapped}
+use Rattle.comemo.proofs.Closures.{mapped_by, mapped_err}
+use Rattle.comemo_cache.proofs.Holding.{some_held, some_led, of_led, stayed, led_by, led_from, leads_same, leads_map}
 use Rattle.comemo.proofs.function_mut.memoized_mut.Goals as goal
 
 pub end-requires : goal.end-requires

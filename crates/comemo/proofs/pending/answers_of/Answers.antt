@@ -1,7 +1,7 @@
 use Rattle.std.proofs.Common.{◌∙◌, arith, subst}
 use Rattle.std.proofs.lemmas.List.{take_all}
 use Rattle.comemo_tree.specs.Change.{HasAnswers}
-use Rattle.comemo.proofs.Touching.{has_more}
+use Rattle.comemo_cache.proofs.Touching.{has_more}
 use Rattle.comemo.proofs.pending.answers_of.Goals as goal
 
 pub loop-answer-preserved : goal.loop-answer-preserved

@@ -1,5 +1,5 @@
 use Rattle.std.proofs.Common.{refl}
-use Rattle.comemo.proofs.Holding.{held_map}
+use Rattle.comemo_cache.proofs.Holding.{held_map}
 use Rattle.comemo.proofs.pending.begin.Goals as goal
 
 pub returns-in-Ok-Run-clause-run : goal.returns-in-Ok-Run-clause-run

@@ -1,4 +1,4 @@
-use Rattle.comemo.proofs.Writings.{SameWrites-cloned, written_same}
+use Rattle.comemo_cache.proofs.Writings.{SameWrites-cloned, written_same}
 use Rattle.comemo.proofs.pending.copy_writes.Goals as goal
 
 pub returns-clause-same : goal.returns-clause-same

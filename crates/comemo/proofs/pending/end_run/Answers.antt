@@ -1,7 +1,7 @@
-use Rattle.comemo.proofs.Sendings.{on_err}
-use Rattle.comemo.proofs.Entries.{reads_same}
+use Rattle.comemo_cache.proofs.Sendings.{on_err}
+use Rattle.comemo_cache.proofs.Entries.{reads_same}
 use Rattle.comemo.proofs.Endings.{Ends-cloned, given, gives_itself, broken_itself}
-use Rattle.comemo.proofs.Holding.{leads_map, stays_same}
+use Rattle.comemo_cache.proofs.Holding.{leads_map, stays_same}
 use Rattle.comemo.proofs.pending.end_run.Goals as goal
 
 pub returns-in_err-give_recording-clause-err : goal.returns-in_err-give_recording-clause-err

@@ -1,10 +1,10 @@
 use Rattle.std.proofs.Common.{[], arith, inl, inr, refl}
-use Rattle.comemo.specs.Found.{TouchesFound}
-use Rattle.comemo.specs.Held.{Leads}
-use Rattle.comemo.proofs.Holding.{leads_map, leads_same, stays_same}
+use Rattle.comemo_cache.specs.Found.{TouchesFound}
+use Rattle.comemo_cache.specs.Held.{Leads}
+use Rattle.comemo_cache.proofs.Holding.{leads_map, leads_same, stays_same}
 use Rattle.comemo.proofs.Calls.{memory_handed, write_handed}
-use Rattle.comemo.proofs.Sendings.{breaks_at_once}
-use Rattle.comemo.proofs.Writings.{broke_after, took_run, spoiled_run}
+use Rattle.comemo_cache.proofs.Sendings.{breaks_at_once}
+use Rattle.comemo_cache.proofs.Writings.{broke_after, took_run, spoiled_run}
 use Rattle.comemo.proofs.pending.give_found.Goals as goal
 use Rattle.comemo.proofs.pending.give_found.Goals.{then-age-gt0, else-age-gt0}
 

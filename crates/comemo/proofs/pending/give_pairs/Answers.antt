@@ -1,4 +1,4 @@
-use Rattle.comemo.proofs.Sendings.{reads_left, takes_more, rest_of, breaks}
+use Rattle.comemo_cache.proofs.Sendings.{reads_left, takes_more, rest_of, breaks}
 use Rattle.comemo.proofs.pending.give_pairs.Goals as goal
 
 pub loop-call-preserved : goal.loop-call-preserved

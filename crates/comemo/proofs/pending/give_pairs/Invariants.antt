@@ -1,7 +1,7 @@
 use Rattle.std.proofs.Common.{◌≡◌, [], false}
 use Rattle.std.specs.List.{All}
 use Rattle.std.specs.Vec.Iter.{into_iter_items}
-use Rattle.comemo.proofs.Sendings.{TookFront}
+use Rattle.comemo_cache.proofs.Sendings.{TookFront}
 use Rattle.comemo.proofs.pending.give_pairs.Given as goal
 
 -- the pairs left are reads, the sink took those before them, and once it takes them it has taken all

@@ -1,5 +1,5 @@
 use Rattle.std.proofs.Common.{sym}
-use Rattle.comemo.proofs.Sendings.{reads_left, head_read, takes_more, took_all, took_none, breaks}
+use Rattle.comemo_cache.proofs.Sendings.{reads_left, head_read, takes_more, took_all, took_none, breaks}
 use Rattle.comemo.proofs.pending.give_reads.Goals as goal
 
 pub emit-requires : goal.emit-requires

@@ -1,6 +1,6 @@
 use Rattle.std.proofs.Common.{◌≡◌, false, length}
 use Rattle.std.specs.List.{All}
-use Rattle.comemo.proofs.Sendings.{TookFront}
+use Rattle.comemo_cache.proofs.Sendings.{TookFront}
 use Rattle.comemo.proofs.pending.give_reads.Given as goal
 
 -- the pairs left are reads, and the sink took those before them

@@ -1,6 +1,6 @@
 use Rattle.std.proofs.lemmas.Result.{on_ok_weaker}
 use Rattle.comemo.proofs.Closures.{mapped_err}
-use Rattle.comemo.proofs.Writings.{took_run, broke_after}
+use Rattle.comemo_cache.proofs.Writings.{took_run, broke_after}
 use Rattle.comemo.proofs.pending.give_recording.Goals as goal
 
 pub returns-clause-ok : goal.returns-clause-ok

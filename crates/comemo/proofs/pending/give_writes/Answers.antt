@@ -1,4 +1,4 @@
-use Rattle.comemo.proofs.Writings.{writes_left, room_left, writes_more}
+use Rattle.comemo_cache.proofs.Writings.{writes_left, room_left, writes_more}
 use Rattle.comemo.proofs.pending.give_writes.Goals as goal
 
 pub loop-call-preserved : goal.loop-call-preserved

@@ -1,7 +1,7 @@
 use Rattle.std.proofs.Common.{◌≡◌, ◌≤◌, true, length}
 use Rattle.std.specs.List.{All}
 use Rattle.std.specs.Vec.Iter.{into_iter_items}
-use Rattle.comemo.proofs.Writings.{TookWrites}
+use Rattle.comemo_cache.proofs.Writings.{TookWrites}
 use Rattle.comemo.proofs.pending.give_writes.Given as goal
 
 -- the calls left are writes, for which there is room, and the sink took those before them

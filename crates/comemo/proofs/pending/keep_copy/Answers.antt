@@ -1,6 +1,6 @@
 use Rattle.comemo.proofs.Endings.{Ends-cloned}
-use Rattle.comemo.proofs.Writings.{SameWrites-itself}
-use Rattle.comemo.proofs.Holding.{leads_map}
+use Rattle.comemo_cache.proofs.Writings.{SameWrites-itself}
+use Rattle.comemo_cache.proofs.Holding.{leads_map}
 use Rattle.comemo.proofs.pending.keep_copy.Goals as goal
 
 pub keep-requires-clause-stands : goal.keep-requires-clause-stands

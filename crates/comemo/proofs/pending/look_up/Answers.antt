@@ -1,15 +1,15 @@
 use Rattle.std.proofs.Common.{◌≡◌, ◌∙◌, [], inl, inr, true, false, refl, sym, subst}
 use Rattle.comemo_base.proofs.Paths.{turned}
-use Rattle.comemo.specs.Meaning.{Meaning, run, invocation}
-use Rattle.comemo.specs.Cache.{Has, Stands}
+use Rattle.comemo_cache.specs.Meaning.{Meaning, run, invocation}
+use Rattle.comemo_cache.specs.Cache.{Has, Stands}
 use Rattle.comemo.proofs.Calls.{on_fault, fault_handed}
-use Rattle.comemo.proofs.Sendings.{breaks_at_once}
-use Rattle.comemo.proofs.Touching.{Touches-alike}
-use Rattle.comemo.proofs.Entries.{Has-alike, HasNone-alike, Agrees-found}
-use Rattle.comemo.specs.Held.{Held, Leads}
-use Rattle.comemo.specs.Cache.{HasAged, HasNone}
-use Rattle.comemo.specs.Found.{TouchesFound}
-use Rattle.comemo.proofs.Holding.{held_any, held_map, leads_map, stays_same, stayed, has_so, hit_held}
+use Rattle.comemo_cache.proofs.Sendings.{breaks_at_once}
+use Rattle.comemo_cache.proofs.Touching.{Touches-alike}
+use Rattle.comemo_cache.proofs.Entries.{Has-alike, HasNone-alike, Agrees-found}
+use Rattle.comemo_cache.specs.Held.{Held, Leads}
+use Rattle.comemo_cache.specs.Cache.{HasAged, HasNone}
+use Rattle.comemo_cache.specs.Found.{TouchesFound}
+use Rattle.comemo_cache.proofs.Holding.{held_any, held_map, leads_map, stays_same, stayed, has_so, hit_held}
 use Rattle.comemo.proofs.pending.look_up.Goals as goal
 use Rattle.comemo.proofs.pending.look_up.Goals.{then-enabled+in-Ok-None, else-enabled}
 

@@ -1,4 +1,4 @@
-use Rattle.comemo.proofs.Writings.{writes_left, head_write, room_left, done_more, stopped}
+use Rattle.comemo_cache.proofs.Writings.{writes_left, head_write, room_left, done_more, stopped}
 use Rattle.comemo.proofs.pending.replay.Goals as goal
 
 pub loop-write-preserved : goal.loop-write-preserved

@@ -1,7 +1,7 @@
 use Rattle.std.proofs.Common.{◌≡◌, ◌≤◌, true, length}
 use Rattle.std.specs.List.{All}
 use Rattle.std.specs.Vec.Iter.{into_iter_items}
-use Rattle.comemo.proofs.Writings.{DidWrites}
+use Rattle.comemo_cache.proofs.Writings.{DidWrites}
 use Rattle.comemo.proofs.pending.replay.Given as goal
 
 -- the calls left are writes, for which there is room, and those before them were done and given to the sink

@@ -1,6 +1,6 @@
 use Rattle.std.proofs.Common.{[], refl, subst}
 use Rattle.comemo.proofs.Recorders.{held_keeps, tells_output, tells_broken, not_whole}
-use Rattle.comemo.proofs.Holding.{some_by}
+use Rattle.comemo_cache.proofs.Holding.{some_by}
 use Rattle.comemo.proofs.function.Recorder.call_reply.Goals as goal
 
 pub invariant_of-self : goal.invariant_of-self

@@ -1,9 +1,9 @@
 use Rattle.std.proofs.Common.{refl}
 use Rattle.comemo_track.specs.Recording.{Took, Spoiled}
 use Rattle.comemo.proofs.Calls.{resent}
-use Rattle.comemo.proofs.Sendings.{on_err}
+use Rattle.comemo_cache.proofs.Sendings.{on_err}
 use Rattle.comemo.proofs.ThroughMaps.{keeps_through, tells_through, broke_through}
-use Rattle.comemo.proofs.Holding.{some_by, by_map}
+use Rattle.comemo_cache.proofs.Holding.{some_by, by_map}
 use Rattle.comemo.proofs.function.Recorder.call_through.Goals as goal
 
 pub invariant_of-self-2 : goal.invariant_of-self-2

@@ -2,7 +2,7 @@ use Rattle.std.proofs.Common.{refl, sym, subst, ap, ◌∙◌}
 use Rattle.comemo_base.specs.Answers.{Agrees}
 use Rattle.comemo.specs.Function.{Recorded}
 use Rattle.comemo.proofs.Calls.{broke_at_end}
-use Rattle.comemo.proofs.Holding.{some_led, leads_map}
+use Rattle.comemo_cache.proofs.Holding.{some_led, leads_map}
 use Rattle.comemo.proofs.Recursions.{own_given, given_keeps, is_memory, handed, finished_as}
 use Rattle.comemo.proofs.function.Recorder.finish.Goals as goal
 

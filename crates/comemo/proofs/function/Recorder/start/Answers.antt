@@ -2,7 +2,7 @@ use Rattle.std.proofs.Common.{Ok, refl, ◌∙◌}
 use Rattle.comemo.proofs.Endings.{gives_itself}
 use Rattle.comemo.proofs.Calls.{on_fault, on_fault_is, broke_at_begin, never_stops, reply_by_hit, run_seen}
 use Rattle.comemo.proofs.Recorders.{broken_keeps, held_keeps}
-use Rattle.comemo.proofs.Holding.{some_held, some_led, led_from, held_map}
+use Rattle.comemo_cache.proofs.Holding.{some_held, some_led, led_from, held_map}
 use Rattle.comemo.proofs.Recursions.{own_given, same_recorder}
 use Rattle.comemo.proofs.function.Recorder.start.Goals as goal
 

@@ -1,9 +1,9 @@
 use Rattle.std.proofs.Common.{[], refl}
 use Rattle.comemo_track.specs.WritingLaws.{done_both}
-use Rattle.comemo.proofs.Sendings.{on_err}
+use Rattle.comemo_cache.proofs.Sendings.{on_err}
 use Rattle.comemo.proofs.Recorders.{not_whole}
 use Rattle.comemo.proofs.RecordersMut.{tells_read, read_writes, tells_failed, read_agrees, spoiled_any}
-use Rattle.comemo.proofs.Holding.{some_by}
+use Rattle.comemo_cache.proofs.Holding.{some_by}
 use Rattle.comemo.proofs.function_mut.RecorderMut.call.Goals as goal
 
 pub returns-clause-tells : goal.returns-clause-tells

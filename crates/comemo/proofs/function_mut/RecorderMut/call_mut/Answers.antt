@@ -1,8 +1,8 @@
 use Rattle.std.proofs.Common.{refl}
 use Rattle.comemo_track.specs.WritingLaws.{done_both}
-use Rattle.comemo.proofs.Sendings.{on_err}
+use Rattle.comemo_cache.proofs.Sendings.{on_err}
 use Rattle.comemo.proofs.RecordersMut.{tells_called, tells_failed, called_agrees, failed_spoils, spoiled_any}
-use Rattle.comemo.proofs.Holding.{some_by, some_led}
+use Rattle.comemo_cache.proofs.Holding.{some_by, some_led}
 use Rattle.comemo.proofs.function_mut.RecorderMut.call_mut.Goals as goal
 
 pub returns-clause-tells : goal.returns-clause-tells

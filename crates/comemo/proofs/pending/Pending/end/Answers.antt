@@ -1,8 +1,8 @@
-use Rattle.comemo.proofs.Sendings.{breaks_at_once, ended_so}
+use Rattle.comemo_cache.proofs.Sendings.{breaks_at_once, ended_so}
 use Rattle.comemo.proofs.Endings.{broken_itself}
 use Rattle.comemo.specs.Finish.{Finished}
-use Rattle.comemo.specs.Held.{Leads}
-use Rattle.comemo.proofs.Holding.{stays_same}
+use Rattle.comemo_cache.specs.Held.{Leads}
+use Rattle.comemo_cache.proofs.Holding.{stays_same}
 use Rattle.comemo.proofs.pending.Pending.end.Goals as goal
 
 pub returns-in-Err-clause-err : goal.returns-in-Err-clause-err

@@ -1,12 +1,12 @@
 use Rattle.std.proofs.Common.{[], ◌≡◌, ◌∙◌, true, false, refl, sym, ap}
 use Rattle.comemo.specs.Begin.{PendingRun}
-use Rattle.comemo.proofs.Sendings.{on_err, breaks_at_once}
+use Rattle.comemo_cache.proofs.Sendings.{on_err, breaks_at_once}
 use Rattle.comemo.proofs.Endings.{gives_itself, broken_itself}
-use Rattle.comemo.proofs.Holding.{leads_map, leads_same, stays_same}
+use Rattle.comemo_cache.proofs.Holding.{leads_map, leads_same, stays_same}
 use Rattle.comemo.specs.Begin.{came_to}
 use Rattle.comemo.specs.Finish.{Ends}
-use Rattle.comemo.specs.Held.{Leads}
-use Rattle.comemo.specs.Meaning.{Meaning}
+use Rattle.comemo_cache.specs.Held.{Leads}
+use Rattle.comemo_cache.specs.Meaning.{Meaning}
 use Rattle.comemo.proofs.pending.Pending.finish.Goals as goal
 use Rattle.comemo.proofs.pending.Pending.finish.Goals.{then-enabled+in_ok-how, else-enabled+in_ok-give_recording}
 

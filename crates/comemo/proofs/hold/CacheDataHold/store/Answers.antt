@@ -1,7 +1,0 @@
-use Rattle.comemo.proofs.hold.CacheDataHold.store.Goals as goal
-
-pub store-requires-clause-reads : goal.store-requires-clause-reads
-store-requires-clause-reads g c = rw (← c.into_sequence.ensures) at c.requires.reads
-
-pub returns-clause-stored : goal.returns-clause-stored
-returns-clause-stored g c = rw c.into_sequence.ensures at c.store.ensures.stored

@@ -1,0 +1,34 @@
+-- What a function that calls itself and writes tells, and how its calls start and finish.
+use Rattle.std.specs.Prelude.{◌≡◌, true, List, IsTrue, [], Result, Ok, Err}
+use Rattle.comemo_track.specs.Recording.{Recording}
+use Rattle.comemo_cache.specs.Meaning.{Meaning, Invocation}
+use Rattle.comemo_cache.specs.Cache.{Entries, HasNone}
+use Rattle.comemo.specs.Begin.{Reaches}
+use Rattle.comemo.specs.FunctionMut.{Lent}
+use Rattle.comemo.specs.declared.pending.Fault.{Fault}
+use Rattle.comemo.specs.declared.recursive.Start.{Start}
+use Rattle.comemo.specs.declared.recursive.Start.TheVariants.{Hit, Run as Begins}
+
+-- the first of a call that gave an output, or a fault, the second of a run that started
+abbrev pub OnStarted : {O I : Type 0} → Result (Start O I) Fault → (Result O Fault → Type 0) → (I → Type 0) → Type 0
+OnStarted (Ok (Hit output)) P Q = P (Ok output)
+OnStarted (Ok (Begins run)) P Q = Q run
+OnStarted (Err fault) P Q = P (Err fault)
+
+-- a run was started by a recorder that was lent s, and has come to t: what it recorded stands in the place of what the recorder had
+-- recorded, which is kept apart. While nothing is lost of its recording, its writes led from the value as it was to the value as it is
+pub record Within {V C R : Type 0} (did : V → V → List C → Type 0) (agrees : Lent V C R → Type 0) (s t : Lent V C R) (around : Recording C R) : Type 0 where
+  pub kept : around ≡ s.recording.now
+  pub agreed : agrees s
+  pub same_value : t.value.ghost_name ≡ s.value.ghost_name
+  pub same_recording : t.recording.ghost_name ≡ s.recording.ghost_name
+  pub done : t.recording.now.whole ≡ true → did s.value.now t.value.now t.recording.now.writes
+  pub reached : Reaches did s.value.now t.value.now
+
+-- a run starts with an empty recording that is whole, under a key that is equal to the call's; no kept entry has the key and agrees
+pub record StartsMut {K C R O : Type 0} (M : Meaning K C R O) (es : Entries K C R O) (call : Invocation K C R) (own : K) (began : Recording C R) : Type 0 where
+  pub has_key : IsTrue (M.same_key call.key own)
+  pub pairs : began.pairs ≡ []
+  pub writes : began.writes ≡ []
+  pub whole : began.whole ≡ true
+  pub none : HasNone M es call

@@ -1,0 +1,270 @@
+//! Memoized functions that call themselves and write: a call by hand, for a recorder that writes.
+ghost use Rattle.std.specs.Prelude.{◌≡◌, ◌↔◌, [], true, false, List, IsTrue, refl, IfOk, IfErr, OnErr, ⊤};
+ghost use Rattle.std.proofs.Common.{◌∙◌};
+ghost use Rattle.comemo.specs.Called.{HeldReply};
+ghost use Rattle.comemo.specs.Finish.{BreaksOffRun};
+ghost use Rattle.comemo.specs.FunctionMut.{Lent, LawsMut, TellsWrites, IsFailed, lent};
+ghost use Rattle.comemo.specs.Recursive.{OnStart, FinishedAs};
+ghost use Rattle.comemo.specs.RecursiveMut.{OnStarted, Within, StartsMut};
+ghost use Rattle.comemo_cache.specs.Meaning.{invocation, run};
+ghost use Rattle.comemo_cache.specs.Held.{Held, Leads, Stays};
+ghost use Rattle.comemo_track.specs.InputLaws.{equal_if_one};
+ghost use Rattle.comemo_track.specs.Recording.{Took, Spoiled};
+ghost use Rattle.comemo_track.specs.Sending.{BreaksOff, SpoiledAfter};
+ghost use Rattle.comemo_track.specs.WritingLaws.{done_both, done_keeps};
+
+use crate::function::Told;
+use crate::function_mut::{RecorderMut, ToldMut};
+use crate::pending::{Begun, Fault, How, Pending, Reply, begin};
+use crate::recursive::Start;
+use comemo_cache::cache::{Meant, Memo};
+use comemo_cache::hold::Hold;
+use comemo_track::constraint::Constraint;
+use comemo_track::input::Input;
+use comemo_track::track::{Call, Track, Written};
+use std::alloc::AllocError;
+use std::hash::Hash;
+use std::marker::PhantomData;
+use std::mem;
+
+/// A memoized function that calls itself through its own cache, and writes: what it means, of a key and a tracked value.
+///
+/// It is a `FunctionMut` without a run, which is an ordinary function of the user's, between `RecorderMut::start` and
+/// `RecorderMut::finish`. This project's own: in comemo it is a function like any.
+pub trait RecursiveMut {
+    /// What isn't tracked of the arguments: what a call is kept under.
+    type Key: Clone + Eq + Hash;
+
+    /// The tracked value that a run asks and changes.
+    type Of: Track;
+
+    /// What the function gives.
+    type Out: Clone;
+
+    // at this key and these answers, this output and these writes are right
+    ghost means: { Self.Key → (Self.Of.Call → Self.Of.Answer) → Self.Out
+        → List Self.Of.Call → Type 0 };
+
+    // clones of keys are equal, and the meaning tells apart neither equal keys nor equal writes, nor an output from its clone
+    ghost laws: { LawsMut Self.Of.Call.eq Self.Of.Answer.eq Self.Key.eq Self.Key.is_clone
+        Self.Out.is_clone means };
+}
+
+/// What a cache takes such a function for: `CacheData<MemoOfRecursiveMut<F>>` is the cache of `F`.
+///
+/// There is no value of it to make. This project's own.
+pub struct MemoOfRecursiveMut<F> {
+    function: PhantomData<F>,
+}
+
+impl<F: RecursiveMut> Memo for MemoOfRecursiveMut<F> {
+    type Call = <F::Of as Track>::Call;
+
+    type Key = F::Key;
+
+    type Answer = <F::Of as Track>::Answer;
+
+    type Out = F::Out;
+
+    ghost def = { F.means };
+
+    ghost laws = { record {
+      outputs = F.laws.outputs;
+      keys = F.laws.keys;
+      writes = F.laws.writes;
+      key_clones = F.laws.clones;
+      answer_clones = F.Of.clones;
+    } };
+}
+
+/// A run within a run, of a function that writes: what is kept apart until it is finished.
+///
+/// It can't be dropped: a run that failed is finished too, with its fault. This project's own.
+pub struct InnerMut<K, T: Track> {
+    /// A clone of the key, for the cache.
+    pub(crate) own: K,
+    /// The recording of the run around this one.
+    pub(crate) around: Constraint<T::Call, T::Answer>,
+}
+
+/// A key that is lent, and a tracked value that is lent to be written.
+#[derive(Drop)]
+struct LentKeyMut<'a, 'b, K: Clone + Eq + Hash, T> {
+    key: &'b K,
+    value: &'a mut T,
+    // a clone of a key is equal
+    ghost clones: { (x y : K) → K.is_clone x y → IsTrue (K.eq x y) },
+}
+
+impl<'a, 'b, K: Clone + Eq + Hash, T: Track> Input for LentKeyMut<'a, 'b, K, T> {
+    type Call = T::Call;
+
+    type Key = K;
+
+    type Answer = T::Answer;
+
+    ghost key_of = { λ s. s.key.now };
+
+    ghost answers = { λ s. T.answers s.value.now };
+
+    ghost did = { λ s t W. ⟦<T as Written>⟧.did s.value.now t.value.now W
+        × (t.value.ghost_name ≡ s.value.ghost_name) × (t.key.now ≡ s.key.now) };
+
+    ghost alike = { λ s. T.alike s.value.now };
+
+    ghost starts = { λ s. (refl, refl, refl) };
+
+    ghost joins = { λ s t u V W a b. (
+      done_both T.wrote T.Call.is_write T.Answer.eq T.answers
+          s.value.now t.value.now u.value.now V W a.0 b.0,
+      b.1 ∙ a.1,
+      b.2 ∙ a.2,
+    ) };
+
+    ghost keeps = { λ s t W a. done_keeps T.wrote T.Call.is_write T.Answer.eq T.answers
+        T.Answer.Eq.laws s.value.now t.value.now W a.0 };
+
+    ghost keeps_key = { λ s t W a. equal_if_one K.Eq.laws _ _ a.2 };
+
+    fn key(&self) -> Result<K, AllocError> {
+        self.key.clone()
+    }
+
+    fn call(&mut self, call: &T::Call) -> Result<T::Answer, AllocError> {
+        self.value.ask(call)
+    }
+
+    fn call_mut(&mut self, call: &T::Call) -> Result<(), AllocError> {
+        T::call_mut(self.value, call)
+    }
+}
+
+impl<'a, 'b, T: Track> RecorderMut<'a, 'b, T> {
+    /// Starts a call of a memoized function that writes: gives the output that its cache keeps where an entry agrees, and
+    /// does its writes again, or a run to be done.
+    ///
+    /// On a hit this recorder takes what the entry rests on, and its writes. For a run it records what the run does, from
+    /// nothing on, until the run is finished; what it had recorded is kept apart. Every fault spoils the recording; a
+    /// write that the value refused leaves those before it done. It costs what `begin` costs, with a clone of the key, also
+    /// for a hit. This project's own: the first half of a call of a function under comemo's `#[memoize]`.
+    pub fn start<G: Memo<Call = T::Call, Answer = T::Answer>, H: Hold<G>>(
+        &mut self,
+        cache: &mut H,
+        key: &G::Key,
+    ) -> Result<Start<G::Out, InnerMut<G::Key, T>>, Fault>
+        requires agrees { ⟦<T as ToldMut>⟧.agrees (lent self.old.value self.old.recording) }
+        ensures agrees { ⟦<T as ToldMut>⟧.agrees (lent self.new.value self.new.recording) }
+        ensures tells { OnStarted result (λ reply.
+            TellsWrites ⟦<T as Written>⟧.did ⟦<T as Told>⟧.fits
+            (lent self.old.value self.old.recording) (lent self.new.value self.new.recording) reply
+            (λ output m writes. G.def key.now m output writes))
+            (λ inner. Within ⟦<T as Written>⟧.did ⟦<T as ToldMut>⟧.agrees
+            (lent self.old.value self.old.recording) (lent self.new.value self.new.recording)
+            inner.around) }
+        ensures hit { IfOk result (λ start. OnStart start
+            (λ output. (reply : Reply G.Out) × (reply.output ≡ output) × (reply.how ≡ How.Hit)
+            × HeldReply ⟦<G as Meant>⟧.meaning
+            (invocation key.now (T.answers self.old.value.now) true)
+            (H.entries cache.old) (H.entries cache.old)
+            (λ P W. Took T.Call.eq self.old.recording.now self.new.recording.now P W
+            × ⟦<T as Written>⟧.did self.old.value.now self.new.value.now W)
+            reply (H.entries cache.new)) (λ _. ⊤)) }
+        ensures run { IfOk result (λ start. OnStart start (λ _. ⊤)
+            (λ inner. Held (H.entries cache.old) (λ es. StartsMut ⟦<G as Meant>⟧.meaning es
+            (invocation key.now (T.answers self.old.value.now) true) inner.own
+            self.new.recording.now) × (self.new.value ≡ self.old.value)
+            × Stays (H.entries cache.old) (H.entries cache.new))) }
+        ensures err { OnErr result (Leads (H.entries cache.old) (H.entries cache.new) (λ es es'.
+            IsFailed ⟦<G as Meant>⟧.meaning es
+            (invocation key.now (T.answers self.old.value.now) true)
+            (⟦<T as Written>⟧.did self.old.value.now self.new.value.now)
+            (BreaksOff (Took T.Call.eq) Spoiled self.old.recording.now self.new.recording.now)
+            (SpoiledAfter (Took T.Call.eq) Spoiled self.old.recording.now self.new.recording.now)
+            es')) }
+    {
+        let alloc = self.alloc;
+        let mut input = LentKeyMut {
+            key,
+            value: self.value,
+        };
+        let pending = match begin(alloc, cache, &mut input, self.recording, true) {
+            Ok(Begun::Hit(output)) => {
+                self.recording.has_reads_and_writes();
+                return Ok(Start::Hit(output));
+            }
+            Ok(Begun::Run(pending)) => pending,
+            Err(fault) => return Err(fault),
+        };
+        let Pending {
+            alloc: _,
+            key: own,
+            enabled: _,
+            recording,
+        } = pending;
+        let around = mem::replace(self.recording, recording);
+        Ok(Start::Run(InnerMut { own, around }))
+    }
+
+    /// Finishes a run that was started here, as it went: with its output, and keeps it, or with its fault.
+    ///
+    /// Output and writes have to be right for all answers that agree with what was recorded since the start. This recorder
+    /// has what it had recorded before, and takes what the run recorded. A fault of the run is handed on; of a run that
+    /// gave an output, `Incomplete` comes where its recording is spoiled, and `Memory` where there was none for what this
+    /// recorder takes. Every fault spoils the recording and leaves the cache as it was; the writes that the run did stay
+    /// done. It costs what `Pending::finish` costs. This project's own: the second half of a call of a function under
+    /// comemo's `#[memoize]`.
+    pub fn finish<G: Memo<Call = T::Call, Answer = T::Answer>, H: Hold<G>>(
+        &mut self,
+        cache: &mut H,
+        key: &G::Key,
+        inner: InnerMut<G::Key, T>,
+        ran: Result<G::Out, Fault>,
+    ) -> Result<G::Out, Fault>
+        requires own { IsTrue (G.Key.eq key.now inner.own) }
+        requires agrees { ⟦<T as ToldMut>⟧.agrees (lent self.old.value self.old.recording) }
+        requires right { IfOk ran (λ output. (m : T.Call → T.Answer)
+            → ⟦<T as Told>⟧.fits self.old.recording.now m
+            → G.def key.now m output self.old.recording.now.writes) }
+        ensures agrees { (s : Lent T T.Call T.Answer)
+            → Within ⟦<T as Written>⟧.did ⟦<T as ToldMut>⟧.agrees
+            s (lent self.old.value self.old.recording) inner.around
+            → ⟦<T as ToldMut>⟧.agrees (lent self.new.value self.new.recording) }
+        ensures tells { (s : Lent T T.Call T.Answer)
+            → Within ⟦<T as Written>⟧.did ⟦<T as ToldMut>⟧.agrees
+            s (lent self.old.value self.old.recording) inner.around
+            → TellsWrites ⟦<T as Written>⟧.did ⟦<T as Told>⟧.fits
+            s (lent self.new.value self.new.recording) result
+            (λ output m writes. G.def key.now m output writes) }
+        ensures finished { IfOk result (λ output. (ran ≡ Ok output)
+            × Leads (H.entries cache.old) (H.entries cache.new) (λ es es'.
+            FinishedAs ⟦<G as Meant>⟧.meaning es
+            (Took T.Call.eq inner.around self.new.recording.now)
+            (run inner.own self.old.recording.now.pairs output self.old.recording.now.writes) es')) }
+        ensures value { self.new.value ≡ self.old.value }
+        ensures incomplete { IfOk ran
+            (λ _. (result ≡ Err Fault.Incomplete) ↔ (self.old.recording.now.whole ≡ false)) }
+        ensures write { IfOk ran (λ _. IfErr result (λ fault. fault ≡ Fault.Write → ⊥)) }
+        ensures fault { IfErr ran (λ fault. result ≡ Err fault) }
+        ensures err { OnErr result (Stays (H.entries cache.old) (H.entries cache.new)
+            × BreaksOffRun ⟦<G as Meant>⟧.meaning
+            (BreaksOff (Took T.Call.eq) Spoiled inner.around self.new.recording.now)
+            self.old.recording.now.pairs) }
+    {
+        let InnerMut { own, around } = inner;
+        self.recording.has_reads_and_writes();
+        let recording = mem::replace(self.recording, around);
+        let pending: Pending<G> = Pending {
+            alloc: self.alloc,
+            key: own,
+            enabled: true,
+            recording,
+        };
+        match pending.end(cache, self.recording, ran) {
+            Ok(reply) => {
+                self.recording.has_reads_and_writes();
+                Ok(reply.output)
+            }
+            Err(fault) => Err(fault),
+        }
+    }
+}

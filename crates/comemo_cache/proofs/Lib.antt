@@ -1,0 +1,9 @@
+pub mod Sendings
+pub mod Entries
+pub mod Writings
+pub mod NewPath
+pub mod Looking
+pub mod Holding
+pub mod Touching
+pub mod Aging
+pub mod Stepping

@@ -1,0 +1,7 @@
+pub mod Meaning
+pub mod Cache
+pub mod Storing
+pub mod Held
+pub mod Found
+pub mod Steps
+pub mod StepLaws

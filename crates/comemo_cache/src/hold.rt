@@ -1,0 +1,140 @@
+//! What holds a cache for a call: the cache itself, or a share of one that threads share.
+ghost use Rattle.std.specs.Prelude.{◌≡◌, [], Option, Some, true, false, IfOk, IfErr, OnOk, OnErr, IfSome, MatchOption, List};
+ghost use Rattle.std.specs.List.{All};
+ghost use Rattle.comemo_base.specs.Lookup.{under};
+ghost use Rattle.comemo_base.specs.Insertion.{IsReason};
+ghost use Rattle.comemo_base.specs.Tree.{IsTree};
+ghost use Rattle.comemo_cache.specs.Meaning.{exactly, invocation, run};
+ghost use Rattle.comemo_cache.specs.Cache.{Entries, Stands, HasNone, HasAged, TouchesAt};
+ghost use Rattle.comemo_cache.specs.Storing.{Stores};
+ghost use Rattle.comemo_cache.specs.Held.{Held, Leads, Stays};
+
+use crate::cache::{CacheData, Found, Meant, Memo};
+use comemo_base::{CallSequence, InsertError};
+use comemo_track::input::Input;
+use comemo_track::track::Call;
+use std::alloc::AllocError;
+
+/// The reads of a run that a holder of a cache keeps, which are a `CallSequence`.
+///
+/// The trait stands for this one type, since a method of `Hold` can't name it: the checker doesn't cover a trait's method
+/// that takes a type with a map in it. This project's own.
+pub trait Reads {
+    /// What was asked.
+    type Call: Call;
+
+    /// What was answered.
+    type Answer: Clone + Ord;
+
+    // the pairs, in the order in which they were asked
+    ghost pairs: { Self → List (Self.Call × Self.Answer) };
+
+    /// The sequence itself. It takes no memory and constant time.
+    fn into_sequence(self) -> CallSequence<Self::Call, Self::Answer>
+        ensures { result.pairs ≡ pairs self };
+}
+
+impl<C: Call, R: Clone + Ord> Reads for CallSequence<C, R> {
+    type Call = C;
+
+    type Answer = R;
+
+    ghost pairs = { λ s. s.pairs };
+
+    fn into_sequence(self) -> CallSequence<C, R> {
+        self
+    }
+}
+
+/// What a call of a memoized function is handed for its cache: a `CacheData`, which is the only holder of its entries,
+/// or a `Shared`, which takes a lock for each of its steps.
+///
+/// A call looks, touches and stores by it, and does nothing else with it. One that tells its entries tells them
+/// before and after each step, and a contract says what became of them. This project's own.
+pub trait Hold<M: Memo> {
+    // the entries, where no one else can change them
+    ghost entries: { Self → Option (Entries M.Key M.Call M.Answer M.Out) };
+
+    /// Looks for an entry, as `CacheData::look` does.
+    fn look<In: Input<Call = M::Call, Key = M::Key, Answer = M::Answer>>(
+        &mut self,
+        key: &M::Key,
+        input: &mut In,
+    ) -> Result<Option<Found<M>>, AllocError>
+        ensures same { In.did input.old input.new [] }
+        ensures stays { Stays (entries self.old) (entries self.new) }
+        ensures tree { Held (entries self.old) (IsTree M.Call.eq M.Answer.eq M.Key.eq) }
+        ensures found { IfOk result (λ found. Held (entries self.old) (λ es. MatchOption found
+            (HasNone ⟦<M as Meant>⟧.meaning es (invocation key.now (In.answers input.old) true))
+            (λ f. HasAged ⟦<M as Meant>⟧.meaning es
+            (invocation key.now (In.answers input.old) true)
+            (run key.now f.pairs.items f.output f.writes.items) f.age))) }
+        ensures stands { IfOk result (λ found. IfSome found (λ f.
+            Stands ⟦<M as Meant>⟧.meaning
+            (run key.now f.pairs.items f.output f.writes.items))) }
+        ensures reads { IfOk result (λ found. IfSome found (λ f.
+            All (λ p. M.Call.is_write p.0 ≡ false) f.pairs.items)) }
+        ensures written { IfOk result (λ found. IfSome found (λ f.
+            All (λ c. M.Call.is_write c ≡ true) f.writes.items)) };
+
+    /// Sets an entry's age to 0, as `CacheData::touch` does.
+    fn touch(&mut self, key: &M::Key, answers: &[M::Answer])
+        ensures { Leads (entries self.old) (entries self.new)
+            (TouchesAt M.Answer.eq M.Key.eq key.now answers.now) };
+
+    /// Keeps the output of a run, as `CacheData::store` does.
+    fn store<Q: Reads<Call = M::Call, Answer = M::Answer>>(
+        &mut self,
+        key: M::Key,
+        reads: Q,
+        output: M::Out,
+        writes: Vec<M::Call>,
+    ) -> Result<(), InsertError>
+        requires reads { All (λ p. M.Call.is_write p.0 ≡ false) (Q.pairs reads) }
+        requires written { All (λ c. M.Call.is_write c ≡ true) writes.items }
+        requires stands { Stands ⟦<M as Meant>⟧.meaning
+            (run key (Q.pairs reads) output writes.items) }
+        ensures stored { OnOk result (Leads (entries self.old) (entries self.new) (λ es es'.
+            Stores (exactly ⟦<M as Meant>⟧.meaning) es
+            (run key (Q.pairs reads) output writes.items) es')) }
+        ensures reason { IfErr result (λ error. Held (entries self.old) (λ es.
+            IsReason M.Call.eq M.Answer.eq (under M.Key.eq es key) (Q.pairs reads) error)) }
+        ensures err { OnErr result (Stays (entries self.old) (entries self.new)) };
+}
+
+impl<M: Memo> Hold<M> for CacheData<M> {
+    ghost entries = { λ s. Some s };
+
+    fn look<In: Input<Call = M::Call, Key = M::Key, Answer = M::Answer>>(
+        &mut self,
+        key: &M::Key,
+        input: &mut In,
+    ) -> Result<Option<Found<M>>, AllocError> {
+        self.is_tree();
+        CacheData::look(self, key, input)
+    }
+
+    fn touch(&mut self, key: &M::Key, answers: &[M::Answer]) {
+        CacheData::touch(self, key, answers);
+    }
+
+    fn store<Q: Reads<Call = M::Call, Answer = M::Answer>>(
+        &mut self,
+        key: M::Key,
+        reads: Q,
+        output: M::Out,
+        writes: Vec<M::Call>,
+    ) -> Result<(), InsertError>
+        requires reads { All (λ p. M.Call.is_write p.0 ≡ false) (Q.pairs reads) }
+        requires written { All (λ c. M.Call.is_write c ≡ true) writes.items }
+        requires stands { Stands ⟦<M as Meant>⟧.meaning
+            (run key (Q.pairs reads) output writes.items) }
+        ensures stored { OnOk result (Stores (exactly ⟦<M as Meant>⟧.meaning) self.old
+            (run key (Q.pairs reads) output writes.items) self.new) }
+        ensures reason { IfErr result
+            (IsReason M.Call.eq M.Answer.eq (under M.Key.eq self.old key) (Q.pairs reads)) }
+        ensures err { OnErr result (self.new ≡ self.old) }
+    {
+        CacheData::store(self, key, reads.into_sequence(), output, writes)
+    }
+}

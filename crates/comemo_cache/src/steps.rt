@@ -1,0 +1,197 @@
+//! The steps of a cache, each by itself: lists of them with what each answers.
+ghost use Rattle.std.specs.Prelude.{◌≡◌, IfOk, OnErr, refl};
+ghost use Rattle.std.proofs.Common.{◌∙◌, ap};
+ghost use Rattle.std.specs.List.{All};
+ghost use Rattle.comemo_track.specs.InputLaws.{equal_if_one};
+ghost use Rattle.comemo_cache.specs.Steps.{listed, Takes, TakesEach, IsStep};
+ghost use Rattle.comemo_cache.specs.StepLaws.{listed_alike};
+
+use crate::cache::{CacheData, Found, Meant, Memo};
+use comemo_base::{CallSequence, InsertError};
+use comemo_track::input::Input;
+use std::alloc::{AllocError, Global};
+
+/// A step of a cache, with all that it is handed.
+///
+/// This project's own, as `replay` is.
+#[derive(Drop)]
+pub enum Step<M: Memo> {
+    /// Looks for an entry.
+    Look {
+        /// The key.
+        key: M::Key,
+        /// What is answered to calls: of the pairs of one call the first.
+        answers: Vec<(M::Call, M::Answer)>,
+        /// What is answered to every other call.
+        other: M::Answer,
+    },
+    /// Touches an entry.
+    Touch {
+        /// The key.
+        key: M::Key,
+        /// The answers of its path, in order.
+        answers: Vec<M::Answer>,
+    },
+    /// Stores what a run came to.
+    Store {
+        /// The key.
+        key: M::Key,
+        /// What the run asked: of the pairs of one call the first.
+        pairs: Vec<(M::Call, M::Answer)>,
+        /// The output.
+        output: M::Out,
+        /// The writes that the run did, in order.
+        writes: Vec<M::Call>,
+    },
+    /// Drops the entries whose age is the bound or more; the others grow one older.
+    Evict {
+        /// The bound.
+        max_age: usize,
+    },
+}
+
+/// What a step answers.
+///
+/// This project's own.
+#[derive(Drop)]
+pub enum StepReply<M: Memo> {
+    /// A look-up found this entry.
+    Found(Found<M>),
+    /// A look-up found none.
+    NotFound,
+    /// The run was stored: one more entry.
+    Stored,
+    /// It was not, since a stored path has all its pairs among those of the run.
+    AlreadyExists,
+    /// It was not, since a stored path goes on with a call that the run lacks.
+    MissingCall,
+    /// There was no memory for the step, which changed nothing.
+    Memory,
+    /// A touch or an eviction was done.
+    Done,
+}
+
+/// An input that answers by a list: the key and the answers of a `Step::Look`.
+#[derive(Drop)]
+struct Listed<'a, M: Memo> {
+    key: &'a M::Key,
+    answers: &'a [(M::Call, M::Answer)],
+    other: &'a M::Answer,
+}
+
+impl<'a, M: Memo> Input for Listed<'a, M> {
+    type Call = M::Call;
+
+    type Key = M::Key;
+
+    type Answer = M::Answer;
+
+    ghost key_of = { λ s. s.key.now };
+
+    ghost answers = { λ s. listed M.Call.eq s.answers.now s.other.now };
+
+    ghost did = { λ s t _. t ≡ s };
+
+    ghost alike = { λ s. listed_alike M.Call.Eq.laws M.Answer.Eq.laws s.answers.now s.other.now };
+
+    ghost starts = { λ _. refl };
+
+    ghost joins = { λ s t u V W a b. b ∙ a };
+
+    ghost keeps = { λ s t W a call reads. equal_if_one M.Answer.Eq.laws _ _
+        (ap (λ v. listed M.Call.eq v.answers.now v.other.now call) a) };
+
+    ghost keeps_key = { λ s t W a. equal_if_one M.Key.Eq.laws _ _ (ap (λ v. v.key.now) a) };
+
+    fn key(&self) -> Result<M::Key, AllocError> {
+        self.key.clone()
+    }
+
+    fn call(&mut self, call: &M::Call) -> Result<M::Answer, AllocError> {
+        for (of, answer) in self.answers {
+            if call == of {
+                return answer.clone();
+            }
+        }
+        self.other.clone()
+    }
+
+    fn call_mut(&mut self, _call: &M::Call) -> Result<(), AllocError> {
+        Ok(())
+    }
+}
+
+impl<M: Memo> CacheData<M> {
+    /// Does steps, one after the other, and gives what each answers.
+    ///
+    /// What is stored has to be right for all answers that agree with its pairs, which are reads, as `store` asks it. A
+    /// step that finds no memory answers `Memory` and changes nothing, and the next one goes on. An error says that there
+    /// was no memory for the list of replies; then no step was done. It takes the steps apart, and clones nothing but
+    /// what is found and, for a look-up, its answers; each question of a look-up is looked for in the whole list of its
+    /// answers. It is there to compare a cache with a list. This project's own.
+    pub fn replay(
+        &mut self,
+        alloc: Global,
+        steps: Vec<Step<M>>,
+    ) -> Result<Vec<StepReply<M>>, AllocError>
+        requires { All (IsStep ⟦<M as Meant>⟧.meaning) steps.items }
+        ensures ok { IfOk result (λ replies. TakesEach ⟦<M as Meant>⟧.meaning
+            steps.items self.old replies.items self.new) }
+        ensures err { OnErr result (self.new ≡ self.old) }
+    {
+        let mut replies = Vec::with_capacity(alloc, steps.len())?;
+        for step in steps {
+            replies.push_reserved(self.take_step(alloc, step));
+        }
+        Ok(replies)
+    }
+
+    /// Does one step, and gives what it answers.
+    fn take_step(&mut self, alloc: Global, step: Step<M>) -> StepReply<M>
+        requires { IsStep ⟦<M as Meant>⟧.meaning step }
+        ensures { Takes ⟦<M as Meant>⟧.meaning step self.old result self.new }
+    {
+        match step {
+            Step::Look {
+                key,
+                answers,
+                other,
+            } => {
+                let mut input: Listed<'_, M> = Listed {
+                    key: &key,
+                    answers: answers.as_slice(),
+                    other: &other,
+                };
+                match self.look(&key, &mut input) {
+                    Ok(Some(found)) => StepReply::Found(found),
+                    Ok(None) => StepReply::NotFound,
+                    Err(_) => StepReply::Memory,
+                }
+            }
+            Step::Touch { key, answers } => {
+                self.touch(&key, answers.as_slice());
+                StepReply::Done
+            }
+            Step::Store {
+                key,
+                pairs,
+                output,
+                writes,
+            } => {
+                let Ok(sequence) = CallSequence::from_pairs(alloc, pairs) else {
+                    return StepReply::Memory;
+                };
+                match self.store(key, sequence, output, writes) {
+                    Ok(()) => StepReply::Stored,
+                    Err(InsertError::AlreadyExists) => StepReply::AlreadyExists,
+                    Err(InsertError::MissingCall) => StepReply::MissingCall,
+                    Err(InsertError::Memory) => StepReply::Memory,
+                }
+            }
+            Step::Evict { max_age } => {
+                self.evict(max_age);
+                StepReply::Done
+            }
+        }
+    }
+}

@@ -1,0 +1,70 @@
+//! A function that calls itself and writes.
+ghost use Rattle.std.specs.Prelude.{◌≡◌};
+ghost use Rattle.std.proofs.Common.{rules};
+ghost use Rattle.comemo.specs.FunctionMut.{TellsWrites, lent};
+ghost use Rattle.comemo_guide.specs.Rulers.{marks};
+ghost use Rattle.comemo_samples.specs.declared.notebook.NotebookCall.TheVariants.{Owner};
+
+use comemo::function::Told;
+use comemo::function_mut::ToldMut;
+use comemo::{Fault, Hold, MemoOfRecursiveMut, RecorderMut, RecursiveMut, Start, Written};
+use comemo_samples::{Notebook, NotebookCall};
+
+/// Draws the marks of a ruler up to a height into a notebook, each with the notebook's owner.
+pub struct Ruler;
+
+impl RecursiveMut for Ruler {
+    type Key = u64;
+
+    type Of = Notebook;
+
+    type Out = ();
+
+    ghost means = { λ height m _ writes. writes ≡ marks (m Owner) height };
+
+    ghost laws = { Prim.search rules };
+}
+
+/// Draws the marks up to a height, which are kept: the lower ones are drawn once by a run, and again by a hit.
+#[cycle(drawing)]
+pub fn ruled<H: Hold<MemoOfRecursiveMut<Ruler>>>(
+    cache: &mut H,
+    height: u64,
+    book: &mut RecorderMut<'_, '_, Notebook>,
+) -> Result<(), Fault>
+    requires agrees { ⟦<Notebook as ToldMut>⟧.agrees (lent book.now.value book.now.recording) }
+    ensures agrees { ⟦<Notebook as ToldMut>⟧.agrees (lent book.new.value book.new.recording) }
+    ensures tells { TellsWrites ⟦<Notebook as Written>⟧.did ⟦<Notebook as Told>⟧.fits
+        (lent book.old.value book.old.recording) (lent book.new.value book.new.recording) result
+        (λ _ m writes. writes ≡ marks (m Owner) height) }
+{
+    let run = match book.start(cache, &height)? {
+        Start::Hit(()) => return Ok(()),
+        Start::Run(run) => run,
+    };
+    let ran = draw(cache, height, book);
+    book.finish(cache, &height, run, ran)
+}
+
+/// The run of it.
+#[cycle(drawing)]
+fn draw<H: Hold<MemoOfRecursiveMut<Ruler>>>(
+    cache: &mut H,
+    height: u64,
+    book: &mut RecorderMut<'_, '_, Notebook>,
+) -> Result<(), Fault>
+    requires agrees { ⟦<Notebook as ToldMut>⟧.agrees (lent book.now.value book.now.recording) }
+    ensures agrees { ⟦<Notebook as ToldMut>⟧.agrees (lent book.new.value book.new.recording) }
+    ensures tells { TellsWrites ⟦<Notebook as Written>⟧.did ⟦<Notebook as Told>⟧.fits
+        (lent book.old.value book.old.recording) (lent book.new.value book.new.recording) result
+        (λ _ m writes. writes ≡ marks (m Owner) height) }
+{
+    if height == 0 {
+        return Ok(());
+    }
+    ruled(cache, height - 1, book)?;
+    let owner = book.ask(NotebookCall::Owner)?;
+    book.write(NotebookCall::Note(height))?;
+    book.write(NotebookCall::Note(owner))?;
+    ruled(cache, height - 1, book)
+}
