@@ -15,7 +15,7 @@ use Rattle.comemo_cache.specs.Cache.{Entries}
 use Rattle.comemo.specs.Called.{IsReply}
 use Rattle.comemo.specs.declared.pending.Reply.{Reply}
 use Rattle.comemo.specs.Begin.{Reaches}
-use Rattle.comemo.specs.FunctionMut.{Lent, Goes, TellsMut, IsFailed}
+use Rattle.comemo.specs.FunctionMut.{Lent, Goes, TellsMut, TellsWrites, IsFailed}
 use Rattle.comemo.specs.declared.pending.Fault.{Fault}
 use Rattle.comemo.proofs.Recorders.{still_agrees, fitted, fits_taken}
 
@@ -94,7 +94,7 @@ module _ {V C R : Type 0} {did : V → V → List C → Type 0} {s t : Lent V C 
 
 module _ {V K C R O : Type 0} {M : Meaning K C R O} {es mid es' : Entries K C R O} {call : Invocation K C R} {did : V → V → List C → Type 0} {s t : Lent V C R} (same_value : t.value.ghost_name ≡ s.value.ghost_name) (same_recording : t.recording.ghost_name ≡ s.recording.ghost_name) (joins : (i j k : V) (U W : List C) → did i j U → did j k W → did i k (U ++ W)) where
   -- after a call of a function that writes
-  pub tells_called : IsEquivalence M.same_call → IsEquivalence M.same_answer → Respects M.same_call M.same_answer call.answers → (s.recording.now.whole ≡ true → Agrees M.same_answer call.answers s.recording.now.pairs) → (reply : Reply O) → IsReply M call es mid (λ P W. Took M.same_call s.recording.now t.recording.now P W × did s.value.now t.value.now W) reply es' → TellsMut did (Fits M.same_call M.same_answer) s t (Ok reply.output) (λ output n. (writes : List C) × (t.recording.now.writes ≡ s.recording.now.writes ++ writes) × M.def call.key n output writes)
+  pub tells_called : IsEquivalence M.same_call → IsEquivalence M.same_answer → Respects M.same_call M.same_answer call.answers → (s.recording.now.whole ≡ true → Agrees M.same_answer call.answers s.recording.now.pairs) → (reply : Reply O) → IsReply M call es mid (λ P W. Took M.same_call s.recording.now t.recording.now P W × did s.value.now t.value.now W) reply es' → TellsWrites did (Fits M.same_call M.same_answer) s t (Ok reply.output) (λ output n writes. M.def call.key n output writes)
   tells_called calls answers respects before reply k =
       let took = k.gives.are_sent.0 in
       let agrees = (k.gives.agreeing call.answers respects).1 k.agrees in
@@ -102,6 +102,7 @@ module _ {V K C R O : Type 0} {M : Meaning K C R O} {es mid es' : Entries K C R 
         goes = goes_on same_recording joins same_value k.writes took.writes took.whole k.gives.are_sent.1;
         before = fitted calls answers call.answers respects k.gives.given k.writes took agrees before;
         told = λ n f. (k.writes, took.writes, k.stands n f.respects ((k.gives.agreeing n f.respects).0 (fits_taken calls answers call.answers respects k.gives.given k.writes took agrees before n f)));
+        whole = took.whole;
         fault = tt;
       }
 
@@ -158,3 +159,10 @@ tells_failed {s = s} {t} same_value same_recording joins reached broken (Err f) 
   told = tt;
   fault = λ e. broken;
 }
+
+-- the same, of a call of a function that writes
+pub writes_failed : {V C R : Type 0} {did : V → V → List C → Type 0} {s t : Lent V C R} → t.value.ghost_name ≡ s.value.ghost_name → t.recording.ghost_name ≡ s.recording.ghost_name → ((i j k : V) (U W : List C) → did i j U → did j k W → did i k (U ++ W)) → Reaches did s.value.now t.value.now → t.recording.now.whole ≡ false → {fits : Recording C R → (C → R) → Type 0} {X : Type 0} {P : X → (C → R) → List C → Type 0} (r : Result X Fault) → IsErr r → TellsWrites did fits s t r P
+writes_failed same_value same_recording joins reached broken (Ok x) h = let no : false ≡ true = h in cc
+writes_failed same_value same_recording joins reached broken {fits} {X} (Err f) h =
+    let a = tells_failed same_value same_recording joins reached broken {fits = fits} {X = X} {P = λ _ _. ⊤} (Err f) h in
+    record { goes = a.goes; before = tt; told = tt; whole = tt; fault = a.fault }

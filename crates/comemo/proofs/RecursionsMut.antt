@@ -1,9 +1,10 @@
 -- For the authors of functions that call themselves and write: what their calls tell, and how a run within a run is finished.
-use Rattle.std.proofs.Common.{◌≡◌, ◌∙◌, ◌↔◌, Bool, true, false, List, [], ◌++◌, Result, Ok, Err, IfOk, IfErr, refl, sym, ap, subst}
+use Rattle.std.proofs.Common.{◌≡◌, ◌∙◌, ◌↔◌, Bool, true, false, List, [], ◌++◌, Result, Ok, Err, IfOk, IfErr, IsErrAnd, refl, sym, ap, subst, append_assoc, append-nil}
 use Rattle.std.specs.List.{All}
 use Rattle.std.specs.Cmp.{IsEquivalence}
 use Rattle.comemo_base.specs.Answers.{Respects, Agrees}
 use Rattle.comemo_track.specs.Recording.{Recording, Took}
+use Rattle.comemo_track.specs.Sending.{Asks}
 use Rattle.comemo_track.specs.Writing.{Done}
 use Rattle.comemo_track.specs.WritingLaws.{done_both, done_keeps}
 use Rattle.comemo_cache.specs.Meaning.{Meaning, run}
@@ -11,14 +12,14 @@ use Rattle.comemo_cache.specs.Cache.{Entries}
 use Rattle.comemo.specs.Begin.{PendingRun}
 use Rattle.comemo.specs.Finish.{Ends, Finished, Gives}
 use Rattle.comemo.specs.Function.{Fits}
-use Rattle.comemo.specs.FunctionMut.{Lent, Goes, TellsMut, Since, AgreesNow}
+use Rattle.comemo.specs.FunctionMut.{Lent, Goes, TellsMut, TellsWrites, Since, AgreesNow}
 use Rattle.comemo.specs.Recursive.{FinishedAs}
 use Rattle.comemo.specs.RecursiveMut.{Within}
 use Rattle.comemo.specs.declared.pending.Fault.{Fault}
 use Rattle.comemo.specs.declared.pending.Fault.TheVariants as fault
 use Rattle.comemo.specs.declared.pending.Reply.{Reply}
 use Rattle.comemo.proofs.Recorders.{still_agrees, fitted, fits_taken}
-use Rattle.comemo.proofs.RecordersMut.{agrees_alike, agreed_before, goes_on}
+use Rattle.comemo.proofs.RecordersMut.{agrees_alike, agreed_before, goes_on, goes_both}
 
 -- what a run within a run did on, from t to u, it did since it was started
 pub within_goes : {V C R : Type 0} {wrote : V → C → V → Type 0} {w : C → Bool} {same : R → R → Bool} {answers : V → C → R} {agrees : Lent V C R → Type 0} {s t u : Lent V C R} {around : Recording C R} → Within (Done wrote w same answers) agrees s t around → Goes (Done wrote w same answers) t u → Within (Done wrote w same answers) agrees s u around
@@ -34,6 +35,57 @@ within_goes {s = s} {t} {u} a b = record {
 -- where nothing was written before, what was written is what was written since
 pub since_nothing : {V C R : Type 0} (s t : Lent V C R) (P : List C → Type 0) → s.recording.now.writes ≡ [] → Since s t P → P t.recording.now.writes
 since_nothing s t P none k = subst P (sym (k.1 ∙ ap (λ W. W ++ k.0) none)) k.2
+
+module _ {V C R : Type 0} {did : V → V → List C → Type 0} {fits : Recording C R → (C → R) → Type 0} where
+  -- where nothing is done
+  pub writes_nothing : {X : Type 0} (s : Lent V C R) (x : X) {P : X → (C → R) → List C → Type 0} → ((m : C → R) → fits s.recording.now m → P x m []) → TellsWrites did fits s s (Ok x) P
+  writes_nothing s x is = record {
+    goes = record { same_value = refl; same_recording = refl; was_whole = λ w. w; done = λ w start d. d; reached = λ start r. r };
+    before = λ m f. f;
+    told = λ m f. ([], sym (append-nil s.recording.now.writes), is m f);
+    whole = refl;
+    fault = tt;
+  }
+
+  module _ {X : Type 0} {x : X} {s t : Lent V C R} where
+    -- a question writes nothing
+    -- a write writes itself
+    pub wrote : {P : X → (C → R) → Type 0} → TellsMut did fits s t (Ok x) P → (eq : C → C → Bool) (W : List C) → Took eq s.recording.now t.recording.now [] W → TellsWrites did fits s t (Ok x) (λ y m V. V ≡ W)
+    wrote a eq W one = record { goes = a.goes; before = a.before; told = λ m f. (W, one.writes, refl); whole = one.whole; fault = tt }
+
+    module _ {u : Lent V C R} {P : X → (C → R) → List C → Type 0} (a : TellsWrites did fits s t (Ok x) P) where
+      -- two steps in turn write what the first writes, and then what the second does
+      pub writes_both : {Y : Type 0} (r : Result Y Fault) {Q : Y → (C → R) → List C → Type 0} → TellsWrites did fits t u r Q → TellsWrites did fits s u r (λ y m W. (U : List C) × (V : List C) × (W ≡ U ++ V) × P x m U × Q y m V)
+      writes_both (Ok y) b = record {
+        goes = goes_both a.goes b.goes;
+        before = λ m f. a.before m (b.before m f);
+        told = λ m f.
+            let one = a.told m (b.before m f) in
+            let two = b.told m f in
+            (one.0 ++ two.0, two.1 ∙ (ap (λ W. W ++ two.0) one.1 ∙ append_assoc s.recording.now.writes one.0 two.0), (one.0, two.0, refl, one.2, two.2));
+        whole = b.whole ∙ a.whole;
+        fault = tt;
+      }
+      writes_both (Err f) b = record { goes = goes_both a.goes b.goes; before = tt; told = tt; whole = tt; fault = b.fault }
+
+      -- a step that failed, after another
+      pub failed_after : {Y Z : Type 0} (f : Fault) (r : Result Z Fault) {Q : Y → (C → R) → Type 0} {S : Z → (C → R) → List C → Type 0} → (let failed : Result Y Fault = Err f in TellsMut did fits t u failed Q) → IsErrAnd r (λ g. g ≡ f) → TellsWrites did fits s u r S
+      failed_after f (Ok y) b h = absurd h
+      failed_after f (Err g) b e = record { goes = goes_both a.goes b.goes; before = tt; told = tt; whole = tt; fault = λ is. b.fault (sym e ∙ is) }
+
+  -- a question writes nothing
+  pub asked : {s t : Lent V C R} {x : R} {P : R → (C → R) → Type 0} → TellsMut did fits s t (Ok x) P → (eq : C → C → Bool) (same : R → R → Bool) (m : C → R) (call : C) → Asks same m call x (Took eq s.recording.now t.recording.now) → TellsWrites did fits s t (Ok x) (λ y n W. (W ≡ []) × P y n)
+  asked a eq same m call k = record { goes = a.goes; before = a.before; told = λ n f. ([], k.sent.writes, (refl, a.told n f)); whole = k.sent.whole; fault = tt }
+
+  -- what was told tells what follows from it
+  pub writes_as : {X : Type 0} (r : Result X Fault) {s t : Lent V C R} {P Q : X → (C → R) → List C → Type 0} → TellsWrites did fits s t r P → ((x : X) (m : C → R) (W : List C) → fits t.recording.now m → P x m W → Q x m W) → TellsWrites did fits s t r Q
+  writes_as (Ok x) a so = record { goes = a.goes; before = a.before; told = λ m f. let one = a.told m f in (one.0, one.1, so x m one.0 f one.2); whole = a.whole; fault = tt }
+  writes_as (Err f) a so = record { goes = a.goes; before = tt; told = tt; whole = tt; fault = a.fault }
+
+  -- where nothing was written before, an output is right by all that was written
+  pub right_alone : {X : Type 0} (r : Result X Fault) {s t : Lent V C R} {P : X → (C → R) → List C → Type 0} → TellsWrites did fits s t r P → s.recording.now.writes ≡ [] → IfOk r (λ x. (m : C → R) → fits t.recording.now m → P x m t.recording.now.writes)
+  right_alone (Ok x) {s} {t} {P} a none = λ m f. since_nothing s t (P x m) none (a.told m f)
+  right_alone (Err f) a none = tt
 
 abbrev fault_in : {A : Type 0} → Fault → Result A Fault → Fault
 fault_in d (Ok x) = d
@@ -73,11 +125,12 @@ module _ {V K C R O : Type 0} (M : Meaning K C R O) (calls : IsEquivalence M.sam
   taken = subst (λ r. Took M.same_call r u.recording.now gives.given t.recording.now.writes) within.kept gives.are_sent
 
   -- a run within a run that was finished tells the run around it what is right by what it recorded
-  pub within_tells : (key : K) (output : O) → u.recording.ghost_name ≡ s.recording.ghost_name → ((n : C → R) → Fits M.same_call M.same_answer t.recording.now n → M.def key n output t.recording.now.writes) → TellsMut (Done wrote w M.same_answer answers) (Fits M.same_call M.same_answer) s u (Ok output) (λ o n. Since s u (λ writes. M.def key n o writes))
+  pub within_tells : (key : K) (output : O) → u.recording.ghost_name ≡ s.recording.ghost_name → ((n : C → R) → Fits M.same_call M.same_answer t.recording.now n → M.def key n output t.recording.now.writes) → TellsWrites (Done wrote w M.same_answer answers) (Fits M.same_call M.same_answer) s u (Ok output) (λ o n writes. M.def key n o writes)
   within_tells key output place right = record {
     goes = goes_on place (done_both wrote w M.same_answer answers) (ap (λ v. v.ghost_name) value ∙ within.same_value) t.recording.now.writes taken.writes taken.whole (subst (λ v. Done wrote w M.same_answer answers s.value.now v.now t.recording.now.writes) (sym value) (within.done whole));
     before = fitted calls laws (answers s.value.now) (alike s.value.now) gives.given t.recording.now.writes taken given_agreed within.agreed;
     told = λ n f. (t.recording.now.writes, taken.writes, right n (record { whole = whole; respects = f.respects; agrees = (gives.agreeing n f.respects).0 (fits_taken calls laws (answers s.value.now) (alike s.value.now) gives.given t.recording.now.writes taken given_agreed within.agreed n f) }));
+    whole = taken.whole;
     fault = tt;
   }
 
@@ -86,3 +139,14 @@ module _ {V K C R O : Type 0} (M : Meaning K C R O) (calls : IsEquivalence M.sam
   within_agrees all is =
       let still = still_agrees calls laws (answers s.value.now) (alike s.value.now) gives.given t.recording.now.writes taken given_agreed within.agreed is in
       subst (λ v. Agrees M.same_answer (answers v.now) u.recording.now.pairs) (sym value) (agrees_alike laws (answers s.value.now) (answers t.value.now) (done_keeps wrote w M.same_answer answers laws s.value.now t.value.now t.recording.now.writes (within.done whole)) u.recording.now.pairs all still)
+
+-- what follows from a call within a recording of its own, which was empty and whole: what was told holds of the value as it is
+-- then, and so many writes were done on it
+pub writes_now : {V C R X : Type 0} {eq : C → C → Bool} {same : R → R → Bool} {wrote : V → C → V → Type 0} {w : C → Bool} {answers : V → C → R} → ((v : V) → Respects eq same (answers v)) → {s t : Lent V C R} {P : X → (C → R) → List C → Type 0} (r : Result X Fault) → s.recording.now.whole ≡ true → s.recording.now.writes ≡ [] → AgreesNow same answers t → TellsWrites (Done wrote w same answers) (Fits eq same) s t r P → {Q : X → Type 0} → ((x : X) (W : List C) → P x (answers t.value.now) W → Done wrote w same answers s.value.now t.value.now W → Q x) → IfOk r Q
+writes_now {same = same} {wrote} {w} {answers} alike {s} {t} (Ok x) whole none agrees a so =
+    let is = a.whole ∙ whole in
+    let told = a.told (answers t.value.now) (record { whole = is; respects = alike t.value.now; agrees = agrees is }) in
+    let start : Done wrote w same answers s.value.now s.value.now s.recording.now.writes = rw none refl in
+    let done = a.goes.done is s.value.now start in
+    so x told.0 told.2 (subst (λ W. Done wrote w same answers s.value.now t.value.now W) (told.1 ∙ ap (λ U. U ++ told.0) none) done)
+writes_now alike (Err f) whole none agrees a so = tt

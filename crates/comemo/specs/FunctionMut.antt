@@ -54,9 +54,14 @@ module _ {V C R : Type 0} (did : V → V → List C → Type 0) where
     pub told : IfOk r (λ answer. (m : C → R) → fits t.recording.now m → P answer m)
     pub fault : IfErr r (λ f. f ≡ fault.Incomplete → t.recording.now.whole ≡ false)
 
--- the same, where P holds of the answer, of whatever fits, and of the writes that were recorded since
-abbrev pub TellsWrites : {V C R : Type 0} → (V → V → List C → Type 0) → {X : Type 0} → (Recording C R → (C → R) → Type 0) → Lent V C R → Lent V C R → Result X Fault → (X → (C → R) → List C → Type 0) → Type 0
-TellsWrites did fits s t r P = TellsMut did fits s t r (λ x m. Since s t (P x m))
+  -- what a run is told by a call of a function that writes: the same, where P holds of the answer, of whatever fits, and of the
+  -- writes that were recorded since; and where it is answered, nothing was lost
+  pub record TellsWrites {X : Type 0} (fits : Recording C R → (C → R) → Type 0) (s t : Lent V C R) (r : Result X Fault) (P : X → (C → R) → List C → Type 0) : Type 0 where
+    pub goes : Goes s t
+    pub before : OnOk r ((m : C → R) → fits t.recording.now m → fits s.recording.now m)
+    pub told : IfOk r (λ answer. (m : C → R) → fits t.recording.now m → Since s t (P answer m))
+    pub whole : OnOk r (t.recording.now.whole ≡ s.recording.now.whole)
+    pub fault : IfErr r (λ f. f ≡ fault.Incomplete → t.recording.now.whole ≡ false)
 
 -- what stands after a fault of a call of a function that writes: the entries are as they were and the sink was broken off, or a hit
 -- was stopped at a write that was refused

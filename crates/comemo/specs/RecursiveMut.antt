@@ -25,10 +25,13 @@ pub record Within {V C R : Type 0} (did : V → V → List C → Type 0) (agrees
   pub done : t.recording.now.whole ≡ true → did s.value.now t.value.now t.recording.now.writes
   pub reached : Reaches did s.value.now t.value.now
 
--- a run starts with an empty recording that is whole, under a key that is equal to the call's; no kept entry has the key and agrees
-pub record StartsMut {K C R O : Type 0} (M : Meaning K C R O) (es : Entries K C R O) (call : Invocation K C R) (own : K) (began : Recording C R) : Type 0 where
+-- a recording of nothing, which is whole
+pub record IsEmpty {C R : Type 0} (recording : Recording C R) : Type 0 where
+  pub pairs : recording.pairs ≡ []
+  pub writes : recording.writes ≡ []
+  pub whole : recording.whole ≡ true
+
+-- a run starts under a key that is equal to the call's; no kept entry has the key and agrees
+pub record StartsMut {K C R O : Type 0} (M : Meaning K C R O) (es : Entries K C R O) (call : Invocation K C R) (own : K) : Type 0 where
   pub has_key : IsTrue (M.same_key call.key own)
-  pub pairs : began.pairs ≡ []
-  pub writes : began.writes ≡ []
-  pub whole : began.whole ≡ true
   pub none : HasNone M es call

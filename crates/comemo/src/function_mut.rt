@@ -101,6 +101,26 @@ pub struct RecorderMut<'a, 'b, T: Track> {
 }
 
 impl<'a, 'b, T: Track> RecorderMut<'a, 'b, T> {
+    /// A recorder of what is asked of this value and written to it, into this recording.
+    ///
+    /// It takes no memory and constant time. This project's own.
+    pub fn new(
+        alloc: Global,
+        value: &'a mut T,
+        recording: &'b mut Constraint<T::Call, T::Answer>,
+    ) -> Self
+        ensures value { result.value.now ≡ value.old }
+        ensures same_value { result.value.ghost_name ≡ value.entry.ghost_name }
+        ensures recording { result.recording.now ≡ recording.old }
+        ensures same_recording { result.recording.ghost_name ≡ recording.entry.ghost_name }
+    {
+        RecorderMut {
+            alloc,
+            value,
+            recording,
+        }
+    }
+
     /// Asks the value a read, and records the call with its answer.
     ///
     /// It does what `ask` of `Recorder` does, and costs the same. It stands in the place of the methods that comemo's

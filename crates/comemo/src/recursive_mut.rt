@@ -5,7 +5,7 @@ ghost use Rattle.comemo.specs.Called.{HeldReply};
 ghost use Rattle.comemo.specs.Finish.{BreaksOffRun};
 ghost use Rattle.comemo.specs.FunctionMut.{Lent, LawsMut, TellsWrites, IsFailed, lent};
 ghost use Rattle.comemo.specs.Recursive.{OnStart, FinishedAs};
-ghost use Rattle.comemo.specs.RecursiveMut.{OnStarted, Within, StartsMut};
+ghost use Rattle.comemo.specs.RecursiveMut.{IsEmpty, OnStarted, Within, StartsMut};
 ghost use Rattle.comemo_cache.specs.Meaning.{invocation, run};
 ghost use Rattle.comemo_cache.specs.Held.{Held, Leads, Stays};
 ghost use Rattle.comemo_track.specs.InputLaws.{equal_if_one};
@@ -169,11 +169,12 @@ impl<'a, 'b, T: Track> RecorderMut<'a, 'b, T> {
             (λ P W. Took T.Call.eq self.old.recording.now self.new.recording.now P W
             × ⟦<T as Written>⟧.did self.old.value.now self.new.value.now W)
             reply (H.entries cache.new)) (λ _. ⊤)) }
-        ensures run { IfOk result (λ start. OnStart start (λ _. ⊤)
+        ensures begins { OnStarted result (λ _. ⊤) (λ _. IsEmpty self.new.recording.now) }
+        ensures run { OnStarted result (λ _. ⊤)
             (λ inner. Held (H.entries cache.old) (λ es. StartsMut ⟦<G as Meant>⟧.meaning es
-            (invocation key.now (T.answers self.old.value.now) true) inner.own
-            self.new.recording.now) × (self.new.value ≡ self.old.value)
-            × Stays (H.entries cache.old) (H.entries cache.new))) }
+            (invocation key.now (T.answers self.old.value.now) true) inner.own)
+            × (self.new.value ≡ self.old.value)
+            × Stays (H.entries cache.old) (H.entries cache.new)) }
         ensures err { OnErr result (Leads (H.entries cache.old) (H.entries cache.new) (λ es es'.
             IsFailed ⟦<G as Meant>⟧.meaning es
             (invocation key.now (T.answers self.old.value.now) true)

@@ -5,6 +5,6 @@ use Rattle.comemo_samples.specs.declared.notebook.NotebookCall.TheVariants.{Note
 
 -- the notes that draw the marks up to a height, for an owner: the lower marks, the mark itself with its owner, and the lower
 -- marks again
-pub marks : ℕ → ℕ → List NotebookCall
-marks owner 0 = []
+abbrev pub marks : ℕ → ℕ → List NotebookCall
+marks owner zero = []
 marks owner (suc height) = marks owner height ++ Note (suc height) ∷ Note owner ∷ marks owner height

@@ -1,14 +1,18 @@
 //! A function that calls itself and writes.
-ghost use Rattle.std.specs.Prelude.{◌≡◌};
+ghost use Rattle.std.specs.Prelude.{◌≡◌, IfOk};
 ghost use Rattle.std.proofs.Common.{rules};
 ghost use Rattle.comemo.specs.FunctionMut.{TellsWrites, lent};
+ghost use Rattle.comemo.specs.MeaningLaws.{exact_laws};
 ghost use Rattle.comemo_guide.specs.Rulers.{marks};
 ghost use Rattle.comemo_samples.specs.declared.notebook.NotebookCall.TheVariants.{Owner};
 
 use comemo::function::Told;
 use comemo::function_mut::ToldMut;
-use comemo::{Fault, Hold, MemoOfRecursiveMut, RecorderMut, RecursiveMut, Start, Written};
+use comemo::{
+    Constraint, Fault, Hold, MemoOfRecursiveMut, RecorderMut, RecursiveMut, Start, Written,
+};
 use comemo_samples::{Notebook, NotebookCall};
+use std::alloc::Global;
 
 /// Draws the marks of a ruler up to a height into a notebook, each with the notebook's owner.
 pub struct Ruler;
@@ -22,7 +26,8 @@ impl RecursiveMut for Ruler {
 
     ghost means = { λ height m _ writes. writes ≡ marks (m Owner) height };
 
-    ghost laws = { Prim.search rules };
+    ghost laws = { exact_laws (λ x y h. Prim.search rules) (λ x y h. Prim.search rules)
+        (λ x y h. Prim.search rules) (λ a b h. Prim.search rules) };
 }
 
 /// Draws the marks up to a height, which are kept: the lower ones are drawn once by a run, and again by a hit.
@@ -67,4 +72,21 @@ fn draw<H: Hold<MemoOfRecursiveMut<Ruler>>>(
     book.write(NotebookCall::Note(height))?;
     book.write(NotebookCall::Note(owner))?;
     ruled(cache, height - 1, book)
+}
+
+/// Draws the marks up to a height into a notebook, by the marks that the cache keeps.
+///
+/// After a fault the notebook has a beginning of them.
+pub fn rule<H: Hold<MemoOfRecursiveMut<Ruler>>>(
+    alloc: Global,
+    cache: &mut H,
+    height: u64,
+    book: &mut Notebook,
+) -> Result<(), Fault>
+    ensures { IfOk result (λ _. ⟦<Notebook as Written>⟧.did book.old book.new
+        (marks book.new.owner height)) }
+{
+    let mut recording = Constraint::new(alloc);
+    let mut recorder = RecorderMut::new(alloc, book, &mut recording);
+    ruled(cache, height, &mut recorder)
 }

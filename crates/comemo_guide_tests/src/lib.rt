@@ -6,4 +6,6 @@ mod examples;
 #[cfg(test)]
 mod guide;
 #[cfg(test)]
+mod recursion;
+#[cfg(test)]
 mod writing;

@@ -2,7 +2,7 @@ use Rattle.std.proofs.Common.{refl, Err, Ok, sym, ap, subst, ◌∙◌}
 use Rattle.comemo_track.specs.WritingLaws.{done_both}
 use Rattle.comemo.specs.FunctionMut.{lent}
 use Rattle.comemo_cache.proofs.Holding.{some_led, leads_map}
-use Rattle.comemo.proofs.RecordersMut.{tells_failed}
+use Rattle.comemo.proofs.RecordersMut.{writes_failed}
 use Rattle.comemo.proofs.RecursionsMut.{within_tells, within_agrees, finished_with, incomplete_as, fault_on}
 use Rattle.comemo.proofs.function_mut.RecorderMut.finish.Goals as goal
 
@@ -31,7 +31,7 @@ returns-in-Ok-clause-finished g c =
 
 pub returns-in-Err-clause-tells : goal.returns-in-Err-clause-tells
 returns-in-Err-clause-tells g c =
-    λ s within. tells_failed within.same_value within.same_recording (done_both g.T.Track.wrote g.T.Call.Call.is_write g.T.Answer.PartialEq.eq g.T.Track.answers) within.reached c.in-Err.ensures.err.1.is_broken.spoiled.whole (Err c.in-Err.fault) refl
+    λ s within. writes_failed within.same_value within.same_recording (done_both g.T.Track.wrote g.T.Call.Call.is_write g.T.Answer.PartialEq.eq g.T.Track.answers) within.reached c.in-Err.ensures.err.1.is_broken.spoiled.whole (Err c.in-Err.fault) refl
 
 pub returns-in-Err-clause-incomplete : goal.returns-in-Err-clause-incomplete
 returns-in-Err-clause-incomplete g c = incomplete_as _ _ _ c.args.ran c.in-Err.fault (rw c.replace-recording.ensures.value at c.in-Err.ensures.incomplete)

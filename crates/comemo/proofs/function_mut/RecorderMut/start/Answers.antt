@@ -4,7 +4,7 @@ use Rattle.comemo_track.specs.WritingLaws.{done_both}
 use Rattle.comemo.specs.declared.pending.How.TheVariants as how
 use Rattle.comemo_cache.proofs.Holding.{some_held, some_led, led_from, leads_same, leads_map, held_map}
 use Rattle.comemo.proofs.Calls.{run_seen, reply_by_done_hit, stopped_as, broke_at_begin, on_fault}
-use Rattle.comemo.proofs.RecordersMut.{tells_called, tells_failed, called_agrees}
+use Rattle.comemo.proofs.RecordersMut.{tells_called, writes_failed, called_agrees}
 use Rattle.comemo.proofs.function_mut.RecorderMut.start.Goals as goal
 
 pub returns-in-Ok-Hit-clause-agrees : goal.returns-in-Ok-Hit-clause-agrees
@@ -27,7 +27,7 @@ returns-in-Ok-Hit-clause-hit g c =
 pub returns-in-Err-clause-tells : goal.returns-in-Err-clause-tells
 returns-in-Err-clause-tells g c =
     let err = rw c.in-Err.is at c.begin.ensures.err in
-    tells_failed refl refl (done_both g.T.Track.wrote g.T.Call.Call.is_write g.T.Answer.PartialEq.eq g.T.Track.answers) (c.begin.ensures.reached.0, c.begin.ensures.reached.1.0) (on_fault c.in-Err.fault err (λ memory. (some_held (g.H.Hold.entries c.args.cache.now) _ memory.2).1.is_broken.spoiled.whole) (λ stop. (some_led (g.H.Hold.entries c.args.cache.now) (g.H.Hold.entries c.begin.new.cache) _ stop).2.1.is_spoiled.spoiled.whole)) (Err c.in-Err.fault) refl
+    writes_failed refl refl (done_both g.T.Track.wrote g.T.Call.Call.is_write g.T.Answer.PartialEq.eq g.T.Track.answers) (c.begin.ensures.reached.0, c.begin.ensures.reached.1.0) (on_fault c.in-Err.fault err (λ memory. (some_held (g.H.Hold.entries c.args.cache.now) _ memory.2).1.is_broken.spoiled.whole) (λ stop. (some_led (g.H.Hold.entries c.args.cache.now) (g.H.Hold.entries c.begin.new.cache) _ stop).2.1.is_spoiled.spoiled.whole)) (Err c.in-Err.fault) refl
 
 pub returns-in-Err-clause-err : goal.returns-in-Err-clause-err
 returns-in-Err-clause-err g c =
@@ -49,12 +49,18 @@ returns-clause-tells g c =
       reached = ([], run.1.0);
     }
 
+pub returns-clause-begins : goal.returns-clause-begins
+returns-clause-begins g c =
+    let run = rw (c.in-Ok-Run.is, c.in-Ok-Run.field-0-is) at c.begin.ensures.run in
+    let is = run_seen c.pending.view_is (some_held (g.H.Hold.entries c.args.cache.now) _ run.0).1 in
+    rw c.replace-around.ensures.after (record { pairs = is.pairs; writes = is.writes; whole = is.whole })
+
 pub returns-clause-run : goal.returns-clause-run
 returns-clause-run g c =
     let run = rw (c.in-Ok-Run.is, c.in-Ok-Run.field-0-is) at c.begin.ensures.run in (
-      rw c.replace-around.ensures.after (held_map (g.H.Hold.entries c.args.cache.now) _ _ (λ es began.
+      held_map (g.H.Hold.entries c.args.cache.now) _ _ (λ es began.
           let is = run_seen c.pending.view_is began in
-          record { has_key = is.has_key; pairs = is.pairs; writes = is.writes; whole = is.whole; none = is.none refl }) run.0),
+          record { has_key = is.has_key; none = is.none refl }) run.0,
       search (rules, run.1.0),
       run.3,
     )
