@@ -49,7 +49,7 @@ for_memory fault.Memory P is never = refl
 for_memory fault.Write P is never = absurd (never is)
 for_memory fault.Incomplete P is never = absurd is
 
-fault_as : (f : Fault) (P Q X Y : Type 0) → OnFault f P Q → (P → X) → (Q → Y) → OnFault f X Y
+pub fault_as : (f : Fault) (P Q X Y : Type 0) → OnFault f P Q → (P → X) → (Q → Y) → OnFault f X Y
 fault_as fault.Memory P Q X Y is p q = p is
 fault_as fault.Write P Q X Y is p q = q is
 fault_as fault.Incomplete P Q X Y is p q = is

@@ -63,7 +63,11 @@ module _ {V C R : Type 0} (did : V → V → List C → Type 0) where
     pub whole : OnOk r (t.recording.now.whole ≡ s.recording.now.whole)
     pub fault : IfErr r (λ f. f ≡ fault.Incomplete → t.recording.now.whole ≡ false)
 
+-- what stands after a hit that was stopped at a write that was refused
+abbrev pub WasStopped : {K C R O : Type 0} → Meaning K C R O → Entries K C R O → Invocation K C R → (List C → Type 0) → (List (C × R) → List C → Type 0) → Entries K C R O → Type 0
+WasStopped M es call done spoiled es' = Touches M es call es' × IsStopped M es call done spoiled
+
 -- what stands after a fault of a call of a function that writes: the entries are as they were and the sink was broken off, or a hit
--- was stopped at a write that was refused
+-- was stopped
 abbrev pub IsFailed : {K C R O : Type 0} → Meaning K C R O → Entries K C R O → Invocation K C R → (List C → Type 0) → (List (C × R) → Type 0) → (List (C × R) → List C → Type 0) → Entries K C R O → Type 0
-IsFailed M es call done broken spoiled es' = ((es' ≡ es) × BrokeOff M.same_answer call.answers broken) ⊎ (Touches M es call es' × IsStopped M es call done spoiled)
+IsFailed M es call done broken spoiled es' = ((es' ≡ es) × BrokeOff M.same_answer call.answers broken) ⊎ WasStopped M es call done spoiled es'

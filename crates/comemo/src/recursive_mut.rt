@@ -2,8 +2,9 @@
 ghost use Rattle.std.specs.Prelude.{◌≡◌, ◌↔◌, [], true, false, List, IsTrue, refl, IfOk, IfErr, OnErr, ⊤};
 ghost use Rattle.std.proofs.Common.{◌∙◌};
 ghost use Rattle.comemo.specs.Called.{HeldReply};
-ghost use Rattle.comemo.specs.Finish.{BreaksOffRun};
-ghost use Rattle.comemo.specs.FunctionMut.{Lent, LawsMut, TellsWrites, IsFailed, lent};
+ghost use Rattle.comemo.specs.Begun.{OnFault};
+ghost use Rattle.comemo.specs.Finish.{BreaksOffRun, BrokeOff};
+ghost use Rattle.comemo.specs.FunctionMut.{Lent, LawsMut, TellsWrites, WasStopped, lent};
 ghost use Rattle.comemo.specs.Recursive.{OnStart, FinishedAs};
 ghost use Rattle.comemo.specs.RecursiveMut.{IsEmpty, OnStarted, Within, StartsMut};
 ghost use Rattle.comemo_cache.specs.Meaning.{invocation, run};
@@ -144,8 +145,9 @@ impl<'a, 'b, T: Track> RecorderMut<'a, 'b, T> {
     /// does its writes again, or a run to be done.
     ///
     /// On a hit this recorder takes what the entry rests on, and its writes. For a run it records what the run does, from
-    /// nothing on, until the run is finished; what it had recorded is kept apart. Every fault spoils the recording; a
-    /// write that the value refused leaves those before it done. It costs what `begin` costs, with a clone of the key, also
+    /// nothing on, until the run is finished; what it had recorded is kept apart. Every fault spoils the recording:
+    /// after `Memory` the cache and the value are as they were, after `Write` the value refused a write of a hit, and those
+    /// before it are done. It costs what `begin` costs, with a clone of the key, also
     /// for a hit. This project's own: the first half of a call of a function under comemo's `#[memoize]`.
     pub fn start<G: Memo<Call = T::Call, Answer = T::Answer>, H: Hold<G>>(
         &mut self,
@@ -175,13 +177,17 @@ impl<'a, 'b, T: Track> RecorderMut<'a, 'b, T> {
             (invocation key.now (T.answers self.old.value.now) true) inner.own)
             × (self.new.value ≡ self.old.value)
             × Stays (H.entries cache.old) (H.entries cache.new)) }
-        ensures err { OnErr result (Leads (H.entries cache.old) (H.entries cache.new) (λ es es'.
-            IsFailed ⟦<G as Meant>⟧.meaning es
+        ensures err { IfErr result (λ fault. OnFault fault
+            ((self.new.value ≡ self.old.value)
+            × Stays (H.entries cache.old) (H.entries cache.new)
+            × BrokeOff T.Answer.eq (T.answers self.old.value.now)
+            (BreaksOff (Took T.Call.eq) Spoiled self.old.recording.now self.new.recording.now))
+            (Leads (H.entries cache.old) (H.entries cache.new) (λ es es'.
+            WasStopped ⟦<G as Meant>⟧.meaning es
             (invocation key.now (T.answers self.old.value.now) true)
             (⟦<T as Written>⟧.did self.old.value.now self.new.value.now)
-            (BreaksOff (Took T.Call.eq) Spoiled self.old.recording.now self.new.recording.now)
             (SpoiledAfter (Took T.Call.eq) Spoiled self.old.recording.now self.new.recording.now)
-            es')) }
+            es'))) }
     {
         let alloc = self.alloc;
         let mut input = LentKeyMut {

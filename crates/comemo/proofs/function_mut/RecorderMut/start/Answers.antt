@@ -1,9 +1,9 @@
-use Rattle.std.proofs.Common.{rules, refl, [], inl, inr, Err, ◌∙◌}
+use Rattle.std.proofs.Common.{rules, refl, [], Err, ◌∙◌}
 use Rattle.comemo_track.specs.Writing.{Done}
 use Rattle.comemo_track.specs.WritingLaws.{done_both}
 use Rattle.comemo.specs.declared.pending.How.TheVariants as how
-use Rattle.comemo_cache.proofs.Holding.{some_held, some_led, led_from, leads_same, leads_map, held_map}
-use Rattle.comemo.proofs.Calls.{run_seen, reply_by_done_hit, stopped_as, broke_at_begin, on_fault}
+use Rattle.comemo_cache.proofs.Holding.{some_held, some_led, led_from, leads_map, held_map}
+use Rattle.comemo.proofs.Calls.{run_seen, reply_by_done_hit, stopped_as, broke_at_begin, on_fault, fault_as}
 use Rattle.comemo.proofs.RecordersMut.{tells_called, writes_failed, called_agrees}
 use Rattle.comemo.proofs.function_mut.RecorderMut.start.Goals as goal
 
@@ -30,11 +30,9 @@ returns-in-Err-clause-tells g c =
     writes_failed refl refl (done_both g.T.Track.wrote g.T.Call.Call.is_write g.T.Answer.PartialEq.eq g.T.Track.answers) (c.begin.ensures.reached.0, c.begin.ensures.reached.1.0) (on_fault c.in-Err.fault err (λ memory. (some_held (g.H.Hold.entries c.args.cache.now) _ memory.2).1.is_broken.spoiled.whole) (λ stop. (some_led (g.H.Hold.entries c.args.cache.now) (g.H.Hold.entries c.begin.new.cache) _ stop).2.1.is_spoiled.spoiled.whole)) (Err c.in-Err.fault) refl
 
 pub returns-in-Err-clause-err : goal.returns-in-Err-clause-err
-returns-in-Err-clause-err g c =
-    let err = rw c.in-Err.is at c.begin.ensures.err in
-    on_fault c.in-Err.fault err
-    (λ memory. leads_same (g.H.Hold.entries c.args.cache.now) (g.H.Hold.entries c.begin.new.cache) [] _ memory.0 (λ es. inl (refl, broke_at_begin (some_held (g.H.Hold.entries c.args.cache.now) _ memory.2).1)))
-    (λ stop. leads_map (g.H.Hold.entries c.args.cache.now) (g.H.Hold.entries c.begin.new.cache) _ _ (λ es es' s. inr (s.0, stopped_as s.1 s.1.are_done.0)) stop)
+returns-in-Err-clause-err g c = fault_as c.in-Err.fault _ _ _ _ (rw c.in-Err.is at c.begin.ensures.err)
+    (λ memory. (search (rules, memory.1.0), memory.0, broke_at_begin (some_held (g.H.Hold.entries c.args.cache.now) _ memory.2).1))
+    (λ stop. leads_map (g.H.Hold.entries c.args.cache.now) (g.H.Hold.entries c.begin.new.cache) _ _ (λ es es' s. (s.0, stopped_as s.1 s.1.are_done.0)) stop)
 
 pub returns-clause-tells : goal.returns-clause-tells
 returns-clause-tells g c =
