@@ -1,5 +1,5 @@
 -- What a view that keeps what it was answered is, and that what it keeps is true.
-use Rattle.std.specs.Prelude.{◌≡◌, Bool, false, List, IsTrue, Some, refl}
+use Rattle.std.specs.Prelude.{◌≡◌, Bool, false, List, ◌∷◌, Option, None, IsTrue, Some, refl}
 use Rattle.std.specs.Map.{lookup}
 use Rattle.std.specs.Coded.{Coded, code_by, coded×, coded_list}
 use Rattle.comemo_base.specs.Sequence.{held}
@@ -8,6 +8,11 @@ use Rattle.comemo_base.specs.Sequence.{held}
 pub record Answered (V C R : Type 0) : Type 0 where
   pub value : V
   pub known : List (C × R)
+
+-- the first pair, if there is one, and those that came after it
+abbrev pub known_of : {P : Type 0} → Option P → List P → List P
+known_of None ps = ps
+known_of (Some p) ps = p ∷ ps
 
 -- such a view is coded as the pair of its fields, by which a proof tells two apart
 abbrev pub answered_code : {V C R : Type 0} → Coded V → Coded C → Coded R → Coded (Answered V C R)

@@ -20,28 +20,33 @@ use std::marker::Model;
 /// value isn't asked again.
 ///
 /// Contracts see it as the value and the pairs that it knows, of which each is the value's answer to a read. It is for
-/// a value whose answers are dear to give: a look-up in its table hashes the call and clones the answer. It keeps its
-/// pairs in a `HashMap`, which takes memory with the first of them; where there is none for a pair, it goes without. It
-/// has to be let go before its value changes. comemo's `Tracked` with its accelerator, which keeps hashes of answers
-/// and is shared by the copies of a view.
+/// a value whose answers are dear to give: a look-up in its table hashes the call and clones the answer. It has room for
+/// one pair, and keeps the others in a `HashMap`, which takes memory with the second question; where there is none for a
+/// pair, it goes without. It has to be let go before its value changes. comemo's `Tracked` with its accelerator, which
+/// keeps hashes of answers and is shared by the copies of a view.
 #[derive(Drop)]
 pub struct Accelerated<'a, T: Track> {
     pub(crate) value: &'a T,
-    // What the value was asked so far, and answered.
+    // What the value was asked first, and answered.
+    pub(crate) first: Option<(T::Call, T::Answer)>,
+    // What it was asked after that, and answered.
     pub(crate) table: HashMap<T::Call, T::Answer>,
 }
 
 impl<'a, T: Track> Model for Accelerated<'a, T> {
-    ghost use Rattle.comemo_track.specs.Answered.{Answered, answered_code, IsAnswered};
+    ghost use Rattle.comemo_track.specs.Answered.{Answered, answered_code, IsAnswered, known_of};
 
     ghost Value = { Answered T T.Call T.Answer };
 
     ghost coded = { answered_code T.code T.Call.code T.Answer.code };
 
-    ghost view = { λ s. record { value = s.value.now; known = s.table.entries } };
+    ghost view = { λ s. record {
+      value = s.value.now;
+      known = known_of s.first s.table.entries;
+    } };
 
     ghost invariant = { λ s. IsAnswered T.Call.eq T.Call.is_write T.Answer.eq
-        (T.answers s.value.now) s.table.entries };
+        (T.answers s.value.now) (known_of s.first s.table.entries) };
 }
 
 impl<'a, T: Track> Tracked<'a, T> {
@@ -55,6 +60,7 @@ impl<'a, T: Track> Tracked<'a, T> {
     {
         Accelerated {
             value: self.value,
+            first: None,
             table: HashMap::new(alloc),
         }
     }
@@ -95,6 +101,20 @@ impl<'a, T: Track> Accelerated<'a, T> {
         ensures right { IfSome result
             (λ answer. IsTrue (T.Answer.eq (T.answers self.now.value call.now) answer.now)) }
     {
+        // A proof knows that what is kept is true where a field is used.
+        let _ = &self.value;
+        self.kept(call)
+    }
+
+    /// What it keeps of a call, in the first pair or in the table.
+    fn kept(&self, call: &T::Call) -> Option<&T::Answer>
+        ensures { option_copied result ≡ lookup (T.Call.eq call.now) self.now.known }
+    {
+        if let Some((first, answer)) = &self.first {
+            if call == first {
+                return Some(answer);
+            }
+        }
         self.table.get(call)
     }
 
@@ -129,6 +149,10 @@ impl<'a, T: Track> Accelerated<'a, T> {
     {
         let key = call.clone()?;
         let kept = answer.clone()?;
+        if self.first.is_none() {
+            self.first = Some((key, kept));
+            return Ok(());
+        }
         self.table.insert(key, kept)?;
         Ok(())
     }
