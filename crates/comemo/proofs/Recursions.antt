@@ -1,5 +1,5 @@
 -- For the authors of functions that call themselves: what their calls tell, and what a recorder keeps on the way.
-use Rattle.std.proofs.Common.{◌≡◌, ◌∙◌, Bool, true, false, ◌↔◌, List, [], ◌++◌, Result, Ok, Err, IfErr, IsErrAnd, refl, sym, ap, subst}
+use Rattle.std.proofs.Common.{◌≡◌, ◌∙◌, Bool, true, false, ◌↔◌, List, [], ◌++◌, Result, Ok, Err, IfOk, IfErr, IsErrAnd, refl, sym, ap, subst}
 use Rattle.std.specs.Cmp.{IsEquivalence}
 use Rattle.comemo_base.specs.Answers.{Respects, Agrees}
 use Rattle.comemo_track.specs.Recording.{Recording, Took}
@@ -50,10 +50,11 @@ module _ {V C R : Type 0} {fits : Recording C R → (C → R) → Type 0} {X Y :
   }
 
 -- what a recorder that had lost nothing was told holds of the answers of its value, as it was seen at the end
-pub own_now : {V C R X : Type 0} {eq : C → C → Bool} {same : R → R → Bool} {s t seen : Recorded V C R} {P : X → (C → R) → Type 0} {x : X} (answers : V → C → R) → ((v : V) → Respects eq same (answers v)) → s.recording.whole ≡ true → seen ≡ t → IsRecorded same (answers seen.value) seen.recording → TellsOwn (Fits eq same) s t (Ok x) P → P x (answers s.value)
-own_now {eq = eq} {same = same} {s = s} {t = t} {P = P} {x = x} answers alike w is kept a =
+pub own_now : {V C R X : Type 0} {eq : C → C → Bool} {same : R → R → Bool} {s t seen : Recorded V C R} {P : X → (C → R) → Type 0} (r : Result X Fault) (answers : V → C → R) → ((v : V) → Respects eq same (answers v)) → s.recording.whole ≡ true → seen ≡ t → IsRecorded same (answers seen.value) seen.recording → TellsOwn (Fits eq same) s t r P → IfOk r (λ x. P x (answers s.value))
+own_now {eq = eq} {same = same} {s = s} {t = t} {P = P} (Ok x) answers alike w is kept a =
     let agrees : IsRecorded same (answers t.value) t.recording = subst (λ u. IsRecorded same (answers u.value) u.recording) is kept in
     subst (λ v. P x (answers v)) a.same_value (a.told (answers t.value) (record { whole = a.whole ∙ w; respects = alike t.value; agrees = agrees.agrees (a.whole ∙ w) }))
+own_now (Err f) answers alike w is kept a = tt
 
 module _ {K C R O : Type 0} (M : Meaning K C R O) (calls : IsEquivalence M.same_call) (answers : IsEquivalence M.same_answer) (m : C → R) (respects : Respects M.same_call M.same_answer m) {V : Type 0} {s t : Recorded V C R} (before : s.recording.whole ≡ true → Agrees M.same_answer m s.recording.pairs) (pairs : List (C × R)) (writes : List C) (agrees : Agrees M.same_answer m pairs) (gives : Gives M (Took M.same_call s.recording t.recording) pairs writes) where
   -- a call that rests on pairs with which the present answers agree, and which went to the recorder, tells what is right by these

@@ -1,5 +1,5 @@
 -- What a function that calls itself tells the run around it, and how its calls start and finish.
-use Rattle.std.specs.Prelude.{◌≡◌, true, List, IsTrue, [], Result, IfOk, OnOk, IfErr}
+use Rattle.std.specs.Prelude.{◌≡◌, true, List, IsTrue, [], Result, Ok, Err, IfOk, OnOk, IfErr}
 use Rattle.comemo_track.specs.Recording.{Recording}
 use Rattle.comemo_cache.specs.Meaning.{Meaning, Invocation, Run}
 use Rattle.comemo_cache.specs.Cache.{Entries, HasNone}
@@ -16,6 +16,12 @@ use Rattle.comemo.specs.declared.recursive.Start.TheVariants.{Hit, Run as Begins
 abbrev pub OnStart : {O I : Type 0} → Start O I → (O → Type 0) → (I → Type 0) → Type 0
 OnStart (Hit output) P Q = P output
 OnStart (Begins run) P Q = Q run
+
+-- the first of a call that gave an output, or a fault, the second of a run that started
+abbrev pub OnStarted : {O I : Type 0} → Result (Start O I) Fault → (Result O Fault → Type 0) → (I → Type 0) → Type 0
+OnStarted (Ok (Hit output)) P Q = P (Ok output)
+OnStarted (Ok (Begins run)) P Q = Q run
+OnStarted (Err fault) P Q = P (Err fault)
 
 -- what a function tells a run by a call, which took its recorder from s to t: of the same value, where it is answered, nothing was
 -- lost, what fits the recording fitted it before, and P holds of the answer and of whatever fits; and it never says that the

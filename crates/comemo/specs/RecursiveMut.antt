@@ -1,19 +1,10 @@
 -- What a function that calls itself and writes tells, and how its calls start and finish.
-use Rattle.std.specs.Prelude.{◌≡◌, true, List, IsTrue, [], Result, Ok, Err}
+use Rattle.std.specs.Prelude.{◌≡◌, true, List, IsTrue, []}
 use Rattle.comemo_track.specs.Recording.{Recording}
 use Rattle.comemo_cache.specs.Meaning.{Meaning, Invocation}
 use Rattle.comemo_cache.specs.Cache.{Entries, HasNone}
 use Rattle.comemo.specs.Begin.{Reaches}
 use Rattle.comemo.specs.FunctionMut.{Lent}
-use Rattle.comemo.specs.declared.pending.Fault.{Fault}
-use Rattle.comemo.specs.declared.recursive.Start.{Start}
-use Rattle.comemo.specs.declared.recursive.Start.TheVariants.{Hit, Run as Begins}
-
--- the first of a call that gave an output, or a fault, the second of a run that started
-abbrev pub OnStarted : {O I : Type 0} → Result (Start O I) Fault → (Result O Fault → Type 0) → (I → Type 0) → Type 0
-OnStarted (Ok (Hit output)) P Q = P (Ok output)
-OnStarted (Ok (Begins run)) P Q = Q run
-OnStarted (Err fault) P Q = P (Err fault)
 
 -- a run was started by a recorder that was lent s, and has come to t: what it recorded stands in the place of what the recorder had
 -- recorded, which is kept apart. While nothing is lost of its recording, its writes led from the value as it was to the value as it is

@@ -6,7 +6,7 @@ ghost use Rattle.comemo_cache.specs.Meaning.{reading, invocation, run};
 ghost use Rattle.comemo.specs.MeaningLaws.{none_alike};
 ghost use Rattle.comemo_cache.specs.Held.{Held, Leads, Stays};
 ghost use Rattle.comemo.specs.Function.{Laws};
-ghost use Rattle.comemo.specs.Recursive.{TellsOwn, OnStart, Starts, FinishedAs};
+ghost use Rattle.comemo.specs.Recursive.{TellsOwn, OnStart, OnStarted, Starts, FinishedAs};
 ghost use Rattle.comemo_track.specs.InputLaws.{equal_if_one};
 
 use crate::function::{Recorder, Told};
@@ -168,8 +168,8 @@ impl<'a, T: Track> Recorder<'a, T> {
         cache: &mut H,
         key: &G::Key,
     ) -> Result<Start<G::Out, Inner<'a, G::Key, T>>, Fault>
-        ensures tells { TellsOwn ⟦<T as Told>⟧.fits self.old self.new result
-            (λ start m. OnStart start (λ output. G.means key.now m output) (λ _. ⊤)) }
+        ensures tells { OnStarted result (λ reply. TellsOwn ⟦<T as Told>⟧.fits
+            self.old self.new reply (λ output m. G.means key.now m output)) (λ _. ⊤) }
         ensures hit { IfOk result (λ start. OnStart start
             (λ output. (reply : Reply G.Out) × (reply.output ≡ output) × (reply.how ≡ How.Hit)
             × HeldReply ⟦<G as Meant>⟧.meaning (invocation key.now (T.answers self.old.value) true)

@@ -10,7 +10,7 @@ ghost use Rattle.comemo_sheet.specs.ValueLaws.{range_alike};
 use crate::sheet::{Content, Sheet, SheetCall};
 use crate::value::{Value, sum};
 use comemo::function::Told;
-use comemo::{CacheData, Fault, MemoOfRecursive, Recorder, Recursive, Start};
+use comemo::{CacheData, Fault, Hold, MemoOfRecursive, Recorder, Recursive, Start};
 
 /// The cells of these names, with the limit down to which their values go.
 #[derive(Clone, Drop, Debug, PartialEq, Eq, Hash)]
@@ -44,7 +44,7 @@ impl Recursive for RangeTotal {
     } };
 }
 
-/// What both functions keep. The first is a cache of `valued` too, which means the same.
+/// What both functions keep, by caches of one's own. The first is a cache of `valued` too, which means the same.
 pub type Kept = (
     CacheData<MemoOfRecursive<Value>>,
     CacheData<MemoOfRecursive<RangeTotal>>,
@@ -52,8 +52,8 @@ pub type Kept = (
 
 /// The value of the cell of a name, kept, by the totals of ranges, by cells down to a limit.
 #[cycle(ranging)]
-pub fn ranged(
-    kept: &mut Kept,
+pub fn ranged<H: Hold<MemoOfRecursive<Value>>, G: Hold<MemoOfRecursive<RangeTotal>>>(
+    kept: &mut (H, G),
     name: String,
     limit: u64,
     of: &mut Recorder<'_, Sheet>,
@@ -83,8 +83,8 @@ pub fn ranged(
 
 /// The total of a range, kept, by the values of its cells.
 #[cycle(ranging)]
-pub fn range_total(
-    kept: &mut Kept,
+pub fn range_total<H: Hold<MemoOfRecursive<Value>>, G: Hold<MemoOfRecursive<RangeTotal>>>(
+    kept: &mut (H, G),
     range: Range,
     of: &mut Recorder<'_, Sheet>,
 ) -> Result<Option<i64>, Fault>

@@ -9,7 +9,7 @@ ghost use Rattle.comemo_sheet.specs.ValueLaws.{value_alike};
 use crate::row::add;
 use crate::sheet::{Sheet, SheetCall};
 use comemo::function::Told;
-use comemo::{CacheData, Fault, MemoOfRecursive, Recorder, Recursive, Start, Track};
+use comemo::{Fault, Hold, MemoOfRecursive, Recorder, Recursive, Start, Track};
 use std::alloc::Global;
 
 /// The value of a cell: the number that stands there, or the sum of the values of the cells whose names do.
@@ -44,8 +44,8 @@ pub fn sum(total: Option<i64>, value: Option<i64>) -> Option<i64>
 }
 
 /// The value of the cell of a name, kept, by cells down to a limit.
-pub fn valued(
-    cache: &mut CacheData<MemoOfRecursive<Value>>,
+pub fn valued<H: Hold<MemoOfRecursive<Value>>>(
+    cache: &mut H,
     name: String,
     limit: u64,
     of: &mut Recorder<'_, Sheet>,
@@ -71,9 +71,9 @@ pub fn valued(
 }
 
 /// The value of the cell of a name in a sheet as it is, by cells down to a limit.
-pub fn value_now(
+pub fn value_now<H: Hold<MemoOfRecursive<Value>>>(
     alloc: Global,
-    cache: &mut CacheData<MemoOfRecursive<Value>>,
+    cache: &mut H,
     sheet: &Sheet,
     name: String,
     limit: u64,
@@ -81,6 +81,5 @@ pub fn value_now(
     ensures { IfOk result (λ value. value ≡ value_of (cell_answer sheet.now.cells) limit name) }
 {
     let mut recorder = Recorder::new(alloc, sheet.track(alloc));
-    let value = valued(cache, name, limit, &mut recorder)?;
-    Ok(value)
+    valued(cache, name, limit, &mut recorder)
 }

@@ -22,11 +22,8 @@ use Rattle.comemo_sheet.proofs.range.+ranging.Goals as goal
 by_content : (m : SheetCall → Content) → Respects call.ghosts.eq content.ghosts.eq m → (less : ℕ) (name own : String Global) (told : Content) (value : Option ℤ) → string_bytes name ≡ string_bytes own → IsTrue (content.ghosts.eq (m (Cell own)) told) → value ≡ sum_of (value_of m less) (Some (number_in told)) (names_in told) → value ≡ value_of m (suc less) name
 by_content m r less name own told value same h is = is ∙ alike_of_told m r (λ x. sum_of (value_of m less) (Some (number_in x)) (names_in x)) (sum_alike (value_of m less) (value_alike m r less)) (Cell own) (Cell name) told (equal_of_bytes own name same) h
 
-pub range_total-returns-in-Hit : goal.range_total-returns-in-Hit
-range_total-returns-in-Hit t c = own_as (rw c.in-Hit.is at c.in_ok-total.ensures.tells) (λ m f h. h)
-
 pub range_total-loop-name-preserved : goal.range_total-loop-name-preserved
-range_total-loop-name-preserved t c = (
+range_total-loop-name-preserved g t c = (
   c.loop-name.invariant.0,
   own_then c.loop-name.invariant.1 c.in_ok-value.ensures (λ m f before told.
       let value : value_of m c.args.range.limit c.name-item.result ≡ c.in_ok-value.value = value_alike m f.respects c.args.range.limit c.name-item.result c.in_ok-clone.field-0 (equal_of_bytes c.name-item.result c.in_ok-clone.field-0 (search rules)) ∙ sym told in
@@ -34,16 +31,10 @@ range_total-loop-name-preserved t c = (
 )
 
 pub range_total-finish-requires-clause-right : goal.range_total-finish-requires-clause-right
-range_total-finish-requires-clause-right t c = λ m f. search (rules, take_all c.loop-name.name-index c.deref-name-items.result.now c.loop-name-test.false, c.deref-name-items.ensures, c.loop-name.invariant.1.told m f)
-
-pub range_total-returns : goal.range_total-returns
-range_total-returns t c = let h : c.start.new.self ≡ c.args.of.now = search rules in rw h at c.finish.ensures.tells
-
-pub ranged-returns-in-Hit : goal.ranged-returns-in-Hit
-ranged-returns-in-Hit t c = own_as (rw c.in-Hit.is at c.in_ok-value.ensures.tells) (λ m f h. h)
+range_total-finish-requires-clause-right g t c = λ m f. search (rules, take_all c.loop-name.name-index c.deref-name-items.result.now c.loop-name-test.false, c.deref-name-items.ensures, c.loop-name.invariant.1.told m f)
 
 pub ranged-finish-requires-clause-right : goal.ranged-finish-requires-clause-right
-ranged-finish-requires-clause-right t c = λ m f.
+ranged-finish-requires-clause-right g t c = λ m f.
     let less = c.args.limit - 1 in
     let deep : suc less ≡ c.args.limit = omega (arith, c.if-limit-eq0.false) in
     let same : string_bytes c.args.name ≡ string_bytes c.in_ok-clone.field-0 = search rules in
@@ -58,4 +49,7 @@ ranged-finish-requires-clause-right t c = λ m f.
     ])
 
 pub ranged-returns : goal.ranged-returns
-ranged-returns t c = let h : c.start.new.self ≡ c.args.of.now = search rules in rw h at c.finish.ensures.tells
+ranged-returns g t c = let h : c.start.new.self ≡ c.args.of.now = search rules in rw h at c.finish.ensures.tells
+
+pub range_total-returns : goal.range_total-returns
+range_total-returns g t c = let h : c.start.new.self ≡ c.args.of.now = search rules in rw h at c.finish.ensures.tells

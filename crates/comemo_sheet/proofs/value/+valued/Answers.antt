@@ -13,11 +13,8 @@ use Rattle.comemo_sheet.specs.declared.sheet.SheetCall.TheVariants.{Cell}
 use Rattle.comemo.proofs.Recursions.{own_as, own_then}
 use Rattle.comemo_sheet.proofs.value.+valued.Goals as goal
 
-pub returns-in-Hit : goal.returns-in-Hit
-returns-in-Hit t c = own_as (rw c.in-Hit.is at c.in_ok-value.ensures.tells) (λ m f h. h)
-
 pub loop-name-preserved : goal.loop-name-preserved
-loop-name-preserved t c = (
+loop-name-preserved g t c = (
   c.loop-name.invariant.0,
   own_then c.loop-name.invariant.1 c.in_ok-value-2.ensures (λ m f before told.
       let value : value_of m (c.args.limit - 1) c.name-item.result ≡ c.in_ok-value-2.value = value_alike m f.respects (c.args.limit - 1) c.name-item.result c.in_ok-clone-2.field-0 (equal_of_bytes c.name-item.result c.in_ok-clone-2.field-0 (search rules)) ∙ sym told in
@@ -25,11 +22,11 @@ loop-name-preserved t c = (
 )
 
 pub finish-requires-clause-right : goal.finish-requires-clause-right
-finish-requires-clause-right t c = λ m f.
+finish-requires-clause-right g t c = λ m f.
     let less = c.args.limit - 1 in
     let deep : suc less ≡ c.args.limit = omega (arith, c.if-limit-eq0.false) in
     let total : c.loop-name.total ≡ sum_of (value_of m less) (Some (number_in c.in_ok-content.content)) (names_in c.in_ok-content.content) = search (rules, to_z-of_z, take_all c.loop-name.name-index c.names-name-items.result.now c.loop-name-test.false, c.names-name-items.ensures, c.number.ensures, c.loop-name.invariant.1.told m f) in
     rw (← deep) (total ∙ alike_of_told m f.respects (λ x. sum_of (value_of m less) (Some (number_in x)) (names_in x)) (sum_alike (value_of m less) (value_alike m f.respects less)) (Cell c.in_ok-clone.field-0) (Cell c.args.name) c.in_ok-content.content (equal_of_bytes c.in_ok-clone.field-0 c.args.name (search rules)) (c.in_ok-content.ensures.tells.told m (c.loop-name.invariant.1.before m f)))
 
 pub returns : goal.returns
-returns t c = let h : c.start.new.self ≡ c.args.of.now = search rules in rw h at c.finish.ensures.tells
+returns g t c = let h : c.start.new.self ≡ c.args.of.now = search rules in rw h at c.finish.ensures.tells
