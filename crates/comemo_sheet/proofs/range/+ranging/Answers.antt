@@ -14,7 +14,7 @@ use Rattle.comemo_sheet.specs.declared.sheet.SheetCall.TheVariants.{Cell}
 use Rattle.comemo_sheet.specs.declared.sheet.Content.{Content}
 use Rattle.comemo_sheet.specs.contracts.sheet.SheetCallPartialEq.TheImpl as call
 use Rattle.comemo_sheet.specs.contracts.sheet.ContentPartialEq.TheImpl as content
-use Rattle.comemo.proofs.Recursions.{own_as, own_then}
+use Rattle.comemo.proofs.Recursions.{own_then}
 use Rattle.comemo_sheet.proofs.range.+ranging.Goals.{ranged-in-Empty, ranged-in-Number, ranged-in-Sum+in_ok-value-in-Sum}
 use Rattle.comemo_sheet.proofs.range.+ranging.Goals as goal
 

@@ -10,7 +10,7 @@ use Rattle.comemo_sheet.specs.Sheets.{number_in, names_in}
 use Rattle.comemo_sheet.specs.Values.{both, sum_of, value_of}
 use Rattle.comemo_sheet.specs.ValueLaws.{sum_alike, value_alike}
 use Rattle.comemo_sheet.specs.declared.sheet.SheetCall.TheVariants.{Cell}
-use Rattle.comemo.proofs.Recursions.{own_as, own_then}
+use Rattle.comemo.proofs.Recursions.{own_then}
 use Rattle.comemo_sheet.proofs.value.+valued.Goals as goal
 
 pub loop-name-preserved : goal.loop-name-preserved
