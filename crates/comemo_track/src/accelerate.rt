@@ -118,7 +118,7 @@ impl<'a, T: Track> Accelerated<'a, T> {
         self.table.get(call)
     }
 
-    /// The answer to a read, with nothing sent: out of the table, or of the value, and then into the table.
+    /// The answer to a read, with nothing sent: out of what it keeps, or of the value, and then kept.
     fn answer(&mut self, call: &T::Call) -> Result<T::Answer, AllocError>
         requires { T.Call.is_write call.now ≡ false }
         ensures ok { IfOk result
@@ -137,8 +137,8 @@ impl<'a, T: Track> Accelerated<'a, T> {
         Ok(answer)
     }
 
-    /// Puts what the value answered to a read into the table. An error says that there was no memory for that, and then
-    /// nothing changes.
+    /// Keeps what the value answered to a read. An error says that there was no memory for that, and then nothing
+    /// changes.
     fn keep(&mut self, call: &T::Call, answer: &T::Answer) -> Result<(), AllocError>
         requires read { T.Call.is_write call.now ≡ false }
         requires right { IsTrue (T.Answer.eq (T.answers self.old.value call.now) answer.now) }
