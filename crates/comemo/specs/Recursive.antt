@@ -12,11 +12,6 @@ use Rattle.comemo.specs.declared.pending.How.TheVariants as how
 use Rattle.comemo.specs.declared.recursive.Start.{Start}
 use Rattle.comemo.specs.declared.recursive.Start.TheVariants.{Hit, Run as Begins}
 
--- the first of a hit's output, the second of a run that started
-abbrev pub OnStart : {O I : Type 0} → Start O I → (O → Type 0) → (I → Type 0) → Type 0
-OnStart (Hit output) P Q = P output
-OnStart (Begins run) P Q = Q run
-
 -- the first of a call that gave an output, or a fault, the second of a run that started
 abbrev pub OnStarted : {O I : Type 0} → Result (Start O I) Fault → (Result O Fault → Type 0) → (I → Type 0) → Type 0
 OnStarted (Ok (Hit output)) P Q = P (Ok output)
@@ -32,6 +27,10 @@ pub record TellsOwn {V C R X : Type 0} (fits : Recording C R → (C → R) → T
   pub told : IfOk r (λ answer. (m : C → R) → fits t.recording m → P answer m)
   pub whole : OnOk r (t.recording.whole ≡ s.recording.whole)
   pub fault : IfErr r (λ f. f ≡ fault.Incomplete → ⊥)
+
+-- what a call tells a recorder that has come to t, it tells it from s on
+abbrev pub TellsFrom : {V C R X : Type 0} → (Recording C R → (C → R) → Type 0) → Recorded V C R → Recorded V C R → (X → (C → R) → Type 0) → Type 0
+TellsFrom {V} {C} {R} {X} fits s t P = (u : Recorded V C R) (r : Result X Fault) → TellsOwn fits t u r P → TellsOwn fits s u r P
 
 module _ {K C R O : Type 0} (M : Meaning K C R O) (es : Entries K C R O) where
   -- a run starts, with a recorder of nothing, of the value of the recorder that started it, under a key that is equal to the

@@ -6,7 +6,7 @@ ghost use Rattle.comemo_cache.specs.Meaning.{reading, invocation, run};
 ghost use Rattle.comemo.specs.MeaningLaws.{none_alike};
 ghost use Rattle.comemo_cache.specs.Held.{Held, Leads, Stays};
 ghost use Rattle.comemo.specs.Function.{Laws};
-ghost use Rattle.comemo.specs.Recursive.{TellsOwn, OnStart, OnStarted, Starts, FinishedAs};
+ghost use Rattle.comemo.specs.Recursive.{TellsOwn, TellsFrom, OnStarted, Starts, FinishedAs};
 ghost use Rattle.comemo_track.specs.InputLaws.{equal_if_one};
 
 use crate::function::{Recorder, Told};
@@ -169,17 +169,19 @@ impl<'a, T: Track> Recorder<'a, T> {
         key: &G::Key,
     ) -> Result<Start<G::Out, Inner<'a, G::Key, T>>, Fault>
         ensures tells { OnStarted result (λ reply. TellsOwn ⟦<T as Told>⟧.fits
-            self.old self.new reply (λ output m. G.means key.now m output)) (λ _. ⊤) }
-        ensures hit { IfOk result (λ start. OnStart start
-            (λ output. (reply : Reply G.Out) × (reply.output ≡ output) × (reply.how ≡ How.Hit)
+            self.old self.new reply (λ output m. G.means key.now m output))
+            (λ _. TellsFrom ⟦<T as Told>⟧.fits
+            self.old self.new (λ output m. G.means key.now m output)) }
+        ensures hit { OnStarted result (λ told. IfOk told (λ output.
+            (reply : Reply G.Out) × (reply.output ≡ output) × (reply.how ≡ How.Hit)
             × HeldReply ⟦<G as Meant>⟧.meaning (invocation key.now (T.answers self.old.value) true)
             (H.entries cache.old) (H.entries cache.old)
-            (⟦<T as Told>⟧.took self.old self.new) reply (H.entries cache.new)) (λ _. ⊤)) }
-        ensures run { IfOk result (λ start. OnStart start (λ _. ⊤)
+            (⟦<T as Told>⟧.took self.old self.new) reply (H.entries cache.new))) (λ _. ⊤) }
+        ensures run { OnStarted result (λ _. ⊤)
             (λ inner. Held (H.entries cache.old) (λ es. Starts ⟦<G as Meant>⟧.meaning es
             (invocation key.now (T.answers self.old.value) true) self.old inner.own
             inner.recorder) × (self.new ≡ self.old)
-            × Stays (H.entries cache.old) (H.entries cache.new))) }
+            × Stays (H.entries cache.old) (H.entries cache.new)) }
         ensures err { IfErr result (λ fault. (fault ≡ Fault.Memory)
             × Stays (H.entries cache.old) (H.entries cache.new)
             × ⟦<T as Told>⟧.broke_off self.old self.new) }

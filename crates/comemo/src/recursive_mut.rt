@@ -5,7 +5,7 @@ ghost use Rattle.comemo.specs.Called.{HeldReply};
 ghost use Rattle.comemo.specs.Begun.{OnFault};
 ghost use Rattle.comemo.specs.Finish.{BreaksOffRun, BrokeOff};
 ghost use Rattle.comemo.specs.FunctionMut.{Lent, LawsMut, TellsWrites, WasStopped, lent};
-ghost use Rattle.comemo.specs.Recursive.{OnStart, OnStarted, FinishedAs};
+ghost use Rattle.comemo.specs.Recursive.{OnStarted, FinishedAs};
 ghost use Rattle.comemo.specs.RecursiveMut.{IsEmpty, Within, StartsMut};
 ghost use Rattle.comemo_cache.specs.Meaning.{invocation, run};
 ghost use Rattle.comemo_cache.specs.Held.{Held, Leads, Stays};
@@ -163,14 +163,14 @@ impl<'a, 'b, T: Track> RecorderMut<'a, 'b, T> {
             (λ inner. Within ⟦<T as Written>⟧.did ⟦<T as ToldMut>⟧.agrees
             (lent self.old.value self.old.recording) (lent self.new.value self.new.recording)
             inner.around) }
-        ensures hit { IfOk result (λ start. OnStart start
-            (λ output. (reply : Reply G.Out) × (reply.output ≡ output) × (reply.how ≡ How.Hit)
+        ensures hit { OnStarted result (λ told. IfOk told (λ output.
+            (reply : Reply G.Out) × (reply.output ≡ output) × (reply.how ≡ How.Hit)
             × HeldReply ⟦<G as Meant>⟧.meaning
             (invocation key.now (T.answers self.old.value.now) true)
             (H.entries cache.old) (H.entries cache.old)
             (λ P W. Took T.Call.eq self.old.recording.now self.new.recording.now P W
             × ⟦<T as Written>⟧.did self.old.value.now self.new.value.now W)
-            reply (H.entries cache.new)) (λ _. ⊤)) }
+            reply (H.entries cache.new))) (λ _. ⊤) }
         ensures begins { OnStarted result (λ _. ⊤) (λ _. IsEmpty self.new.recording.now) }
         ensures run { OnStarted result (λ _. ⊤)
             (λ inner. Held (H.entries cache.old) (λ es. StartsMut ⟦<G as Meant>⟧.meaning es

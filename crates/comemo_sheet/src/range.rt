@@ -95,9 +95,10 @@ pub fn range_total<H: Hold<MemoOfRecursive<Value>>, G: Hold<MemoOfRecursive<Rang
         Start::Hit(total) => return Ok(total),
         Start::Run(run) => run,
     };
+    let recorder = &mut run.recorder;
     let mut total = Some(0);
     for name in &range.names {
-        let value = ranged(kept, name.clone()?, range.limit, &mut run.recorder)?;
+        let value = ranged(kept, name.clone()?, range.limit, recorder)?;
         total = sum(total, value);
     }
     of.finish(&mut kept.1, &range, run, total)

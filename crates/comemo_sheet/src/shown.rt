@@ -7,7 +7,8 @@ ghost use Rattle.comemo_sheet.specs.Shown.{shown};
 use crate::number::NumberIn;
 use crate::settings::{Setting, Settings, SettingsCall};
 use crate::sheet::{Content, Sheet, SheetCall};
-use comemo::{Both, CacheData, Fault, FunctionOf, Memo, MemoOf, MultiAnswer, MultiCall, Recorder};
+use comemo::{Both, Fault, FunctionOf, Hold, Memo, MemoOf, MultiAnswer, MultiCall, Recorder};
+use std::marker::PhantomData;
 
 /// A number as it is shown.
 fn show(number: i64, hides_negative: Setting) -> i64
@@ -20,9 +21,13 @@ fn show(number: i64, hides_negative: Setting) -> i64
 }
 
 /// The number that stands in a cell as it is shown: 0 in its place where it is below 0 and such are hidden.
-pub struct Shown;
+///
+/// `H` holds the cache of the numbers: a `CacheData`, or a share of one that threads share.
+pub struct Shown<H> {
+    numbers: PhantomData<H>,
+}
 
-impl Memo for Shown {
+impl<H> Memo for Shown<H> {
     type Call = MultiCall<SheetCall, SettingsCall>;
 
     type Key = String;
@@ -54,15 +59,15 @@ impl Memo for Shown {
     } };
 }
 
-impl<'a> FunctionOf<Both<'a, Sheet, Settings>> for Shown {
-    type Needs = CacheData<MemoOf<NumberIn>>;
+impl<'a, H: Hold<MemoOf<NumberIn>>> FunctionOf<Both<'a, Sheet, Settings>> for Shown<H> {
+    type Needs = H;
 
     ghost reads = { λ key m out writes right. right.0 };
 
     fn run(
         name: &String,
         both: &mut Recorder<'_, Both<'a, Sheet, Settings>>,
-        numbers: &mut CacheData<MemoOf<NumberIn>>,
+        numbers: &mut H,
     ) -> Result<i64, Fault> {
         let number = both.call_first(numbers, &mut (), name.clone()?)?;
         let hides_negative = both.ask_second(SettingsCall::HidesNegative)?;

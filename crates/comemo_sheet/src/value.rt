@@ -61,10 +61,11 @@ pub fn valued<H: Hold<MemoOfRecursive<Value>>>(
         Start::Hit(value) => return Ok(value),
         Start::Run(run) => run,
     };
-    let content = run.recorder.ask(SheetCall::Cell(key.0.clone()?))?;
+    let recorder = &mut run.recorder;
+    let content = recorder.ask(SheetCall::Cell(key.0.clone()?))?;
     let mut total = Some(content.number());
     for name in content.names() {
-        let value = valued(cache, name.clone()?, limit - 1, &mut run.recorder)?;
+        let value = valued(cache, name.clone()?, limit - 1, recorder)?;
         total = sum(total, value);
     }
     of.finish(cache, &key, run, total)

@@ -103,7 +103,7 @@ fn a_width_that_was_not_asked_may_change(rt: HostRuntime) -> Result<(), Fail> {
     let alloc = rt.alloc();
     let mut sheet = Sheet::new(alloc);
     set(alloc, &mut sheet, "A1", Content::Number(-7))?;
-    let mut cache: CacheData<Shown> = CacheData::new(alloc);
+    let mut cache: CacheData<Shown<CacheData<MemoOf<NumberIn>>>> = CacheData::new(alloc);
     let mut numbers = CacheData::new(alloc);
     for (hides_negative, width, shown, how) in [
         (false, 8, -7, How::Stored),

@@ -23,15 +23,13 @@ by_content : (m : SheetCall → Content) → Respects call.ghosts.eq content.gho
 by_content m r less name own told value same h is = is ∙ alike_of_told m r (λ x. sum_of (value_of m less) (Some (number_in x)) (names_in x)) (sum_alike (value_of m less) (value_alike m r less)) (Cell own) (Cell name) told (equal_of_bytes own name same) h
 
 pub range_total-loop-name-preserved : goal.range_total-loop-name-preserved
-range_total-loop-name-preserved g t c = (
-  c.loop-name.invariant.0,
-  own_then c.loop-name.invariant.1 c.in_ok-value.ensures (λ m f before told.
-      let value : value_of m c.args.range.limit c.name-item.result ≡ c.in_ok-value.value = value_alike m f.respects c.args.range.limit c.name-item.result c.in_ok-clone.field-0 (equal_of_bytes c.name-item.result c.in_ok-clone.field-0 (search rules)) ∙ sym told in
-      search (rules, c.sum-total.ensures, fold_more (λ total x. both total (value_of m c.args.range.limit x)) (Some (pos 0)) c.args.range.names.items c.loop-name.name-index c.name-item.result)),
-)
+range_total-loop-name-preserved g t c =
+    own_then c.loop-name.invariant c.in_ok-value.ensures (λ m f before told.
+    let value : value_of m c.args.range.limit c.name-item.result ≡ c.in_ok-value.value = value_alike m f.respects c.args.range.limit c.name-item.result c.in_ok-clone.field-0 (equal_of_bytes c.name-item.result c.in_ok-clone.field-0 (search rules)) ∙ sym told in
+    search (rules, c.sum-total.ensures, fold_more (λ total x. both total (value_of m c.args.range.limit x)) (Some (pos 0)) c.args.range.names.items c.loop-name.name-index c.name-item.result))
 
 pub range_total-finish-requires-clause-right : goal.range_total-finish-requires-clause-right
-range_total-finish-requires-clause-right g t c = λ m f. search (rules, take_all c.loop-name.name-index c.deref-name-items.result.now c.loop-name-test.false, c.deref-name-items.ensures, c.loop-name.invariant.1.told m f)
+range_total-finish-requires-clause-right g t c = λ m f. search (rules, take_all c.loop-name.name-index c.deref-name-items.result.now c.loop-name-test.false, c.deref-name-items.ensures, c.loop-name.invariant.told m f)
 
 pub ranged-finish-requires-clause-right : goal.ranged-finish-requires-clause-right
 ranged-finish-requires-clause-right g t c = λ m f.
@@ -47,9 +45,3 @@ ranged-finish-requires-clause-right g t c = λ m f.
           let total = w.in_ok-value-in-Sum.ensures in
           by (told (total.before m (rw w.run-is at f))) (rw (w.value-is, w.in-Sum.is) (total.told m (rw w.run-is at f)))
     ])
-
-pub ranged-returns : goal.ranged-returns
-ranged-returns g t c = let h : c.start.new.self ≡ c.args.of.now = search rules in rw h at c.finish.ensures.tells
-
-pub range_total-returns : goal.range_total-returns
-range_total-returns g t c = let h : c.start.new.self ≡ c.args.of.now = search rules in rw h at c.finish.ensures.tells

@@ -14,4 +14,4 @@ abbrev pub decreases-range_total : goal.decreases-range_total
 decreases-range_total g l = 2 * l.range.limit + 1
 
 abbrev pub invariant-range_total-loop-name : goal.invariant-range_total-loop-name
-invariant-range_total-loop-name g l = (l.run.own ≡ l.initial.run.own) × TellsOwn (Fits call.ghosts.eq content.ghosts.eq) l.initial.run.recorder l.run.recorder (Ok l.total) (λ total m. total ≡ sum_of (value_of m l.fn.range.limit) (Some (pos 0)) (take l.name-index l.fn.range.names.items))
+invariant-range_total-loop-name g l = TellsOwn (Fits call.ghosts.eq content.ghosts.eq) l.initial.recorder l.recorder (Ok l.total) (λ total m. total ≡ sum_of (value_of m l.fn.range.limit) (Some (pos 0)) (take l.name-index l.fn.range.names.items))

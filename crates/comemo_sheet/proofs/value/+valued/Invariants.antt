@@ -10,4 +10,4 @@ abbrev pub decreases-valued : goal.decreases-valued
 decreases-valued g l = l.limit
 
 abbrev pub invariant-loop-name : goal.invariant-loop-name
-invariant-loop-name g l = (l.run.own ≡ l.initial.run.own) × TellsOwn (Fits call.ghosts.eq content.ghosts.eq) l.initial.run.recorder l.run.recorder (Ok l.total) (λ total m. total ≡ sum_of (value_of m (l.limit - 1)) l.initial.total (take l.name-index l.name-items))
+invariant-loop-name g l = TellsOwn (Fits call.ghosts.eq content.ghosts.eq) l.initial.recorder l.recorder (Ok l.total) (λ total m. total ≡ sum_of (value_of m (l.limit - 1)) l.initial.total (take l.name-index l.name-items))

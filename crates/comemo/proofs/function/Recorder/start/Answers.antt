@@ -31,6 +31,11 @@ returns-in-Ok-Hit-clause-hit g c =
     let hit = rw (c.in-Ok-Hit.is, c.in-Ok-Hit.field-0-is, c.fork.ensures) at c.begin.ensures.hit in
     (_, refl, refl, rw (← c.self.view_is) (led_from (g.H.Hold.entries c.args.cache.now) (g.H.Hold.entries c.begin.new.cache) _ _ (λ es es' found. reply_by_hit g.met.T.Call.Eq.laws g.met.T.Answer.Eq.laws es es' found.0 found.1) hit))
 
+pub returns-clause-tells : goal.returns-clause-tells
+returns-clause-tells g c = λ u r told.
+    let run = rw (c.in-Ok-Run.is, c.in-Ok-Run.field-0-is, c.fork.ensures) at c.begin.ensures.run in
+    rw (same_recorder c.self.inside.view run.2 c.self.view_is) at told
+
 pub returns-clause-run : goal.returns-clause-run
 returns-clause-run g c =
     let run = rw (c.in-Ok-Run.is, c.in-Ok-Run.field-0-is, c.fork.ensures) at c.begin.ensures.run in (

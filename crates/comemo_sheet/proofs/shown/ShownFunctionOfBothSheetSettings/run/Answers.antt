@@ -9,7 +9,7 @@ use Rattle.comemo_sheet.specs.declared.settings.SettingsCall.TheVariants.{HidesN
 use Rattle.comemo_sheet.proofs.shown.ShownFunctionOfBothSheetSettings.run.Goals as goal
 
 pub returns-clause-right : goal.returns-clause-right
-returns-clause-right c = λ m f. (
+returns-clause-right g c = λ m f. (
   refl,
   λ one other p q.
       let hides : other HidesNegative ≡ c.in_ok-hides_negative.hides_negative = one_setting _ _ (c.in_ok-hides_negative.ensures.tells.told m f other q) in
