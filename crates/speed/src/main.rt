@@ -25,7 +25,7 @@ mod workload;
 use report::{Failure, write_large, write_sums, write_times};
 use std::alloc::AllocError;
 use std::env::Env;
-use std::io::Write;
+use std::io::{ErrorKind, Write};
 use std::process::ExitCode;
 use std::{env, io};
 
@@ -44,8 +44,10 @@ enum Request {
 
 /// What the words after the program's name ask for.
 fn request_of<R: Env + Alloc>(rt: &R) -> Result<Request, AllocError> {
-    let Ok(words) = env::args(rt) else {
-        return Ok(Request::Unknown);
+    let words = match env::args(rt) {
+        Ok(words) => words,
+        Err(error) if error.kind() == ErrorKind::OutOfMemory => return Err(AllocError),
+        Err(_) => return Ok(Request::Unknown),
     };
     let mut request = Request::Times;
     for word in words.skip(1) {
