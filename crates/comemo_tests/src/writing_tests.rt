@@ -74,7 +74,7 @@ fn views_of_views_are_of_the_same_value(rt: HostRuntime) -> Result<(), Fail> {
     let alloc = rt.alloc();
     let mut book = Notebook::new(alloc, 7, 9);
     let mut view = book.track_mut(alloc);
-    let mut inner = TrackedMut::reborrow_mut(&mut view);
+    let mut inner = TrackedMut::reborrow_mut(&mut view, alloc);
     inner.write(NotebookCall::Note(5), &mut Top::new())?;
     drop(inner);
     view.write(NotebookCall::Note(6), &mut Top::new())?;
