@@ -24,7 +24,7 @@ pub fn closed_location<S: Sink<Call = ContextCall, Answer = u64>>(
     memoize(
         alloc,
         cache,
-        context.fork(alloc),
+        &mut context.fork(alloc),
         sink,
         enabled,
         |view: &mut Tracked<'_, Context>, recording: &mut Constraint<ContextCall, u64>| {
@@ -50,7 +50,7 @@ pub fn closed_sum<S: Sink<Call = ContextCall, Answer = u64>>(
     memoize(
         alloc,
         cache,
-        context.fork(alloc),
+        &mut context.fork(alloc),
         sink,
         enabled,
         |view: &mut Tracked<'_, Context>, recording: &mut Constraint<ContextCall, u64>| {
@@ -76,7 +76,7 @@ pub fn closed_square<S: Sink<Call = (), Answer = ()>>(
     memoize(
         alloc,
         cache,
-        Hashed(number),
+        &mut Hashed(number),
         sink,
         enabled,
         |input: &mut Hashed<u64>, _recording: &mut Constraint<(), ()>| Ok(

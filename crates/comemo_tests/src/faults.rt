@@ -138,7 +138,7 @@ pub fn closed_fault<S: Sink<Call = ContextCall, Answer = u64>>(
     memoize(
         alloc,
         cache,
-        context.fork(alloc),
+        &mut context.fork(alloc),
         sink,
         true,
         |_view: &mut Tracked<'_, Context>, _recording: &mut Constraint<ContextCall, u64>| Err(

@@ -217,7 +217,7 @@ fn a_closure_writes_and_its_hit_writes_again(rt: HostRuntime) -> Result<(), Fail
         let reply = memoize(
             alloc,
             &mut cache,
-            counter.track_mut(alloc),
+            &mut counter.track_mut(alloc),
             &mut Top::new(),
             true,
             |view: &mut TrackedMut<'_, Counter>, recording: &mut Constraint<CounterCall, ()>| {
