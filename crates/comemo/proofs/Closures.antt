@@ -1,10 +1,10 @@
 -- What `begin`, a closure's run and `finish` say together.
-use Rattle.std.proofs.Common.{◌≡◌, ◌↔◌, inl, inr, Bool, true, false, List, [], Result, Ok, Err, IfOk, IfErr, OnErr, refl, sym, ap, subst}
+use Rattle.std.proofs.Common.{◌≡◌, ◌↔◌, ◌⊎◌, inl, inr, Bool, true, false, List, [], Result, Ok, Err, IfOk, IfErr, OnErr, refl, sym, ap, subst}
 use Rattle.std.specs.Borrow.{MutBor}
 use Rattle.comemo_track.specs.Recording.{Recording}
 use Rattle.comemo_cache.specs.Meaning.{Meaning, Invocation, run}
 use Rattle.comemo_cache.specs.Cache.{Entries, Stands}
-use Rattle.comemo.specs.Begin.{PendingRun, came_to, IsRun, IsBrokenOff}
+use Rattle.comemo.specs.Begin.{PendingRun, came_to, IsRun}
 use Rattle.comemo.specs.Finish.{Ends, Finished, BreaksOffRun}
 use Rattle.comemo_cache.proofs.Sendings.{mapped}
 use Rattle.comemo.proofs.Calls.{recorded, stands_at_call, never_refused}
@@ -20,6 +20,14 @@ whole_of_ok (Ok x) true h = refl
 whole_of_ok (Ok x) false h = let e = h.1 refl in cc
 whole_of_ok (Err e) w h = tt
 
+-- which fault came of a run that went so, and of its end: want of memory, or one of which the sink took nothing
+pub fault_of_end : {A B : Type 0} (S : Type 0) (w : Bool) (ran : Result A Fault) (r : Result B Fault) → IfOk ran (λ _. (r ≡ Err fault.Incomplete) ↔ (w ≡ false)) → IfOk ran (λ _. IfErr r (λ f. f ≡ fault.Write → ⊥)) → IfErr ran (λ f. (r ≡ Err f) × S) → (w ≡ false → S) → IfErr r (λ f. (f ≡ fault.Memory) ⊎ S)
+fault_of_end S w ran (Ok x) h never given spoiled = tt
+fault_of_end S w (Err g) (Err e) h never given spoiled = inr given.1
+fault_of_end S w (Ok y) (Err fault.Memory) h never given spoiled = inl refl
+fault_of_end S w (Ok y) (Err fault.Write) h never given spoiled = absurd (never refl)
+fault_of_end S w (Ok y) (Err fault.Incomplete) h never given spoiled = inr (spoiled (h.0 refl))
+
 -- as `mapped`, with a fact that does not depend on the result
 pub mapped_by : {A E X : Type 0} {P Q : A → Type 0} → (X → (a : A) → P a → Q a) → (r : Result A E) → IfOk r P → X → IfOk r Q
 mapped_by f r p x = mapped (f x) r p
@@ -32,6 +40,11 @@ fault_or d (Err f) = f
 pub mapped_err : {A E P Q : Type 0} → (P → Q) → (r : Result A E) → OnErr r P → OnErr r Q
 mapped_err f (Ok a) p = tt
 mapped_err f (Err e) p = f p
+
+-- the same of a fault, where it is known which
+pub err_with : {A P : Type 0} {Q X : Fault → Type 0} → ((f : Fault) → P → Q f → X f) → (r : Result A Fault) → OnErr r P → IfErr r Q → IfErr r X
+err_with f (Ok a) p q = tt
+err_with f (Err e) p q = f e p q
 
 -- a call of a function whose calls are reads alone, which failed, left the entries as they were, and its sink broken off at some pairs
 pub at_some_pairs : {K C R O I P : Type 0} {M : Meaning K C R O} {es : Entries K C R O} {call : Invocation K C R} {did : I → I → List C → Type 0} {recording : P → Recording C R} {post : MutBor I → MutBor P → Result O Fault → MutBor I → MutBor P → Type 0} {input left : I} → (broken : List (C × R) → Type 0) {after : List (C × R) → List C → Type 0} {es' : Entries K C R O} → IsBroken M es call did recording post input left broken after es' → ((c : C) → M.is_write c ≡ false) → (es' ≡ es) × ((pairs : List (C × R)) × broken pairs)

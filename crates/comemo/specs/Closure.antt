@@ -39,8 +39,8 @@ module _ {K C R O : Type 0} (M : Meaning K C R O) (es : Entries K C R O) (call :
           pub ends : ran.j.now ≡ left
 
         -- why a call failed that left the input so: it did not begin, for want of memory, and wrote nothing; or a hit stopped at a
-        -- write; or the closure gave an output, and its recording is spoiled, which alone is called incomplete; or the closure gave
-        -- that fault
+        -- write; or the closure gave an output, and its run could not be finished, as incomplete exactly where its recording is
+        -- spoiled; or the closure gave that fault
         abbrev pub IsFault : Fault → Type 0
         IsFault f =
             ((f ≡ fault.Memory) × did input left []) ⊎ ((f ≡ fault.Write) × IsStopped M es call (did input left) (λ _ _. ⊤)) ⊎ ((output : O) × (t : Recording C R) × RanTo (Ok output) t × ((f ≡ fault.Incomplete) ↔ (t.whole ≡ false)) × (f ≡ fault.Write → ⊥)) ⊎ ((t : Recording C R) × RanTo (Err f) t)
