@@ -22,4 +22,4 @@ pub use doubling::{doubled, evictions_reach_all_keys, two_runs_of_one_key};
 pub use empties::two_runs_that_ask_other_questions;
 pub use gate::{Gate, Meeting, Open, TURNS};
 pub use nulls::{Null, evictions_reach_a_cache};
-pub use workers::threads;
+pub use workers::{threads, workers_beside_evictions};
