@@ -1,6 +1,7 @@
 //! Workers that share a cache, and holders that do a step wrongly.
 
 use crate::dead::{Dead, Step};
+use crate::overtaken::Overtaken;
 use bench_workers::{
     Meeting, Null, branches_are_absorbed_in_order, doubled, evictions_reach_a_cache,
     evictions_reach_all_keys, threads, two_runs_of_one_key, two_runs_that_ask_other_questions,
@@ -218,5 +219,38 @@ fn registered_evictors_evict_in_order(rt: HostRuntime) -> Result<(), Fail> {
         assert_eq!(rt; (reply.output, reply.how), (0, how));
     }
     assert_eq!(rt; list.lock(&rt).as_slice(), [1, 2, 1, 2].as_slice());
+    Ok(())
+}
+
+/// The age of the entry that has the double of 7.
+fn age_of_seven<H: Hold<MemoOf<Double>>>(cache: &mut H) -> Option<usize> {
+    match cache.look(&7, &mut Hashed(7)) {
+        Ok(Some(found)) => Some(found.age),
+        _ => None,
+    }
+}
+
+#[test]
+fn an_eviction_that_overtakes_a_hit_comes_before_or_after_its_touch(
+    rt: HostRuntime,
+) -> Result<(), Fail> {
+    let alloc = rt.alloc();
+    let cache: Cache<MemoOf<Double>> = Cache::new(alloc);
+    let nothing = ();
+    let view = nothing.track(alloc);
+    let held = &mut cache.hold(&rt);
+    memoized(alloc, held, &mut (), 7, &view, &mut Top::new(), true)?;
+    let overtaken = &mut Overtaken {
+        cache: &cache,
+        held: cache.hold(&rt),
+        rt: &rt,
+        max_age: 2,
+    };
+    // Of age 0 it was as good as touched before the eviction; of age 1 it is touched after the next one.
+    for age in [1, 0] {
+        let reply = memoized(alloc, overtaken, &mut (), 7, &view, &mut Top::new(), true)?;
+        assert_eq!(rt; (reply.output, reply.how), (14, How::Hit));
+        assert_eq!(rt; age_of_seven(held), Some(age));
+    }
     Ok(())
 }
