@@ -38,9 +38,9 @@ use std::thread::Threads;
 
 /// Runs each row, and says which failed first.
 ///
-/// The longest, of a thousand places, calls a function two thousand times, and one stores and looks up a thousand runs;
-/// one starts 17 threads, of which 16 make two thousand calls each; each of the others makes some dozen calls. Three
-/// start two threads each, of which two wait for each other.
+/// The longest starts seventeen threads, of which sixteen make two thousand calls each; one, of a thousand places, calls
+/// a function two thousand times, and one stores and looks up a thousand runs; each of the others makes some dozen calls.
+/// Three more start two threads each, of which two wait for each other.
 /// A row for which there is no memory fails. This project's own.
 pub fn run_rows<R: Threads + Wait + Clock + Sync>(rt: &R, alloc: Global) -> Outcome
     ensures { IfSome result (Contains row_numbers) }
