@@ -3,7 +3,7 @@
 
 use std::alloc::AllocError;
 use std::env::Env;
-use std::io::Write;
+use std::io::{ErrorKind, Write};
 use std::process::ExitCode;
 use std::{env, io};
 
@@ -19,6 +19,7 @@ fn words_of<R: Env + Alloc>(rt: &R) -> Result<Vec<String<R::A>, R::A>, AllocErro
                 words.push(word)?;
             }
         }
+        Err(error) if error.kind() == ErrorKind::OutOfMemory => return Err(AllocError),
         Err(_) => words.push(String::new(rt.alloc()))?,
     }
     Ok(words)

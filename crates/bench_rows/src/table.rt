@@ -15,7 +15,9 @@ use crate::sessions::{
     a_value_is_kept_until_its_files_change, the_bytes_of_files_are_counted,
 };
 use crate::settled::no_run_is_lost;
-use crate::sharing::{a_shared_cache_stores_one_of_two, branches_and_evictions, other_questions};
+use crate::sharing::{
+    a_shared_cache_stores_one_of_two, branches_and_evictions, other_questions, turned_orders,
+};
 use crate::texts::{functions_are_kept, two_kinds_of_questions};
 use crate::trees::{
     a_call_that_was_taken_out_stays_seen, a_path_follows_the_stored_ones,
@@ -67,5 +69,6 @@ pub fn run_rows<R: Threads + Wait + Clock + Sync>(rt: &R, alloc: Global) -> Outc
     rows.row("R11", a_view_asks_once(alloc));
     rows.row("R13", touches_go_by_answers(alloc));
     rows.row("R13", other_questions(rt, alloc));
+    rows.row("R14", turned_orders(rt, alloc));
     rows
 }

@@ -3,7 +3,8 @@
 use crate::dead::{Dead, Step};
 use bench_workers::{
     Meeting, Null, branches_are_absorbed_in_order, doubled, evictions_reach_a_cache,
-    evictions_reach_all_keys, threads, two_runs_of_one_key, two_runs_that_ask_other_questions,
+    evictions_reach_all_keys, threads, two_runs_of_one_key, two_runs_that_ask_in_turned_order,
+    two_runs_that_ask_other_questions,
 };
 use comemo::evictors::evict;
 use comemo::{
@@ -58,6 +59,17 @@ fn a_lock_that_is_held_over_a_run_is_found(rt: HostRuntime) -> Result<(), Fail> 
 fn of_two_runs_that_ask_other_questions_one_is_stored(rt: HostRuntime) -> Result<(), Fail> {
     assert_eq!(rt;
         two_runs_that_ask_other_questions(&rt, rt.alloc()),
+        Ok(true)
+    );
+    Ok(())
+}
+
+#[test]
+fn of_two_runs_in_turned_order_one_is_stored_and_the_other_exists(
+    rt: HostRuntime,
+) -> Result<(), Fail> {
+    assert_eq!(rt;
+        two_runs_that_ask_in_turned_order(&rt, rt.alloc()),
         Ok(true)
     );
     Ok(())

@@ -12,13 +12,7 @@ mod files;
 #[cfg(test)]
 mod lines;
 #[cfg(test)]
-mod runs;
-#[cfg(test)]
-mod samples;
-#[cfg(test)]
 mod scripts;
-#[cfg(test)]
-mod sessions;
 #[cfg(test)]
 mod starts;
 #[cfg(test)]

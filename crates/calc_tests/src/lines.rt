@@ -114,10 +114,89 @@ impl Write for Slow {
     }
 }
 
+/// Whether a run over these bytes ends well, writes this text, and asks so many lines.
+fn answers(alloc: Global, input: &[u8], want: &str, asked: u8) -> bool {
+    let mut out: Vec<u8> = Vec::new(alloc);
+    let mut echo = Echo::new(alloc);
+    let mut input = input;
+    let is_well = run(alloc, &mut input, &mut out, &mut echo) == Ok(());
+    let is_text = out.as_slice() == want.as_bytes();
+    is_well && is_text && echo.asked == asked
+}
+
+/// Whether a run whose input fails in this way after a line and a part of one ends with this fault, and has answered
+/// the line.
+fn breaks(alloc: Global, kind: ErrorKind, fault: RunFault) -> bool {
+    let Ok(mut reader) = BufReader::new(alloc, Broken(b"a\nb", kind)) else {
+        return false;
+    };
+    let mut out: Vec<u8> = Vec::new(alloc);
+    let mut echo = Echo::new(alloc);
+    let is_fault = run(alloc, &mut reader, &mut out, &mut echo) == Err(fault);
+    let is_text = out.as_slice() == b">a\n".as_slice();
+    is_fault && is_text
+}
+
+/// Whether a run over an input that fails once in this way ends with this fault, and a second one answers all that
+/// comes after the line that was lost.
+fn loses_one(alloc: Global, kind: ErrorKind, fault: RunFault) -> bool {
+    let torn = Torn {
+        front: b"a\nquiet\nb\nlo",
+        fault: Some(kind),
+        back: b"st\nc\n",
+    };
+    let Ok(mut reader) = BufReader::new(alloc, torn) else {
+        return false;
+    };
+    let mut out: Vec<u8> = Vec::new(alloc);
+    let mut echo = Echo::new(alloc);
+    let is_fault = run(alloc, &mut reader, &mut out, &mut echo) == Err(fault);
+    let is_begun = out.as_slice() == b">a\n>b\n".as_slice();
+    let are_three = echo.asked == 3;
+    let is_well = run(alloc, &mut reader, &mut out, &mut echo) == Ok(());
+    let is_whole = out.as_slice() == b">a\n>b\n>st\n>c\n".as_slice();
+    is_fault && is_begun && are_three && is_well && is_whole
+}
+
+/// Whether a run with a writer of this room ends at the second of three lines, with this text written.
+fn fills(alloc: Global, room: usize, fails: bool, want: &str) -> bool {
+    let taken = Vec::new(alloc);
+    let mut full = Full { taken, room, fails };
+    let mut echo = Echo::new(alloc);
+    let mut input = b"a\nb\nc\n".as_slice();
+    let is_fault = run(alloc, &mut input, &mut full, &mut echo) == Err(RunFault::Write);
+    let is_text = full.taken.as_slice() == want.as_bytes();
+    let is_left = input == b"c\n".as_slice();
+    is_fault && is_text && is_left && echo.asked == 2
+}
+
+/// Whether a program over such an input and such a writer ends with status 1, and says this on its errors.
+fn says(alloc: Global, input: &[u8], kind: ErrorKind, room: usize, message: &str) -> bool {
+    let Ok(mut reader) = BufReader::new(alloc, Broken(input, kind)) else {
+        return false;
+    };
+    let taken = Vec::new(alloc);
+    let fails = true;
+    let mut full = Full { taken, room, fails };
+    let mut errors: Vec<u8> = Vec::new(alloc);
+    let mut echo = Echo::new(alloc);
+    let status = start(
+        alloc,
+        "echo",
+        &[],
+        &mut reader,
+        &mut full,
+        &mut errors,
+        &mut echo,
+    );
+    let is_said = errors.as_slice() == message.as_bytes();
+    status == 1 && is_said
+}
+
 #[test]
-fn answers_each_line(rt: HostRuntime) -> Result<(), Fail> {
+fn answers_each_line(rt: HostRuntime) {
     let alloc = rt.alloc();
-    let cases: [(&[u8], &str, u8); 11] = [
+    let cases: &[(&[u8], &str, u8)] = &[
         (b"a\r\n\nb", ">a\n>b\n", 2),
         (b"", "", 0),
         (b"\n\n\r\n\n", "", 0),
@@ -131,59 +210,22 @@ fn answers_each_line(rt: HostRuntime) -> Result<(), Fail> {
         (b"a\nlarge\nb\n", ">a\nout of memory\n>b\n", 3),
     ];
     for (input, want, asked) in cases {
-        let mut out: Vec<u8> = Vec::new(alloc);
-        let mut echo = Echo::new(alloc);
-        let mut reader = input;
-        assert_eq!(rt; run(alloc, &mut reader, &mut out, &mut echo), Ok(()));
-        assert_eq!(rt; out.as_slice(), want.as_bytes(), "for {input:?}");
-        assert_eq!(rt; echo.asked, asked, "for {input:?}");
+        assert!(rt; answers(alloc, *input, *want, *asked), "for {input:?}");
     }
-    Ok(())
 }
 
 #[test]
-fn a_failed_read_ends_the_run(rt: HostRuntime) -> Result<(), Fail> {
+fn a_failed_read_ends_the_run_and_loses_one_line(rt: HostRuntime) {
     let alloc = rt.alloc();
-    let cases = [
+    let cases: &[(ErrorKind, RunFault)] = &[
         (ErrorKind::Other, RunFault::Read),
         (ErrorKind::InvalidData, RunFault::Read),
         (ErrorKind::OutOfMemory, RunFault::Memory),
     ];
     for (kind, fault) in cases {
-        let mut out: Vec<u8> = Vec::new(alloc);
-        let mut reader = BufReader::new(alloc, Broken(b"a\nb", kind))?;
-        assert_eq!(rt;
-            run(alloc, &mut reader, &mut out, &mut Echo::new(alloc)),
-            Err(fault)
-        );
-        assert_eq!(rt; out.as_slice(), b">a\n".as_slice());
+        assert!(rt; breaks(alloc, *kind, *fault), "for {fault:?}");
+        assert!(rt; loses_one(alloc, *kind, *fault), "for {fault:?}");
     }
-    Ok(())
-}
-
-#[test]
-fn a_failed_read_loses_one_line(rt: HostRuntime) -> Result<(), Fail> {
-    let alloc = rt.alloc();
-    let cases = [
-        (ErrorKind::Other, RunFault::Read),
-        (ErrorKind::OutOfMemory, RunFault::Memory),
-    ];
-    for (kind, fault) in cases {
-        let torn = Torn {
-            front: b"a\nquiet\nb\nlo",
-            fault: Some(kind),
-            back: b"st\nc\n",
-        };
-        let mut reader = BufReader::new(alloc, torn)?;
-        let mut out: Vec<u8> = Vec::new(alloc);
-        let mut echo = Echo::new(alloc);
-        assert_eq!(rt; run(alloc, &mut reader, &mut out, &mut echo), Err(fault));
-        assert_eq!(rt; out.as_slice(), b">a\n>b\n".as_slice());
-        assert_eq!(rt; echo.asked, 3);
-        assert_eq!(rt; run(alloc, &mut reader, &mut out, &mut echo), Ok(()));
-        assert_eq!(rt; out.as_slice(), b">a\n>b\n>st\n>c\n".as_slice());
-    }
-    Ok(())
 }
 
 #[test]
@@ -203,23 +245,16 @@ fn a_line_that_is_no_text_ends_the_run(rt: HostRuntime) -> Result<(), Fail> {
 }
 
 #[test]
-fn a_failed_write_ends_the_run(rt: HostRuntime) -> Result<(), Fail> {
+fn a_failed_write_ends_the_run(rt: HostRuntime) {
     let alloc = rt.alloc();
-    let cases = [(3, true, ">a\n"), (5, true, ">a\n>b"), (3, false, ">a\n")];
+    let cases: &[(usize, bool, &str)] = &[
+        (3, true, ">a\n"),
+        (5, true, ">a\n>b"),
+        (3, false, ">a\n"),
+    ];
     for (room, fails, want) in cases {
-        let taken = Vec::new(alloc);
-        let mut full = Full { taken, room, fails };
-        let mut echo = Echo::new(alloc);
-        let mut input = b"a\nb\nc\n".as_slice();
-        assert_eq!(rt;
-            run(alloc, &mut input, &mut full, &mut echo),
-            Err(RunFault::Write)
-        );
-        assert_eq!(rt; full.taken.as_slice(), want.as_bytes());
-        assert_eq!(rt; echo.asked, 2);
-        assert_eq!(rt; input, b"c\n".as_slice());
+        assert!(rt; fills(alloc, *room, *fails, *want), "for {room}");
     }
-    Ok(())
 }
 
 #[test]
@@ -240,46 +275,21 @@ fn a_slow_writer_gets_all(rt: HostRuntime) -> Result<(), Fail> {
 }
 
 #[test]
-fn starts_and_says_what_failed(rt: HostRuntime) -> Result<(), Fail> {
+fn starts_and_says_what_failed(rt: HostRuntime) {
     let alloc = rt.alloc();
-    let cases: [(&[u8], ErrorKind, usize, u8, &str); 5] = [
-        (b"a\n\xff\n", ErrorKind::Other, 9, 1, "echo: not UTF-8\n"),
-        (b"a\n", ErrorKind::Other, 9, 1, "echo: cannot read\n"),
-        (
-            b"a\n",
-            ErrorKind::OutOfMemory,
-            9,
-            1,
-            "echo: out of memory\n",
-        ),
-        (b"a\n", ErrorKind::Other, 2, 1, "echo: cannot write\n"),
-        (b"", ErrorKind::UnexpectedEof, 9, 1, "echo: cannot read\n"),
+    let cases: &[(&[u8], ErrorKind, usize, &str)] = &[
+        (b"a\n\xff\n", ErrorKind::Other, 9, "echo: not UTF-8\n"),
+        (b"a\n", ErrorKind::Other, 9, "echo: cannot read\n"),
+        (b"a\n", ErrorKind::OutOfMemory, 9, "echo: out of memory\n"),
+        (b"a\n", ErrorKind::Other, 2, "echo: cannot write\n"),
+        (b"", ErrorKind::UnexpectedEof, 9, "echo: cannot read\n"),
     ];
-    let words: Vec<String> = Vec::new(alloc);
-    for (input, kind, room, status, message) in cases {
-        let mut reader = BufReader::new(alloc, Broken(input, kind))?;
-        let taken = Vec::new(alloc);
-        let mut full = Full {
-            taken,
-            room,
-            fails: true,
-        };
-        let mut errors: Vec<u8> = Vec::new(alloc);
-        let mut echo = Echo::new(alloc);
-        let words = words.as_slice();
-        let got = start(
-            alloc,
-            "echo",
-            words,
-            &mut reader,
-            &mut full,
-            &mut errors,
-            &mut echo,
+    for (input, kind, room, message) in cases {
+        assert!(rt;
+            says(alloc, *input, *kind, *room, *message),
+            "for {message}"
         );
-        assert_eq!(rt; got, status, "for {message}");
-        assert_eq!(rt; errors.as_slice(), message.as_bytes());
     }
-    Ok(())
 }
 
 #[test]

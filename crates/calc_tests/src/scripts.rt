@@ -47,7 +47,7 @@ fn first_parts(script: &str) -> [Option<Part<'_>>; 4] {
 
 #[test]
 fn numbers_are_parts(rt: HostRuntime) {
-    let cases = [
+    let cases: &[(&str, [Option<Part<'_>>; 4])] = &[
         ("1", [Some(Number(1)), None, None, None]),
         (" 1\n", [Some(Number(1)), None, None, None]),
         ("007 + -7", [Some(Number(7)), Some(Number(-7)), None, None]),
@@ -73,13 +73,13 @@ fn numbers_are_parts(rt: HostRuntime) {
         ),
     ];
     for (script, want) in cases {
-        assert_eq!(rt; first_parts(script), want, "for {script:?}");
+        assert!(rt; first_parts(*script) == *want, "for {script:?}");
     }
 }
 
 #[test]
 fn calls_are_parts(rt: HostRuntime) {
-    let cases = [
+    let cases: &[(&str, [Option<Part<'_>>; 4])] = &[
         ("eval a + x", [Some(Eval("a")), Some(Bad), None, None]),
         ("eval  a", [Some(Eval(" a")), None, None, None]),
         ("\teval a b\t", [Some(Eval("a b")), None, None, None]),
@@ -90,13 +90,13 @@ fn calls_are_parts(rt: HostRuntime) {
         ("eval eval a", [Some(Eval("eval a")), None, None, None]),
     ];
     for (script, want) in cases {
-        assert_eq!(rt; first_parts(script), want, "for {script:?}");
+        assert!(rt; first_parts(*script) == *want, "for {script:?}");
     }
 }
 
 #[test]
 fn all_else_is_bad(rt: HostRuntime) {
-    let cases = [
+    let cases: &[&str] = &[
         "",
         " ",
         "-",
@@ -119,17 +119,14 @@ fn all_else_is_bad(rt: HostRuntime) {
         "Eval a",
     ];
     for script in cases {
-        assert_eq!(rt;
-            first_parts(script),
-            [Some(Bad), None, None, None],
-            "for {script:?}"
-        );
+        let is_bad = first_parts(*script) == [Some(Bad), None, None, None];
+        assert!(rt; is_bad, "for {script:?}");
     }
 }
 
 #[test]
 fn each_plus_cuts(rt: HostRuntime) {
-    let cases = [
+    let cases: &[(&str, [Option<Part<'_>>; 4])] = &[
         ("+", [Some(Bad), Some(Bad), None, None]),
         (" + ", [Some(Bad), Some(Bad), None, None]),
         ("+5", [Some(Bad), Some(Number(5)), None, None]),
@@ -137,13 +134,13 @@ fn each_plus_cuts(rt: HostRuntime) {
         ("1++2", [Some(Number(1)), Some(Bad), Some(Number(2)), None]),
     ];
     for (script, want) in cases {
-        assert_eq!(rt; first_parts(script), want, "for {script:?}");
+        assert!(rt; first_parts(*script) == *want, "for {script:?}");
     }
 }
 
 #[test]
 fn a_script_is_the_sum_of_its_parts(rt: HostRuntime) {
-    let cases = [
+    let cases: &[(&str, Result<i32, CalcFault>)] = &[
         ("1", Ok(1)),
         ("1 + 2 + 3", Ok(6)),
         ("007 + -7", Ok(0)),
@@ -158,8 +155,9 @@ fn a_script_is_the_sum_of_its_parts(rt: HostRuntime) {
         ("1 + x + eval a", Err(CalcFault::NotANumber)),
     ];
     for (script, value) in cases {
+        let value = *value;
         let outcome = Outcome { value, height: 1 };
-        assert_eq!(rt; script_alone(script), Some(outcome), "for {script:?}");
+        assert!(rt; script_alone(*script) == Some(outcome), "for {script:?}");
     }
     assert_eq!(rt; script_alone("1 + eval a"), None);
 }

@@ -1,5 +1,6 @@
 //! The program from its words on: its status, and what it writes where something failed.
 use calc_sessions::start;
+use std::alloc::Global;
 use std::io::{BufReader, Error, ErrorKind, Read, Result as IoResult, Write};
 use std::test::Fail;
 
@@ -39,10 +40,50 @@ impl Write for Full {
     }
 }
 
+/// Whether a program over such an input and such a writer ends with this status, writes this, and says this on its
+/// errors.
+fn ends(
+    alloc: Global,
+    input: &[u8],
+    kind: ErrorKind,
+    room: usize,
+    want: &str,
+    message: &str,
+) -> bool {
+    let Ok(mut reader) = BufReader::new(alloc, Broken(input, kind)) else {
+        return false;
+    };
+    let taken = Vec::new(alloc);
+    let mut out = Full { taken, room };
+    let mut errors: Vec<u8> = Vec::new(alloc);
+    let status = start(alloc, &[], &mut reader, &mut out, &mut errors);
+    let is_written = out.taken.as_slice() == want.as_bytes();
+    let is_said = errors.as_slice() == message.as_bytes();
+    status == 1 && is_written && is_said
+}
+
+/// Whether a program with these words over this input ends with this status, writes this, and says this on its errors.
+fn starts(
+    alloc: Global,
+    words: &[String],
+    input: &[u8],
+    want_status: u8,
+    want: &str,
+    message: &str,
+) -> bool {
+    let mut out: Vec<u8> = Vec::new(alloc);
+    let mut errors: Vec<u8> = Vec::new(alloc);
+    let mut input = input;
+    let status = start(alloc, words, &mut input, &mut out, &mut errors);
+    let is_written = out.as_slice() == want.as_bytes();
+    let is_said = errors.as_slice() == message.as_bytes();
+    status == want_status && is_written && is_said
+}
+
 #[test]
-fn says_what_failed(rt: HostRuntime) -> Result<(), Fail> {
+fn says_what_failed(rt: HostRuntime) {
     let alloc = rt.alloc();
-    let cases: [(&[u8], ErrorKind, usize, &str, &str); 5] = [
+    let cases: &[(&[u8], ErrorKind, usize, &str, &str)] = &[
         (
             b"write a hi\nsize a\nsize",
             ErrorKind::Other,
@@ -73,86 +114,54 @@ fn says_what_failed(rt: HostRuntime) -> Result<(), Fail> {
             "calc: not UTF-8\n",
         ),
     ];
-    let words: Vec<String> = Vec::new(alloc);
     for (input, kind, room, want, message) in cases {
-        let mut reader = BufReader::new(alloc, Broken(input, kind))?;
-        let taken = Vec::new(alloc);
-        let mut out = Full { taken, room };
-        let mut errors: Vec<u8> = Vec::new(alloc);
-        let status = start(alloc, words.as_slice(), &mut reader, &mut out, &mut errors);
-        assert_eq!(rt; status, 1, "for {message}");
-        assert_eq!(rt; out.taken.as_slice(), want.as_bytes(), "for {message}");
-        assert_eq!(rt; errors.as_slice(), message.as_bytes());
+        let is_so = ends(alloc, *input, *kind, *room, *want, *message);
+        assert!(rt; is_so, "for {message}");
     }
-    Ok(())
-}
-
-/// A session answered by the original.
-#[test]
-fn a_first_line_that_is_no_text_is_answered_as_by_the_original(
-    rt: HostRuntime,
-) -> Result<(), Fail> {
-    let alloc = rt.alloc();
-    let words: Vec<String> = Vec::new(alloc);
-    let mut out: Vec<u8> = Vec::new(alloc);
-    let mut errors: Vec<u8> = Vec::new(alloc);
-    let mut input = b"\xff\n".as_slice();
-    let status = start(alloc, words.as_slice(), &mut input, &mut out, &mut errors);
-    assert_eq!(rt; status, 1);
-    assert!(rt; out.is_empty());
-    assert_eq!(rt; errors.as_slice(), b"calc: not UTF-8\n".as_slice());
-    Ok(())
-}
-
-#[test]
-fn an_empty_input_is_answered_by_nothing(rt: HostRuntime) -> Result<(), Fail> {
-    let alloc = rt.alloc();
-    let words: Vec<String> = Vec::new(alloc);
-    let mut out: Vec<u8> = Vec::new(alloc);
-    let mut errors: Vec<u8> = Vec::new(alloc);
-    let mut input = b"".as_slice();
-    let status = start(alloc, words.as_slice(), &mut input, &mut out, &mut errors);
-    assert_eq!(rt; status, 0);
-    assert!(rt; out.is_empty());
-    assert!(rt; errors.is_empty());
-    Ok(())
 }
 
 #[test]
 fn starts_well_or_refuses_words(rt: HostRuntime) -> Result<(), Fail> {
     let alloc = rt.alloc();
     let mut words: Vec<String> = Vec::new(alloc);
-    let cases = [
-        (0, "miss 0\nhit 0\n", ""),
-        (2, "", "usage: calc\n"),
-        (2, "", "usage: calc\n"),
-    ];
-    for (want_status, want, message) in cases {
-        let mut out: Vec<u8> = Vec::new(alloc);
-        let mut errors: Vec<u8> = Vec::new(alloc);
-        let mut input = b"size a\nsize a\n".as_slice();
-        let status = start(alloc, words.as_slice(), &mut input, &mut out, &mut errors);
-        assert_eq!(rt; status, want_status);
-        assert_eq!(rt; out.as_slice(), want.as_bytes());
-        assert_eq!(rt; errors.as_slice(), message.as_bytes());
+    // A session answered by the original: a first line that is no text.
+    assert!(rt;
+        starts(
+            alloc,
+            words.as_slice(),
+            b"\xff\n",
+            1,
+            "",
+            "calc: not UTF-8\n"
+        )
+    );
+    assert!(rt; starts(alloc, words.as_slice(), b"", 0, "", ""));
+    let input = b"size a\nsize a\n".as_slice();
+    assert!(rt; starts(alloc, words.as_slice(), input, 0, "miss 0\nhit 0\n", ""));
+    for _ in 0..2 {
         words.push(String::from_str(alloc, "a")?)?;
+        assert!(rt; starts(alloc, words.as_slice(), input, 2, "", "usage: calc\n"));
     }
     Ok(())
+}
+
+/// Whether a program with these words ends with this status, where its errors have room for three bytes alone.
+fn ends_cut_off(alloc: Global, words: &[String], want_status: u8, message: &str) -> bool {
+    let taken = Vec::new(alloc);
+    let mut errors = Full { taken, room: 3 };
+    let mut out: Vec<u8> = Vec::new(alloc);
+    let mut input = b"size a\n\xff\n".as_slice();
+    let status = start(alloc, words, &mut input, &mut out, &mut errors);
+    let is_said = errors.taken.as_slice() == message.as_bytes();
+    status == want_status && is_said
 }
 
 #[test]
 fn a_failure_of_errors_changes_no_status(rt: HostRuntime) -> Result<(), Fail> {
     let alloc = rt.alloc();
     let mut words: Vec<String> = Vec::new(alloc);
-    for (want_status, message) in [(1, "cal"), (2, "usa")] {
-        let taken = Vec::new(alloc);
-        let mut errors = Full { taken, room: 3 };
-        let mut out: Vec<u8> = Vec::new(alloc);
-        let mut input = b"size a\n\xff\n".as_slice();
-        let status = start(alloc, words.as_slice(), &mut input, &mut out, &mut errors);
-        assert_eq!(rt; status, want_status);
-        assert_eq!(rt; errors.taken.as_slice(), message.as_bytes());
-        words.push(String::from_str(alloc, "a")?)?;
-    }
+    assert!(rt; ends_cut_off(alloc, words.as_slice(), 1, "cal"));
+    words.push(String::from_str(alloc, "a")?)?;
+    assert!(rt; ends_cut_off(alloc, words.as_slice(), 2, "usa"));
     Ok(())
 }

@@ -1,15 +1,23 @@
 //! The state of a session: the answer to each command, a hit or a miss.
 use calc_commands::{Answer, Command};
 use calc_sessions::State;
-use std::test::Fail;
+use std::alloc::Global;
+
+/// Whether a state answers this line so.
+fn answers(alloc: Global, state: &mut State, line: &str, want: Answer) -> bool {
+    match Command::parse(alloc, line) {
+        Ok(Some(command)) => state.carry_out(command) == want,
+        _ => false,
+    }
+}
 
 #[test]
-fn a_command_gets_its_answer(rt: HostRuntime) -> Result<(), Fail> {
+fn a_command_gets_its_answer(rt: HostRuntime) {
     let alloc = rt.alloc();
     let mut state = State::new(alloc);
     let miss = |bytes| Answer::Size { hit: false, bytes };
     let hit = |bytes| Answer::Size { hit: true, bytes };
-    let commands = [
+    let commands: &[(&str, Answer)] = &[
         ("write a hello", Answer::Written),
         ("size a", miss(5)),
         ("size a", hit(5)),
@@ -25,15 +33,14 @@ fn a_command_gets_its_answer(rt: HostRuntime) -> Result<(), Fail> {
         ("size ", hit(0)),
     ];
     for (line, want) in commands {
-        let command = Command::parse(alloc, line)?.ok_or("no command")?;
-        assert_eq!(rt; state.carry_out(command), want, "for {line:?}");
+        let is_so = answers(alloc, &mut state, *line, *want);
+        assert!(rt; is_so, "for {line:?}");
     }
-    Ok(())
 }
 
 /// An eviction ages what both memoized functions gave, and a hit makes it fresh again.
 #[test]
-fn an_eviction_drops_what_was_not_asked_for(rt: HostRuntime) -> Result<(), Fail> {
+fn an_eviction_drops_what_was_not_asked_for(rt: HostRuntime) {
     let alloc = rt.alloc();
     let mut state = State::new(alloc);
     let size = |hit| Answer::Size { hit, bytes: 5 };
@@ -42,7 +49,7 @@ fn an_eviction_drops_what_was_not_asked_for(rt: HostRuntime) -> Result<(), Fail>
         kept: true,
         value: Ok(3),
     };
-    let commands = [
+    let commands: &[(&str, Answer)] = &[
         ("write a hello", Answer::Written),
         ("size a", size(false)),
         ("eval 1 + 2", value(false)),
@@ -63,6 +70,35 @@ fn an_eviction_drops_what_was_not_asked_for(rt: HostRuntime) -> Result<(), Fail>
         ("evict 18446744073709551615", Answer::Evicted),
         ("size a", size(true)),
         ("eval 1 + 2", value(true)),
+    ];
+    for (line, want) in commands {
+        let is_so = answers(alloc, &mut state, *line, *want);
+        assert!(rt; is_so, "for {line:?}");
+    }
+}
+
+/// A value that is kept is a hit as often as the files that it read are as they were, until it is evicted.
+#[test]
+fn a_kept_value_is_hit_while_its_files_are_the_same(rt: HostRuntime) -> Result<(), Fail> {
+    let alloc = rt.alloc();
+    let mut state = State::new(alloc);
+    let value = |hit, number| Answer::Value {
+        hit,
+        kept: true,
+        value: Ok(number),
+    };
+    let commands = [
+        ("write a 1 + eval b", Answer::Written),
+        ("write b 2", Answer::Written),
+        ("eval eval a", value(false, 3)),
+        ("write c 9", Answer::Written),
+        ("eval eval a", value(true, 3)),
+        ("write b 5", Answer::Written),
+        ("eval eval a", value(false, 6)),
+        ("write b 2", Answer::Written),
+        ("eval eval a", value(true, 3)),
+        ("evict 0", Answer::Evicted),
+        ("eval eval a", value(false, 3)),
     ];
     for (line, want) in commands {
         let command = Command::parse(alloc, line)?.ok_or("no command")?;

@@ -1,5 +1,5 @@
 -- How a call of a memoized function begins.
-use Rattle.std.specs.Prelude.{◌≡◌, ◌⊎◌, Bool, true, List, [], ◌∷◌, ◌++◌, IsTrue, refl}
+use Rattle.std.specs.Prelude.{◌≡◌, ◌⊎◌, Bool, true, false, List, [], ◌∷◌, ◌++◌, IsTrue, refl}
 use Rattle.std.specs.Coded.{Coded, code_by, coded×, coded_bool}
 use Rattle.comemo_base.specs.Answers.{Respects, Agrees}
 use Rattle.comemo_track.specs.Recording.{Recording, recording_code}
@@ -32,7 +32,7 @@ module _ {K C R O : Type 0} (M : Meaning K C R O) (es : Entries K C R O) (call :
     pub right : (n : C → R) (output : O) (writes : List C) → Respects M.same_call M.same_answer n → M.def own n output writes → M.def call.key n output writes
     pub none : call.enabled ≡ true → HasNone M es call
 
-  -- a run begins with the key, up to equality, and an empty recording that is whole, and where it is enabled no kept entry
+  -- a run begins with the key, up to equality, and an empty recording that is whole and not late, and where it is enabled no kept entry
   -- has the key and agrees
   pub record IsRun (begun : PendingRun K C R) : Type 0 where
     pub has_key : IsTrue (M.same_key call.key begun.key)
@@ -41,6 +41,7 @@ module _ {K C R O : Type 0} (M : Meaning K C R O) (es : Entries K C R O) (call :
     pub pairs : begun.recording.pairs ≡ []
     pub writes : begun.recording.writes ≡ []
     pub whole : begun.recording.whole ≡ true
+    pub early : begun.recording.late ≡ false
     pub none : call.enabled ≡ true → HasNone M es call
 
   -- a hit: an entry was kept that has the key and agrees with the answers; its path, and its writes in order, went to the

@@ -220,7 +220,7 @@ fn a_closure_writes_and_its_hit_writes_again(rt: HostRuntime) -> Result<(), Fail
             counter.track_mut(alloc),
             &mut Top::new(),
             true,
-            |view: &mut TrackedMut<'_, Counter>, recording: &mut Constraint<CounterCall, ()>| {
+            |view: &mut TrackedMut<'_, Counter>, recording: &mut Constraint<CounterCall, u64>| {
                 view.write(CounterCall::Add(3), recording)?;
                 Ok(())
             },

@@ -28,7 +28,7 @@ impl Memo for CountMemo {
 
     type Key = Numbers;
 
-    type Answer = ();
+    type Answer = u64;
 
     type Out = u64;
 
@@ -52,7 +52,7 @@ fn add_each(
     cache: &mut CacheData<CountMemo>,
     numbers: Numbers,
     counter: &mut Counter,
-    recording: &mut Constraint<CounterCall, ()>,
+    recording: &mut Constraint<CounterCall, u64>,
 ) -> Result<u64, Fault>
     ensures output { IfOk result (λ sum.
         sum ≡ sum_from numbers.first numbers.count % 2 ^ 64) }
@@ -85,7 +85,7 @@ fn count_within(
     cache: &mut CacheData<CountMemo>,
     numbers: Numbers,
     counter: &mut Counter,
-    recording: &mut Constraint<CounterCall, ()>,
+    recording: &mut Constraint<CounterCall, u64>,
 ) -> Result<Reply<u64>, Fault>
     ensures output { IfOk result (λ reply.
         reply.output ≡ sum_from numbers.first numbers.count % 2 ^ 64) }

@@ -1,6 +1,7 @@
 use Rattle.std.proofs.Common.{rules, refl}
 use Rattle.comemo.proofs.Telling.{told_answer}
 use Rattle.comemo.proofs.Calls.{reply_by_hit, reply_by_run, of_memory, never_refused}
+use Rattle.comemo.proofs.Recorders.{stays_early}
 use Rattle.comemo_samples.specs.Contexts.{field}
 use Rattle.comemo_tests.proofs.Contexts.{same_calls, respects_field}
 use Rattle.comemo_tests.proofs.Failing.{given_up, on_reply, on_err}
@@ -24,7 +25,7 @@ returns-in-Ok-clause-reply g c =
     let m = field c.args.context.now.location c.args.context.now.styles in
     let respects = respects_field c.args.context.now.location c.args.context.now.styles in
     let t = told_answer same_calls same_numbers m respects _ _ _ _ (rw run.0.pairs tt) asks in
-    on_reply (λ reply done. reply_by_run run.0 t.agrees (λ m r a. same_number _ _ (t.told m r a)) done) c.finish.result (rw run.3 at (rw run.2 at c.finish.ensures.finished))
+    on_reply (λ reply done. reply_by_run g.S.Sink.took g.S.Sink.lates run.0 (stays_early asks.sent (rw run.0.writes refl) (rw run.0.early refl)) t.agrees (λ m r a. same_number _ _ (t.told m r a)) done) c.finish.result (rw run.3 at (rw run.2 at c.finish.ensures.finished))
 
 pub returns-in_default-clause-err : goal.returns-in_default-clause-err
 returns-in_default-clause-err g c =

@@ -1,6 +1,7 @@
 use Rattle.std.proofs.Common.{rules, ◌+◌, ◌%◌, ◌^◌, ap, refl}
 use Rattle.comemo.proofs.Telling.{told_pairs}
 use Rattle.comemo.proofs.Calls.{reply_by_hit, reply_by_run, of_memory, never_refused}
+use Rattle.comemo.proofs.Recorders.{stays_early}
 use Rattle.comemo_samples.specs.Contexts.{field}
 use Rattle.comemo_tests.proofs.Contexts.{same_calls, respects_field}
 use Rattle.comemo_tests.proofs.Failing.{given_up, on_reply, on_err}
@@ -17,14 +18,14 @@ returns-in-Hit-clause-reply g c =
     let hit = rw c.in-Hit.is at c.in_ok-output.ensures.hit in
     rw (← c.fork.ensures) (reply_by_hit same_calls same_numbers c.args.cache.now c.begin.new.cache hit.0 hit.1)
 
-pub finish-requires : goal.finish-requires
-finish-requires g c =
+pub finish-requires-clause-stands : goal.finish-requires-clause-stands
+finish-requires-clause-stands g c =
     let run = rw c.in-Run.is at c.in_ok-output.ensures.run in
     let is = rw c.recording.ensures.value at c.in-Ok.ensures.reply in
     let m = field c.args.context.now.location c.args.context.now.styles in
     let respects = respects_field c.args.context.now.location c.args.context.now.styles in
     let t = told_pairs same_calls same_numbers m respects _ _ is.gives.given is.writes (rw run.0.pairs tt) ((is.gives.agreeing m respects).1 is.agrees) is.gives.are_sent in
-    λ _ m r a. ap (λ n. (n + n) % 2 ^ 64) (is.stands m r ((is.gives.agreeing m r).0 (t.told m r a)))
+    λ _ _ m r a. ap (λ n. (n + n) % 2 ^ 64) (is.stands m r ((is.gives.agreeing m r).0 (t.told m r a)))
 
 pub returns-in-Ok-clause-reply : goal.returns-in-Ok-clause-reply
 returns-in-Ok-clause-reply g c =
@@ -33,7 +34,7 @@ returns-in-Ok-clause-reply g c =
     let m = field c.args.context.now.location c.args.context.now.styles in
     let respects = respects_field c.args.context.now.location c.args.context.now.styles in
     let t = told_pairs same_calls same_numbers m respects _ _ is.gives.given is.writes (rw run.0.pairs tt) ((is.gives.agreeing m respects).1 is.agrees) is.gives.are_sent in
-    on_reply (λ reply done. reply_by_run run.0 t.agrees (λ m r a. ap (λ n. (n + n) % 2 ^ 64) (is.stands m r ((is.gives.agreeing m r).0 (t.told m r a)))) done) c.finish.result (rw run.3 at (rw run.2 at c.finish.ensures.finished))
+    on_reply (λ reply done. reply_by_run g.S.Sink.took g.S.Sink.lates run.0 (stays_early is.gives.are_sent (rw run.0.writes refl) (rw run.0.early refl)) t.agrees (λ m r a. ap (λ n. (n + n) % 2 ^ 64) (is.stands m r ((is.gives.agreeing m r).0 (t.told m r a)))) done) c.finish.result (rw run.3 at (rw run.2 at c.finish.ensures.finished))
 
 pub returns-in-Err-clause-err : goal.returns-in-Err-clause-err
 returns-in-Err-clause-err g c =

@@ -11,10 +11,10 @@ returns-in-Hit-clause-output g c =
     let row = numbers c.fork.result.numbers.items in
     rw (← c.fork.ensures) (hit.stands row (respects_places row) hit.agrees)
 
-pub finish-requires : goal.finish-requires
-finish-requires g c =
+pub finish-requires-clause-stands : goal.finish-requires-clause-stands
+finish-requires-clause-stands g c =
     let run = rw c.in-Run.is at c.in_ok-output.ensures.run in
-    λ _ m r a. first_zero_alike c.args.length c.in-Run.pending.key (by_call m) c.in-Ok.at run.0.has_key (c.in-Ok.ensures.told m r a)
+    λ _ _ m r a. first_zero_alike c.args.length c.in-Run.pending.key (by_call m) c.in-Ok.at run.0.has_key (c.in-Ok.ensures.told m r a)
 
 pub returns-in-Ok-clause-output : goal.returns-in-Ok-clause-output
 returns-in-Ok-clause-output g c =
