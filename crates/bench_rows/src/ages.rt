@@ -35,7 +35,7 @@ impl Function for Null {
 pub(crate) fn hits_stay_young(alloc: Global) -> Result<bool, Broken> {
     let mut cache: CacheData<MemoOf<Null>> = CacheData::new(alloc);
     // How many evictions come before a call, their bound, and what becomes of the call.
-    let calls = [
+    let calls: &[(u32, usize, How)] = &[
         (0, 0, How::Stored),
         (0, 0, How::Hit),
         (1, 2, How::Hit),
@@ -47,10 +47,10 @@ pub(crate) fn hits_stay_young(alloc: Global) -> Result<bool, Broken> {
         (1, usize::MAX, How::Hit),
     ];
     for (times, max_age, how) in calls {
-        for _ in 0..times {
-            cache.evict(max_age);
+        for _ in 0..*times {
+            cache.evict(*max_age);
         }
-        if !gives(call(alloc, &mut cache, (), &())?, 0, how) {
+        if !gives(call(alloc, &mut cache, (), &())?, 0, *how) {
             return Ok(false);
         }
     }
@@ -107,27 +107,41 @@ const Y: u32 = 2;
 
 const Z: u32 = 3;
 
-/// Steps under one key, of one path.
-fn steps_of_one_path(alloc: Global) -> Result<Vec<Step<Anything>>, AllocError>
+/// Steps, where there was memory for them.
+type Steps = Result<Vec<Step<Anything>>, AllocError>;
+
+/// The steps and one more, where there was memory for all of them.
+fn add(steps: Steps, step: Result<Step<Anything>, AllocError>) -> Steps
+    requires before { IfOk steps (λ steps.
+        All (IsStep ⟦<Anything as Meant>⟧.meaning) steps.items) }
+    requires one_more { IfOk step (IsStep ⟦<Anything as Meant>⟧.meaning) }
     ensures { IfOk result (λ steps. All (IsStep ⟦<Anything as Meant>⟧.meaning) steps.items) }
 {
-    let mut steps = Vec::new(alloc);
-    steps.push(store(alloc, 1, &[(b'a', 10)], X, &[])?)?;
-    steps.push(look(alloc, 1, &[(b'a', 10)], 0)?)?;
-    steps.push(evict(0))?;
-    steps.push(store(alloc, 1, &[(b'a', 10)], Y, &[])?)?;
-    steps.push(evict(1))?;
-    steps.push(touch(alloc, 1, &[10])?)?;
-    steps.push(evict(1))?;
-    steps.push(look(alloc, 1, &[(b'a', 10)], 0)?)?;
-    steps.push(evict(1))?;
-    steps.push(look(alloc, 1, &[(b'a', 10)], 0)?)?;
+    let mut steps = steps?;
+    steps.push(step?)?;
     Ok(steps)
+}
+
+/// Steps under one key, of one path.
+fn steps_of_one_path(alloc: Global) -> Steps
+    ensures { IfOk result (λ steps. All (IsStep ⟦<Anything as Meant>⟧.meaning) steps.items) }
+{
+    let steps = Ok(Vec::new(alloc));
+    let steps = add(steps, store(alloc, 1, &[(b'a', 10)], X, &[]));
+    let steps = add(steps, look(alloc, 1, &[(b'a', 10)], 0));
+    let steps = add(steps, Ok(evict(0)));
+    let steps = add(steps, store(alloc, 1, &[(b'a', 10)], Y, &[]));
+    let steps = add(steps, Ok(evict(1)));
+    let steps = add(steps, touch(alloc, 1, &[10]));
+    let steps = add(steps, Ok(evict(1)));
+    let steps = add(steps, look(alloc, 1, &[(b'a', 10)], 0));
+    let steps = add(steps, Ok(evict(1)));
+    add(steps, look(alloc, 1, &[(b'a', 10)], 0))
 }
 
 /// Whether a touch makes an entry young again, and a look-up doesn't.
 pub(crate) fn touches_stay_young(alloc: Global) -> Result<bool, Broken> {
-    let wanted = [
+    let wanted: &[Said] = &[
         Said::Stored,
         Said::Found(X),
         Said::Done,
@@ -139,34 +153,33 @@ pub(crate) fn touches_stay_young(alloc: Global) -> Result<bool, Broken> {
         Said::Done,
         Said::NotFound,
     ];
-    Ok(are_answered(alloc, steps_of_one_path(alloc)?, &wanted)?)
+    Ok(are_answered(alloc, steps_of_one_path(alloc)?, wanted)?)
 }
 
 /// Steps under one key, of paths of other calls with an answer that was there before.
-fn steps_of_another_path(alloc: Global) -> Result<Vec<Step<Anything>>, AllocError>
+fn steps_of_another_path(alloc: Global) -> Steps
     ensures { IfOk result (λ steps. All (IsStep ⟦<Anything as Meant>⟧.meaning) steps.items) }
 {
-    let mut steps = Vec::new(alloc);
-    steps.push(store(alloc, 1, &[(b'a', 10)], X, &[])?)?;
-    steps.push(look(alloc, 1, &[(b'a', 10)], 0)?)?;
-    steps.push(evict(0))?;
-    steps.push(touch(alloc, 1, &[10])?)?;
-    steps.push(store(alloc, 1, &[(b'b', 10)], Y, &[])?)?;
-    steps.push(evict(1))?;
-    steps.push(touch(alloc, 1, &[10])?)?;
-    steps.push(evict(1))?;
-    steps.push(store(alloc, 1, &[(b'c', 1)], Z, &[])?)?;
-    steps.push(store(alloc, 1, &[(b'c', 1), (b'b', 10)], Z, &[])?)?;
-    steps.push(look(alloc, 1, &[(b'a', 10)], 0)?)?;
-    steps.push(look(alloc, 1, &[(b'b', 10)], 0)?)?;
-    steps.push(evict(1))?;
-    steps.push(look(alloc, 1, &[(b'b', 10)], 0)?)?;
-    Ok(steps)
+    let steps = Ok(Vec::new(alloc));
+    let steps = add(steps, store(alloc, 1, &[(b'a', 10)], X, &[]));
+    let steps = add(steps, look(alloc, 1, &[(b'a', 10)], 0));
+    let steps = add(steps, Ok(evict(0)));
+    let steps = add(steps, touch(alloc, 1, &[10]));
+    let steps = add(steps, store(alloc, 1, &[(b'b', 10)], Y, &[]));
+    let steps = add(steps, Ok(evict(1)));
+    let steps = add(steps, touch(alloc, 1, &[10]));
+    let steps = add(steps, Ok(evict(1)));
+    let steps = add(steps, store(alloc, 1, &[(b'c', 1)], Z, &[]));
+    let steps = add(steps, store(alloc, 1, &[(b'c', 1), (b'b', 10)], Z, &[]));
+    let steps = add(steps, look(alloc, 1, &[(b'a', 10)], 0));
+    let steps = add(steps, look(alloc, 1, &[(b'b', 10)], 0));
+    let steps = add(steps, Ok(evict(1)));
+    add(steps, look(alloc, 1, &[(b'b', 10)], 0))
 }
 
 /// Whether a touch by the answers of an entry that went makes a younger one young, and nothing else does.
 pub(crate) fn touches_go_by_answers(alloc: Global) -> Result<bool, Broken> {
-    let wanted = [
+    let wanted: &[Said] = &[
         Said::Stored,
         Said::Found(X),
         Said::Done,
@@ -182,5 +195,5 @@ pub(crate) fn touches_go_by_answers(alloc: Global) -> Result<bool, Broken> {
         Said::Done,
         Said::NotFound,
     ];
-    Ok(are_answered(alloc, steps_of_another_path(alloc)?, &wanted)?)
+    Ok(are_answered(alloc, steps_of_another_path(alloc)?, wanted)?)
 }

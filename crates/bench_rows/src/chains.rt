@@ -1,7 +1,7 @@
 //! The row of chains, which borrow one another.
 
 use crate::broken::Broken;
-use comemo::{CacheData, Fault, How, Top, Track, memoized};
+use comemo::{CacheData, How, Top, Track, memoized};
 use comemo_guide::chains::{Chain, IsInChain};
 use std::alloc::Global;
 
@@ -13,10 +13,12 @@ fn says(
     number: u32,
     output: bool,
     how: How,
-) -> Result<bool, Fault> {
+) -> bool {
     let view = chain.track(alloc);
-    let reply = memoized(alloc, cache, &mut (), number, &view, &mut Top::new(), true)?;
-    Ok(reply.output == output && reply.how == how)
+    match memoized(alloc, cache, &mut (), number, &view, &mut Top::new(), true) {
+        Ok(reply) => reply.output == output && reply.how == how,
+        Err(_) => false,
+    }
 }
 
 /// Whether chains that answer alike share what is kept.
@@ -28,13 +30,13 @@ pub(crate) fn chains_share_what_is_kept(alloc: Global) -> Result<bool, Broken> {
     let to_three = Chain::insert(&to_two, 3);
     let to_four = Chain::insert(&to_two, 4);
     let to_five = Chain::insert(&to_four, 5);
-    let lacks = says(alloc, &mut cache, &one, 0, false, How::Stored)?;
-    let has = says(alloc, &mut cache, &one, 1, true, How::Stored)?;
-    let has_two = says(alloc, &mut cache, &to_three, 2, true, How::Stored)?;
-    let by_four = says(alloc, &mut cache, &to_four, 2, true, How::Hit)?;
-    let by_two = says(alloc, &mut cache, &to_two, 2, true, How::Hit)?;
-    let by_five = says(alloc, &mut cache, &to_five, 2, true, How::Hit)?;
-    let lacks_two = says(alloc, &mut cache, &one, 2, false, How::Stored)?;
-    let by_three = says(alloc, &mut cache, &three, 2, false, How::Hit)?;
+    let lacks = says(alloc, &mut cache, &one, 0, false, How::Stored);
+    let has = says(alloc, &mut cache, &one, 1, true, How::Stored);
+    let has_two = says(alloc, &mut cache, &to_three, 2, true, How::Stored);
+    let by_four = says(alloc, &mut cache, &to_four, 2, true, How::Hit);
+    let by_two = says(alloc, &mut cache, &to_two, 2, true, How::Hit);
+    let by_five = says(alloc, &mut cache, &to_five, 2, true, How::Hit);
+    let lacks_two = says(alloc, &mut cache, &one, 2, false, How::Stored);
+    let by_three = says(alloc, &mut cache, &three, 2, false, How::Hit);
     Ok(lacks && has && has_two && by_four && by_two && by_five && lacks_two && by_three)
 }

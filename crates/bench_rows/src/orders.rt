@@ -87,19 +87,17 @@ fn hold(alloc: Global, calls: &[Call<'_>]) -> Result<bool, Fault> {
 
 /// Whether a run that lacks a stored read is not kept, and one that asks in another order takes the same path.
 pub(crate) fn runs_in_another_order(alloc: Global) -> Result<bool, Broken> {
-    let location = [PlaceCall::Location];
-    let styles = [PlaceCall::Styles];
-    let in_order = [PlaceCall::Location, PlaceCall::Styles];
-    let turned = [PlaceCall::Styles, PlaceCall::Location];
-    let lacking: [Call<'_>; 2] = [
-        (0, &location, "Some(0)", How::Stored, 1),
-        (1, &styles, "None styles", How::MissingCall, 1),
+    let in_order: &[PlaceCall] = &[PlaceCall::Location, PlaceCall::Styles];
+    let turned: &[PlaceCall] = &[PlaceCall::Styles, PlaceCall::Location];
+    let lacking: &[Call<'_>] = &[
+        (0, &[PlaceCall::Location], "Some(0)", How::Stored, 1),
+        (1, &[PlaceCall::Styles], "None styles", How::MissingCall, 1),
     ];
-    let ordered: [Call<'_>; 4] = [
-        (0, &in_order, "Some(0) styles", How::Stored, 1),
-        (0, &turned, "Some(0) styles", How::Hit, 1),
-        (1, &turned, "Some(1) styles", How::Stored, 2),
-        (1, &turned, "Some(1) styles", How::Hit, 2),
+    let ordered: &[Call<'_>] = &[
+        (0, in_order, "Some(0) styles", How::Stored, 1),
+        (0, turned, "Some(0) styles", How::Hit, 1),
+        (1, turned, "Some(1) styles", How::Stored, 2),
+        (1, turned, "Some(1) styles", How::Hit, 2),
     ];
-    Ok(hold(alloc, &lacking)? && hold(alloc, &ordered)?)
+    Ok(hold(alloc, lacking)? && hold(alloc, ordered)?)
 }

@@ -59,7 +59,7 @@ pub(crate) fn a_script_too_high_is_told_so(alloc: Global) -> Result<bool, Broken
 
 /// Whether a script without a number says why, and what is no command is said to be none.
 pub(crate) fn a_script_without_a_number_says_why(alloc: Global) -> Result<bool, Broken> {
-    let sessions = [
+    let sessions: &[(&str, &str)] = &[
         (
             "eval 2147483647 + 1\neval 2147483647 + 1",
             "miss overflow\nhit overflow\n",
@@ -79,11 +79,29 @@ pub(crate) fn a_script_without_a_number_says_why(alloc: Global) -> Result<bool, 
         ("help", "bad command\n"),
     ];
     for (lines, wanted) in sessions {
-        if !prints(alloc, lines, wanted)? {
+        if !prints(alloc, *lines, *wanted)? {
             return Ok(false);
         }
     }
     Ok(true)
+}
+
+/// Whether scripts that call one another in a circle, that fail on the way, or that never end are told so, and the last one
+/// again after it was mended.
+pub(crate) fn scripts_that_misbehave_are_told_so(alloc: Global) -> Result<bool, Broken> {
+    let lines = "write p 1 + eval q\n\
+        write q eval p\n\
+        eval eval p\n\
+        write q 2\n\
+        eval eval p\n\
+        eval eval p\n\
+        write q x + eval p\n\
+        eval eval p\n\
+        eval 2147483647 + 1 + eval q\n\
+        write loop eval loop\n\
+        eval 1 + eval loop\n";
+    let wanted = "too deep\nmiss 3\nhit 3\nmiss not a number\nmiss overflow\ntoo deep\n";
+    prints(alloc, lines, wanted)
 }
 
 /// Whether the bytes of files are counted, and no input is answered by nothing.

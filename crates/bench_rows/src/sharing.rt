@@ -3,7 +3,7 @@
 use crate::broken::Broken;
 use bench_workers::{
     Null, branches_are_absorbed_in_order, evictions_reach_a_cache, two_runs_of_one_key,
-    two_runs_that_ask_in_turned_order, two_runs_that_ask_other_questions,
+    two_runs_that_ask_in_turned_order, two_runs_that_ask_other_questions, workers_beside_evictions,
 };
 use comemo::{Cache, Evict, Memo, MemoOf};
 use comemo_guide::double::Double;
@@ -36,6 +36,14 @@ pub(crate) fn turned_orders<R: Threads + Wait + Clock + Sync>(
     alloc: Global,
 ) -> Result<bool, Broken> {
     Ok(two_runs_that_ask_in_turned_order(rt, alloc)?)
+}
+
+/// Whether sixteen workers get right outputs beside a thread that evicts their cache.
+pub(crate) fn evictions_beside_workers<R: Threads + Wait + Sync>(
+    rt: &R,
+    alloc: Global,
+) -> Result<bool, Broken> {
+    Ok(workers_beside_evictions(rt, alloc, &Cache::new(alloc))?)
 }
 
 /// Evicts a cache that it borrows.

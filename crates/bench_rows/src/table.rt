@@ -4,7 +4,9 @@ ghost use Rattle.bench_rows.specs.Started.{row_numbers};
 
 use crate::ages::{hits_stay_young, touches_go_by_answers, touches_stay_young};
 use crate::chains::chains_share_what_is_kept;
+use crate::exact::{keys_of_one_hash_are_kept_apart, what_is_said_to_be_kept_is_found};
 use crate::hashes::{a_kept_hash_follows_its_item, two_pieces_hash_as_the_whole};
+use crate::limits::a_limit_holds_for_a_hit;
 use crate::numbers::numbers_are_kept;
 use crate::orders::runs_in_another_order;
 use crate::outcome::Outcome;
@@ -12,12 +14,15 @@ use crate::places::a_thousand_places_are_kept;
 use crate::recordings::recordings_absorb_and_hold;
 use crate::sessions::{
     a_script_too_high_is_told_so, a_script_without_a_number_says_why,
-    a_value_is_kept_until_its_files_change, the_bytes_of_files_are_counted,
+    a_value_is_kept_until_its_files_change, scripts_that_misbehave_are_told_so,
+    the_bytes_of_files_are_counted,
 };
 use crate::settled::no_run_is_lost;
 use crate::sharing::{
-    a_shared_cache_stores_one_of_two, branches_and_evictions, other_questions, turned_orders,
+    a_shared_cache_stores_one_of_two, branches_and_evictions, evictions_beside_workers,
+    other_questions, turned_orders,
 };
+use crate::streams::what_was_answered_was_written;
 use crate::texts::{functions_are_kept, two_kinds_of_questions};
 use crate::trees::{
     a_call_that_was_taken_out_stays_seen, a_path_follows_the_stored_ones,
@@ -33,8 +38,9 @@ use std::thread::Threads;
 
 /// Runs each row, and says which failed first.
 ///
-/// The longest, of a thousand places, calls a function two thousand times, and one stores and looks up a thousand runs;
-/// each of the others makes some dozen calls. Three start two threads each, of which two wait for each other.
+/// The longest starts seventeen threads, of which sixteen make two thousand calls each; one, of a thousand places, calls
+/// a function two thousand times, and one stores and looks up a thousand runs; each of the others makes some dozen calls.
+/// Three more start two threads each, of which two wait for each other.
 /// A row for which there is no memory fails. This project's own.
 pub fn run_rows<R: Threads + Wait + Clock + Sync>(rt: &R, alloc: Global) -> Outcome
     ensures { IfSome result (Contains row_numbers) }
@@ -67,8 +73,14 @@ pub fn run_rows<R: Threads + Wait + Clock + Sync>(rt: &R, alloc: Global) -> Outc
     rows.row("R8", branches_and_evictions(rt, alloc));
     rows.row("R10", no_run_is_lost(alloc));
     rows.row("R11", a_view_asks_once(alloc));
-    rows.row("R13", touches_go_by_answers(alloc));
+    rows.row("R12", what_was_answered_was_written(alloc));
     rows.row("R13", other_questions(rt, alloc));
+    rows.row("R13", touches_go_by_answers(alloc));
+    rows.row("R13", scripts_that_misbehave_are_told_so(alloc));
+    rows.row("R13", a_limit_holds_for_a_hit(alloc));
+    rows.row("R13", evictions_beside_workers(rt, alloc));
+    rows.row("R14", keys_of_one_hash_are_kept_apart(alloc));
+    rows.row("R14", what_is_said_to_be_kept_is_found(alloc));
     rows.row("R14", turned_orders(rt, alloc));
     rows
 }

@@ -2,7 +2,7 @@
 
 use crate::broken::Broken;
 use crate::calls::{call, gives, gives_text};
-use comemo::{CacheData, Fault, How, MemoOf, Reply, Top, Track, memoized};
+use comemo::{CacheData, How, MemoOf, Top, Track, memoized};
 use comemo_guide::greetings::{Greeting, SaysHello, World};
 use comemo_guide::kinds::{IsLong, Selfie, Text};
 use comemo_guide::loader::{Contents, Library, Loader};
@@ -10,35 +10,46 @@ use comemo_guide::numbers::SumBelow;
 use comemo_guide::texts::Same;
 use std::alloc::{AllocError, Global};
 
-/// What a text is called whose length and five pass ten, or do not.
-fn named(reply: Reply<bool>) -> (&'static str, How) {
-    (if reply.output { "Long" } else { "Short" }, reply.how)
+/// Whether a text gives itself, and this became of the call.
+fn says_itself(alloc: Global, cache: &mut CacheData<MemoOf<Selfie>>, text: &str, how: How) -> bool {
+    let Ok(own) = String::from_str(alloc, text) else {
+        return false;
+    };
+    match call(alloc, cache, (), &Text { text: own }) {
+        Ok(reply) => gives_text(reply, text, how),
+        Err(_) => false,
+    }
+}
+
+/// Whether a text is called long or not, as it is where its length and five pass ten, and this became of the call.
+fn is_called(
+    alloc: Global,
+    cache: &mut CacheData<MemoOf<IsLong>>,
+    text: &str,
+    long: bool,
+    how: How,
+) -> bool {
+    let Ok(own) = String::from_str(alloc, text) else {
+        return false;
+    };
+    match call(alloc, cache, (), &Text { text: own }) {
+        Ok(reply) => gives(reply, long, how),
+        Err(_) => false,
+    }
 }
 
 /// Whether a text answers two kinds of questions, each to its own function.
 pub(crate) fn two_kinds_of_questions(alloc: Global) -> Result<bool, Broken> {
     let mut selfies: CacheData<MemoOf<Selfie>> = CacheData::new(alloc);
     let mut lengths: CacheData<MemoOf<IsLong>> = CacheData::new(alloc);
-    let hi = Text {
-        text: String::from_str(alloc, "Hi")?,
-    };
-    let loud = Text {
-        text: String::from_str(alloc, "Hi!")?,
-    };
-    let longer = Text {
-        text: String::from_str(alloc, "Hi! Let's go.")?,
-    };
-    let first = gives_text(call(alloc, &mut selfies, (), &hi)?, "Hi", How::Stored);
-    for (text, name, how) in [(&hi, "Short", How::Stored), (&hi, "Short", How::Hit)] {
-        if named(call(alloc, &mut lengths, (), text)?) != (name, how) {
-            return Ok(false);
-        }
-    }
-    let again = gives_text(call(alloc, &mut selfies, (), &hi)?, "Hi", How::Hit);
-    let other = gives_text(call(alloc, &mut selfies, (), &loud)?, "Hi!", How::Stored);
-    let short = named(call(alloc, &mut lengths, (), &loud)?);
-    let long = named(call(alloc, &mut lengths, (), &longer)?);
-    Ok(first && again && other && short == ("Short", How::Stored) && long == ("Long", How::Stored))
+    let first = says_itself(alloc, &mut selfies, "Hi", How::Stored);
+    let stored = is_called(alloc, &mut lengths, "Hi", false, How::Stored);
+    let hit = is_called(alloc, &mut lengths, "Hi", false, How::Hit);
+    let again = says_itself(alloc, &mut selfies, "Hi", How::Hit);
+    let other = says_itself(alloc, &mut selfies, "Hi!", How::Stored);
+    let short = is_called(alloc, &mut lengths, "Hi!", false, How::Stored);
+    let long = is_called(alloc, &mut lengths, "Hi! Let's go.", true, How::Stored);
+    Ok(first && stored && hit && again && other && short && long)
 }
 
 /// Whether what a function of nothing gives is kept.
@@ -65,25 +76,25 @@ fn a_sum_is_kept(alloc: Global) -> Result<bool, Broken> {
 }
 
 /// Whether a cache of texts gives this text, and this became of the call.
-fn keeps(
-    alloc: Global,
-    cache: &mut CacheData<MemoOf<Same>>,
-    text: &str,
-    how: How,
-) -> Result<bool, Fault> {
-    let reply = call(alloc, cache, String::from_str(alloc, text)?, &())?;
-    Ok(gives_text(reply, text, how))
+fn keeps(alloc: Global, cache: &mut CacheData<MemoOf<Same>>, text: &str, how: How) -> bool {
+    let Ok(own) = String::from_str(alloc, text) else {
+        return false;
+    };
+    match call(alloc, cache, own, &()) {
+        Ok(reply) => gives_text(reply, text, how),
+        Err(_) => false,
+    }
 }
 
 /// Whether two functions of texts have each a cache of their own.
-fn each_function_has_its_cache(alloc: Global) -> Result<bool, Broken> {
+fn each_function_has_its_cache(alloc: Global) -> bool {
     let mut taken: CacheData<MemoOf<Same>> = CacheData::new(alloc);
     let mut copied: CacheData<MemoOf<Same>> = CacheData::new(alloc);
-    let first = keeps(alloc, &mut taken, "Hello", How::Stored)?;
-    let second = keeps(alloc, &mut copied, "Hello", How::Stored)?;
-    let third = keeps(alloc, &mut taken, "World", How::Stored)?;
-    let fourth = keeps(alloc, &mut taken, "Hello", How::Hit)?;
-    Ok(first && second && third && fourth)
+    let first = keeps(alloc, &mut taken, "Hello", How::Stored);
+    let second = keeps(alloc, &mut copied, "Hello", How::Stored);
+    let third = keeps(alloc, &mut taken, "World", How::Stored);
+    let fourth = keeps(alloc, &mut taken, "Hello", How::Hit);
+    first && second && third && fourth
 }
 
 /// Whether a text is asked if it is `hello`, and nothing else.
@@ -149,7 +160,7 @@ pub(crate) fn functions_are_kept(alloc: Global) -> Result<bool, Broken> {
     Ok(
         the_world_is_big(alloc)?
             && a_sum_is_kept(alloc)?
-            && each_function_has_its_cache(alloc)?
+            && each_function_has_its_cache(alloc)
             && hello_is_asked_for(alloc)?
             && each_path_is_loaded_once(alloc)?,
     )

@@ -56,90 +56,134 @@ fn finds(
     Ok(found.copied() == value && asked.as_slice() == calls)
 }
 
-const FIRST: [(u8, u128); 2] = [(b'a', 10), (b'b', 15)];
+/// Pairs of a path.
+type Pairs = &'static [(u8, u128)];
 
-const SECOND: [(u8, u128); 3] = [(b'a', 10), (b'c', 15), (b'b', 20)];
-
-const THIRD: [(u8, u128); 3] = [(b'a', 15), (b'b', 30), (b'c', 15)];
-
-/// Three paths under one key, of which the second goes on with its own calls after the first pair of the first.
-fn three_paths(alloc: Global) -> Result<Tree, InsertError> {
+/// Puts each value under its pairs into a new tree.
+fn tree_of(alloc: Global, paths: &[(Pairs, char)]) -> Result<Tree, InsertError> {
     let mut tree = CallTree::new(alloc);
-    insert(alloc, &mut tree, &FIRST, 'f')?;
-    insert(alloc, &mut tree, &SECOND, 's')?;
-    insert(alloc, &mut tree, &THIRD, 't')?;
+    for (pairs, value) in paths {
+        insert(alloc, &mut tree, *pairs, *value)?;
+    }
     Ok(tree)
+}
+
+/// A look under the key 0: the answers, the value that is found by them, and the calls that are asked for it.
+type Look = (Pairs, Option<char>, &'static [u8]);
+
+/// Whether a tree with this shape finds all this.
+fn finds_all(
+    alloc: Global,
+    tree: &Tree,
+    shape: (usize, usize, usize, usize),
+    looks: &[Look],
+) -> Result<bool, AllocError> {
+    for (table, value, calls) in looks {
+        if !finds(alloc, tree, 0, *table, *value, *calls)? {
+            return Ok(false);
+        }
+    }
+    Ok(tree.shape() == shape)
 }
 
 /// Whether paths that part are each found by their own answers.
 pub(crate) fn paths_that_part(alloc: Global) -> Result<bool, Broken> {
-    let mut tree = CallTree::new(alloc);
-    insert(alloc, &mut tree, &[(b'a', 10), (b'b', 15)], 'f')?;
-    insert(alloc, &mut tree, &[(b'a', 10), (b'b', 20)], 's')?;
-    insert(alloc, &mut tree, &[(b'a', 15), (b'c', 15)], 't')?;
-    let first = finds(alloc, &tree, 0, &[(b'a', 10), (b'b', 15)], Some('f'), b"ab")?;
-    let second = finds(alloc, &tree, 0, &[(b'a', 10), (b'b', 20)], Some('s'), b"ab")?;
-    let third = finds(alloc, &tree, 0, &[(b'a', 15), (b'c', 15)], Some('t'), b"ac")?;
-    Ok(first && second && third && tree.shape() == (3, 3, 5, 1))
+    let first: Pairs = &[(b'a', 10), (b'b', 15)];
+    let second: Pairs = &[(b'a', 10), (b'b', 20)];
+    let third: Pairs = &[(b'a', 15), (b'c', 15)];
+    let tree = tree_of(alloc, &[(first, 'f'), (second, 's'), (third, 't')])?;
+    let looks: &[Look] = &[
+        (first, Some('f'), b"ab"),
+        (second, Some('s'), b"ab"),
+        (third, Some('t'), b"ac"),
+    ];
+    Ok(finds_all(alloc, &tree, (3, 3, 5, 1), looks)?)
+}
+
+const FIRST: Pairs = &[(b'a', 10), (b'b', 15)];
+
+const SECOND: Pairs = &[(b'a', 10), (b'c', 15), (b'b', 20)];
+
+const THIRD: Pairs = &[(b'a', 15), (b'b', 30), (b'c', 15)];
+
+/// Three paths under one key, of which the second goes on with its own calls after the first pair of the first.
+const THREE: &[(Pairs, char)] = &[(FIRST, 'f'), (SECOND, 's'), (THIRD, 't')];
+
+/// Whether a tree gives this path by the answers of the second of the three, with its value.
+fn leads_to(tree: &Tree, path: Pairs, value: char) -> Result<bool, AllocError> {
+    let found = tree.find(&0, &mut |call: &u8| answer_in(SECOND, *call))?;
+    Ok(match found {
+        Some((pairs, known)) => pairs.as_slice() == path && *known == value,
+        None => false,
+    })
 }
 
 /// Whether a path follows the stored ones, and then its sequence.
 pub(crate) fn a_path_follows_the_stored_ones(alloc: Global) -> Result<bool, Broken> {
-    let tree = three_paths(alloc)?;
-    let first = finds(alloc, &tree, 0, &FIRST, Some('f'), b"ab")?;
-    let second = finds(alloc, &tree, 0, &SECOND, Some('s'), b"abc")?;
-    let third = finds(alloc, &tree, 0, &THIRD, Some('t'), b"abc")?;
-    let Some((path, value)) = tree.find(&0, &mut |call: &u8| answer_in(&SECOND, *call))? else {
-        return Ok(false);
-    };
-    let follows = path.as_slice() == [(b'a', 10), (b'b', 20), (b'c', 15)].as_slice();
-    let is_second = *value == 's';
-    Ok(first && second && third && follows && is_second && tree.shape() == (5, 3, 7, 1))
+    let tree = tree_of(alloc, THREE)?;
+    let looks: &[Look] = &[
+        (FIRST, Some('f'), b"ab"),
+        (SECOND, Some('s'), b"abc"),
+        (THIRD, Some('t'), b"abc"),
+    ];
+    let follows = leads_to(&tree, &[(b'a', 10), (b'b', 20), (b'c', 15)], 's')?;
+    Ok(follows && finds_all(alloc, &tree, (5, 3, 7, 1), looks)?)
 }
 
 /// Whether of three paths the one that is kept is found alone.
 pub(crate) fn what_is_kept_is_found_alone(alloc: Global) -> Result<bool, Broken> {
-    let mut tree = three_paths(alloc)?;
+    let mut tree = tree_of(alloc, THREE)?;
     tree.retain(|value: &mut char| *value == 's');
-    let second = finds(alloc, &tree, 0, &SECOND, Some('s'), b"abc")?;
-    let first = finds(alloc, &tree, 0, &FIRST, None, b"ab")?;
-    let third = finds(alloc, &tree, 0, &THIRD, None, b"a")?;
-    Ok(first && second && third && tree.shape() == (3, 1, 3, 1))
+    let looks: &[Look] = &[
+        (SECOND, Some('s'), b"abc"),
+        (FIRST, None, b"ab"),
+        (THIRD, None, b"a"),
+    ];
+    Ok(finds_all(alloc, &tree, (3, 1, 3, 1), looks)?)
 }
 
 /// Whether neither what is stored already nor what lacks a stored call is stored.
 pub(crate) fn what_is_stored_stays(alloc: Global) -> Result<bool, Broken> {
-    let mut tree = CallTree::new(alloc);
-    insert(alloc, &mut tree, &[(b'a', 1)], 'x')?;
+    let mut tree = tree_of(alloc, &[(&[(b'a', 1)], 'x')])?;
     let longer = insert(alloc, &mut tree, &[(b'a', 1), (b'b', 2)], 'y');
     let empty = insert(alloc, &mut tree, &[], 'z');
-    let found = finds(alloc, &tree, 0, &[(b'a', 1)], Some('x'), b"a")?;
-    Ok(
-        longer == Err(InsertError::AlreadyExists)
-            && empty == Err(InsertError::MissingCall)
-            && found
-            && tree.shape() == (1, 1, 1, 1),
-    )
+    let stays = finds_all(
+        alloc,
+        &tree,
+        (1, 1, 1, 1),
+        &[(&[(b'a', 1)], Some('x'), b"a")],
+    );
+    let are_refused = longer == Err(InsertError::AlreadyExists)
+        && empty == Err(InsertError::MissingCall);
+    Ok(stays? && are_refused)
 }
 
 /// Whether an empty path is found with nothing asked.
 pub(crate) fn an_empty_path_is_found_unasked(alloc: Global) -> Result<bool, Broken> {
-    let mut tree = CallTree::new(alloc);
-    insert(alloc, &mut tree, &[], 'x')?;
+    let mut tree = tree_of(alloc, &[(&[], 'x')])?;
     let longer = insert(alloc, &mut tree, &[(b'a', 1)], 'y');
-    let found = finds(alloc, &tree, 0, &[(b'a', 1)], Some('x'), b"")?;
-    let other = finds(alloc, &tree, 1, &[(b'a', 1)], None, b"")?;
-    Ok(longer == Err(InsertError::AlreadyExists) && found && other && tree.shape() == (0, 1, 0, 1))
+    let found = finds_all(
+        alloc,
+        &tree,
+        (0, 1, 0, 1),
+        &[(&[(b'a', 1)], Some('x'), b"")],
+    );
+    let other = finds(alloc, &tree, 1, &[(b'a', 1)], None, b"");
+    Ok(found? && other? && longer == Err(InsertError::AlreadyExists))
 }
 
 /// Whether calls are asked in the order of the tree, and none after an answer that no path has.
 pub(crate) fn calls_are_asked_in_order(alloc: Global) -> Result<bool, Broken> {
-    let mut tree = CallTree::new(alloc);
-    insert(alloc, &mut tree, &[(b'a', 1), (b'b', 2)], 'x')?;
-    insert(alloc, &mut tree, &[(b'b', 3), (b'a', 1)], 'y')?;
-    let found = finds(alloc, &tree, 0, &[(b'a', 1), (b'b', 3)], Some('y'), b"ab")?;
-    let missed = finds(alloc, &tree, 0, &[(b'a', 2), (b'b', 3)], None, b"a")?;
-    Ok(found && missed && tree.shape() == (2, 2, 3, 1))
+    let paths: &[(Pairs, char)] = &[
+        (&[(b'a', 1), (b'b', 2)], 'x'),
+        (&[(b'b', 3), (b'a', 1)], 'y'),
+    ];
+    let tree = tree_of(alloc, paths)?;
+    let looks: &[Look] = &[
+        (&[(b'a', 1), (b'b', 3)], Some('y'), b"ab"),
+        (&[(b'a', 2), (b'b', 3)], None, b"a"),
+    ];
+    Ok(finds_all(alloc, &tree, (2, 2, 3, 1), looks)?)
 }
 
 /// Whether a call that was taken out of a sequence stays seen.

@@ -6,6 +6,8 @@ mod dead;
 #[cfg(test)]
 mod faults;
 #[cfg(test)]
+mod overtaken;
+#[cfg(test)]
 mod program;
 #[cfg(test)]
 mod threads;

@@ -1,8 +1,12 @@
 //! What the program of the rows prints, and its status.
 
 use bench_rows::{Broken, Outcome, run_rows, start};
+use std::alloc::Global;
 use std::io::{Error, ErrorKind, Result as IoResult, Write};
+use std::rt::Clock;
+use std::sync::Wait;
 use std::test::Fail;
+use std::thread::Threads;
 
 /// Takes as many bytes as it has room for, then fails.
 #[derive(Drop)]
@@ -27,17 +31,35 @@ impl Write for Full {
     }
 }
 
-#[test]
-fn the_rows_hold(rt: HostRuntime) -> Result<(), Fail> {
-    let alloc = rt.alloc();
-    let words = vec![in alloc; String::from_str(alloc, "rows")?]?;
-    let mut printed: Vec<u8> = Vec::new(alloc);
+/// Whether the program, called with these words, has this status, prints this, and says that of what it was called with.
+fn runs<R: Threads + Wait + Clock + Sync>(
+    rt: &R,
+    alloc: Global,
+    words: &[&str],
+    status: u8,
+    printed: &str,
+    said: &str,
+) -> bool {
+    let mut owned: Vec<String> = Vec::new(alloc);
+    for word in words {
+        let Ok(word) = String::from_str(alloc, *word) else {
+            return false;
+        };
+        if owned.push(word).is_err() {
+            return false;
+        }
+    }
+    let mut writer: Vec<u8> = Vec::new(alloc);
     let mut errors: Vec<u8> = Vec::new(alloc);
-    let status = start(&rt, alloc, words.as_slice(), &mut printed, &mut errors);
-    assert_eq!(rt; printed.as_slice(), b"rows ok\n".as_slice());
-    assert_eq!(rt; status, 0);
-    assert!(rt; errors.is_empty());
-    Ok(())
+    let is_status = start(rt, alloc, owned.as_slice(), &mut writer, &mut errors) == status;
+    let is_printed = writer.as_slice() == printed.as_bytes();
+    let is_said = errors.as_slice() == said.as_bytes();
+    is_status && is_printed && is_said
+}
+
+#[test]
+fn the_rows_hold(rt: HostRuntime) {
+    assert!(rt; runs(&rt, rt.alloc(), &["rows"], 0, "rows ok\n", ""));
 }
 
 #[test]
@@ -69,51 +91,37 @@ fn a_row_that_fails_after_the_others_is_named(rt: HostRuntime) -> Result<(), Fai
 }
 
 #[test]
-fn a_cache_and_a_plain_list_answer_alike(rt: HostRuntime) -> Result<(), Fail> {
-    let alloc = rt.alloc();
-    let calls = [
-        ("1", "10000"),
-        ("2", "10000"),
-        ("18446744073709551615", "0010"),
-        ("0", "0"),
+fn a_cache_and_a_plain_list_answer_alike(rt: HostRuntime) {
+    let calls: &[&[&str]] = &[
+        &["fuzz", "1", "10000"],
+        &["fuzz", "2", "10000"],
+        &["fuzz", "18446744073709551615", "0010"],
+        &["fuzz", "0", "0"],
     ];
-    for (seed, steps) in calls {
-        let mut words = Vec::new(alloc);
-        for word in ["fuzz", seed, steps] {
-            words.push(String::from_str(alloc, word)?)?;
-        }
-        let mut printed: Vec<u8> = Vec::new(alloc);
-        let mut errors: Vec<u8> = Vec::new(alloc);
-        let status = start(&rt, alloc, words.as_slice(), &mut printed, &mut errors);
-        assert_eq!(rt; printed.as_slice(), b"fuzz ok\n".as_slice());
-        assert_eq!(rt; status, 0);
-        assert!(rt; errors.is_empty());
+    for call in calls {
+        assert!(rt; runs(&rt, rt.alloc(), *call, 0, "fuzz ok\n", ""));
     }
-    Ok(())
 }
 
 #[test]
-fn workers_are_told_to_be_right(rt: HostRuntime) -> Result<(), Fail> {
-    let alloc = rt.alloc();
-    for (workers, calls) in [("1", "0"), ("8", "1000"), ("16", "2000"), ("016", "1")] {
-        let mut words = Vec::new(alloc);
-        for word in ["threads", workers, calls] {
-            words.push(String::from_str(alloc, word)?)?;
-        }
-        let mut printed: Vec<u8> = Vec::new(alloc);
-        let mut errors: Vec<u8> = Vec::new(alloc);
-        let status = start(&rt, alloc, words.as_slice(), &mut printed, &mut errors);
-        assert_eq!(rt; printed.as_slice(), b"threads ok\n".as_slice());
-        assert_eq!(rt; status, 0);
-        assert!(rt; errors.is_empty());
+fn workers_are_told_to_be_right(rt: HostRuntime) {
+    let calls: &[&[&str]] = &[
+        &["threads", "1", "0"],
+        &["threads", "8", "1000"],
+        &["threads", "16", "2000"],
+        &["threads", "016", "1"],
+    ];
+    for call in calls {
+        assert!(rt; runs(&rt, rt.alloc(), *call, 0, "threads ok\n", ""));
     }
-    Ok(())
 }
 
+/// How the program is called.
+const USAGE: &str = "usage: bench rows | fuzz SEED STEPS | threads WORKERS CALLS\n";
+
 #[test]
-fn other_words_are_told_how_to_call(rt: HostRuntime) -> Result<(), Fail> {
-    let alloc = rt.alloc();
-    let calls: [&[&str]; 20] = [
+fn other_words_are_told_how_to_call(rt: HostRuntime) {
+    let calls: &[&[&str]] = &[
         &[],
         &["row"],
         &["rows "],
@@ -136,19 +144,8 @@ fn other_words_are_told_how_to_call(rt: HostRuntime) -> Result<(), Fail> {
         &["threads", "1", "2", "3"],
     ];
     for call in calls {
-        let mut words = Vec::new(alloc);
-        for word in call {
-            words.push(String::from_str(alloc, *word)?)?;
-        }
-        let mut printed: Vec<u8> = Vec::new(alloc);
-        let mut errors: Vec<u8> = Vec::new(alloc);
-        let status = start(&rt, alloc, words.as_slice(), &mut printed, &mut errors);
-        assert_eq!(rt; status, 2);
-        assert!(rt; printed.is_empty());
-        let usage = b"usage: bench rows | fuzz SEED STEPS | threads WORKERS CALLS\n";
-        assert_eq!(rt; errors.as_slice(), usage.as_slice());
+        assert!(rt; runs(&rt, rt.alloc(), *call, 2, "", USAGE));
     }
-    Ok(())
 }
 
 #[test]

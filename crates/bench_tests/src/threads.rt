@@ -1,10 +1,9 @@
 //! Workers that share a cache, and holders that do a step wrongly.
 
 use crate::dead::{Dead, Step};
+use crate::overtaken::Overtaken;
 use bench_workers::{
-    Meeting, Null, branches_are_absorbed_in_order, doubled, evictions_reach_a_cache,
-    evictions_reach_all_keys, threads, two_runs_of_one_key, two_runs_that_ask_in_turned_order,
-    two_runs_that_ask_other_questions,
+    Meeting, Null, doubled, evictions_reach_a_cache, evictions_reach_all_keys, two_runs_of_one_key,
 };
 use comemo::evictors::evict;
 use comemo::{
@@ -16,15 +15,6 @@ use std::alloc::Global;
 use std::sync::{Arc, Mutex, RwLock, Wait};
 use std::test::Fail;
 use std::thread::join;
-
-#[test]
-fn of_two_runs_of_one_key_one_is_stored(rt: HostRuntime) -> Result<(), Fail> {
-    let alloc = rt.alloc();
-    let cache: Cache<MemoOf<Double>> = Cache::new(alloc);
-    let (left, right) = (cache.hold(&rt), cache.hold(&rt));
-    assert_eq!(rt; two_runs_of_one_key(&rt, alloc, left, right), Ok(true));
-    Ok(())
-}
 
 #[test]
 fn a_holder_that_neither_looks_nor_stores_is_found(rt: HostRuntime) -> Result<(), Fail> {
@@ -55,32 +45,6 @@ fn a_lock_that_is_held_over_a_run_is_found(rt: HostRuntime) -> Result<(), Fail> 
     Ok(())
 }
 
-#[test]
-fn of_two_runs_that_ask_other_questions_one_is_stored(rt: HostRuntime) -> Result<(), Fail> {
-    assert_eq!(rt;
-        two_runs_that_ask_other_questions(&rt, rt.alloc()),
-        Ok(true)
-    );
-    Ok(())
-}
-
-#[test]
-fn of_two_runs_in_turned_order_one_is_stored_and_the_other_exists(
-    rt: HostRuntime,
-) -> Result<(), Fail> {
-    assert_eq!(rt;
-        two_runs_that_ask_in_turned_order(&rt, rt.alloc()),
-        Ok(true)
-    );
-    Ok(())
-}
-
-#[test]
-fn a_left_branch_comes_first(rt: HostRuntime) -> Result<(), Fail> {
-    assert_eq!(rt; branches_are_absorbed_in_order(&rt, rt.alloc()), Ok(true));
-    Ok(())
-}
-
 /// Evicts nothing.
 #[derive(Drop)]
 struct Idle;
@@ -90,15 +54,14 @@ impl Evict for Idle {
 }
 
 #[test]
-fn a_shared_cache_is_evicted(rt: HostRuntime) -> Result<(), Fail> {
+fn an_evictor_that_evicts_nothing_is_found(rt: HostRuntime) -> Result<(), Fail> {
     let alloc = rt.alloc();
-    let cache: Arc<Cache<MemoOf<Null>>, Global> = Arc::new(alloc, Cache::new(alloc))?;
-    let evictor = Evictor::new(Arc::try_clone(&cache)?, rt.clone()?);
-    let held = &mut cache.hold(&rt);
-    assert_eq!(rt; evictions_reach_a_cache(alloc, held, &evictor), Ok(true));
     let cache: Cache<MemoOf<Null>> = Cache::new(alloc);
     let held = &mut cache.hold(&rt);
     assert_eq!(rt; evictions_reach_a_cache(alloc, held, &Idle), Ok(false));
+    let cache: Cache<MemoOf<Double>> = Cache::new(alloc);
+    let held = &mut cache.hold(&rt);
+    assert_eq!(rt; evictions_reach_all_keys(alloc, held, &Idle), Ok(false));
     Ok(())
 }
 
@@ -109,9 +72,6 @@ fn an_eviction_reaches_all_keys(rt: HostRuntime) -> Result<(), Fail> {
     let evictor = Evictor::new(Arc::try_clone(&cache)?, rt.clone()?);
     let held = &mut cache.hold(&rt);
     assert_eq!(rt; evictions_reach_all_keys(alloc, held, &evictor), Ok(true));
-    let cache: Cache<MemoOf<Double>> = Cache::new(alloc);
-    let held = &mut cache.hold(&rt);
-    assert_eq!(rt; evictions_reach_all_keys(alloc, held, &Idle), Ok(false));
     Ok(())
 }
 
@@ -149,33 +109,6 @@ fn a_holder_that_does_not_touch_is_found(rt: HostRuntime) -> Result<(), Fail> {
         evictions_reach_a_cache(alloc, &mut held, &evictor),
         Ok(false)
     );
-    Ok(())
-}
-
-#[test]
-fn workers_get_right_outputs(rt: HostRuntime) -> Result<(), Fail> {
-    let alloc = rt.alloc();
-    for (workers, calls) in [(1, 0), (8, 1000), (16, 2000)] {
-        let cache: Cache<MemoOf<Double>> = Cache::new(alloc);
-        assert_eq!(rt; threads(&rt, alloc, &cache, workers, calls), Ok(true));
-    }
-    Ok(())
-}
-
-#[test]
-fn workers_get_right_outputs_beside_evictions(rt: HostRuntime) -> Result<(), Fail> {
-    let alloc = rt.alloc();
-    let cache: Cache<MemoOf<Double>> = Cache::new(alloc);
-    let (right, ()) = join(
-        &rt,
-        || threads(&rt, alloc, &cache, 16, 2000),
-        || {
-            for _ in 0..100 {
-                cache.evict(&rt, 1);
-            }
-        },
-    );
-    assert_eq!(rt; right, Ok(true));
     Ok(())
 }
 
@@ -230,5 +163,38 @@ fn registered_evictors_evict_in_order(rt: HostRuntime) -> Result<(), Fail> {
         assert_eq!(rt; (reply.output, reply.how), (0, how));
     }
     assert_eq!(rt; list.lock(&rt).as_slice(), [1, 2, 1, 2].as_slice());
+    Ok(())
+}
+
+/// The age of the entry that has the double of 7.
+fn age_of_seven<H: Hold<MemoOf<Double>>>(cache: &mut H) -> Option<usize> {
+    match cache.look(&7, &mut Hashed(7)) {
+        Ok(Some(found)) => Some(found.age),
+        _ => None,
+    }
+}
+
+#[test]
+fn an_eviction_that_overtakes_a_hit_comes_before_or_after_its_touch(
+    rt: HostRuntime,
+) -> Result<(), Fail> {
+    let alloc = rt.alloc();
+    let cache: Cache<MemoOf<Double>> = Cache::new(alloc);
+    let nothing = ();
+    let view = nothing.track(alloc);
+    let held = &mut cache.hold(&rt);
+    memoized(alloc, held, &mut (), 7, &view, &mut Top::new(), true)?;
+    let overtaken = &mut Overtaken {
+        cache: &cache,
+        held: cache.hold(&rt),
+        rt: &rt,
+        max_age: 2,
+    };
+    // Of age 0 it was as good as touched before the eviction; of age 1 it is touched after the next one.
+    for age in [1, 0] {
+        let reply = memoized(alloc, overtaken, &mut (), 7, &view, &mut Top::new(), true)?;
+        assert_eq!(rt; (reply.output, reply.how), (14, How::Hit));
+        assert_eq!(rt; age_of_seven(held), Some(age));
+    }
     Ok(())
 }

@@ -24,4 +24,4 @@ pub use empties::two_runs_that_ask_other_questions;
 pub use gate::{Gate, Meeting, Open, TURNS};
 pub use nulls::{Null, evictions_reach_a_cache};
 pub use orders::two_runs_that_ask_in_turned_order;
-pub use workers::threads;
+pub use workers::{threads, workers_beside_evictions};

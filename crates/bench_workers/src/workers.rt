@@ -6,7 +6,7 @@ use comemo::{Cache, MemoOf};
 use comemo_guide::double::Double;
 use std::alloc::{AllocError, Global};
 use std::sync::Wait;
-use std::thread::{Threads, map_indices};
+use std::thread::{Threads, join, map_indices};
 
 /// Whether a worker's calls were all right: it calls the double of each call's number modulo 16.
 fn works<R: Wait>(rt: &R, alloc: Global, cache: &Cache<MemoOf<Double>>, calls: u32) -> bool {
@@ -32,4 +32,25 @@ pub fn threads<R: Threads + Wait + Sync>(
 ) -> Result<bool, AllocError> {
     let worked = map_indices(rt, alloc, workers, &|_| works(rt, alloc, cache, calls))?;
     Ok(worked.iter().all(|right| *right))
+}
+
+/// Whether sixteen workers got right outputs of two thousand calls each through one cache, which another thread evicts by 1 a
+/// hundred times meanwhile.
+///
+/// The error says that there was no memory to begin the workers.
+pub fn workers_beside_evictions<R: Threads + Wait + Sync>(
+    rt: &R,
+    alloc: Global,
+    cache: &Cache<MemoOf<Double>>,
+) -> Result<bool, AllocError> {
+    let (worked, ()) = join(
+        rt,
+        || threads(rt, alloc, cache, 16, 2000),
+        || {
+            for _ in 0..100 {
+                cache.evict(rt, 1);
+            }
+        },
+    );
+    worked
 }

@@ -76,33 +76,3 @@ fn an_eviction_drops_what_was_not_asked_for(rt: HostRuntime) {
         assert!(rt; is_so, "for {line:?}");
     }
 }
-
-/// A value that is kept is a hit as often as the files that it read are as they were, until it is evicted.
-#[test]
-fn a_kept_value_is_hit_while_its_files_are_the_same(rt: HostRuntime) -> Result<(), Fail> {
-    let alloc = rt.alloc();
-    let mut state = State::new(alloc);
-    let value = |hit, number| Answer::Value {
-        hit,
-        kept: true,
-        value: Ok(number),
-    };
-    let commands = [
-        ("write a 1 + eval b", Answer::Written),
-        ("write b 2", Answer::Written),
-        ("eval eval a", value(false, 3)),
-        ("write c 9", Answer::Written),
-        ("eval eval a", value(true, 3)),
-        ("write b 5", Answer::Written),
-        ("eval eval a", value(false, 6)),
-        ("write b 2", Answer::Written),
-        ("eval eval a", value(true, 3)),
-        ("evict 0", Answer::Evicted),
-        ("eval eval a", value(false, 3)),
-    ];
-    for (line, want) in commands {
-        let command = Command::parse(alloc, line)?.ok_or("no command")?;
-        assert_eq!(rt; state.carry_out(command), want, "for {line:?}");
-    }
-    Ok(())
-}

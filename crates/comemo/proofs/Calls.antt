@@ -104,7 +104,7 @@ module _ {K C R O : Type 0} {M : Meaning K C R O} {es : Entries K C R O} {call :
     agrees = hit.agrees;
     stands = hit.stands;
     gives = gives_itself calls answers hit.pairs hit.writes hit.are_sent;
-    came = inl (refl, record { is_enabled = hit.is_enabled; kept = hit.kept; touched = touched });
+    came = inl (refl, record { is_enabled = hit.is_enabled; kept = hit.kept; reads = hit.reads; written = hit.written; touched = touched });
   }
 
   -- what stands at the key of a run stands at the call's
@@ -199,11 +199,11 @@ module _ {K C R O : Type 0} {M : Meaning K C R O} {es : Entries K C R O} {call :
 
   -- a hit that stopped, of which the writes before were done so
   pub stopped_as : {done so : List C → Type 0} {spoiled : List (C × R) → List C → Type 0} → (is : IsStopped M es call done spoiled) → so is.front → IsStopped M es call so spoiled
-  stopped_as is did = record { pairs = is.pairs; output = is.output; front = is.front; next = is.next; rest = is.rest; is_refused = is.is_refused; is_enabled = is.is_enabled; kept = is.kept; agrees = is.agrees; stands = is.stands; are_done = did; is_spoiled = is.is_spoiled }
+  stopped_as is did = record { pairs = is.pairs; output = is.output; front = is.front; next = is.next; rest = is.rest; is_refused = is.is_refused; is_enabled = is.is_enabled; kept = is.kept; agrees = is.agrees; stands = is.stands; reads = is.reads; written = is.written; are_done = did; is_spoiled = is.is_spoiled }
 
   -- a hit that stopped, whatever became of its sink
   pub stopped_so : {done : List C → Type 0} {spoiled : List (C × R) → List C → Type 0} → IsStopped M es call done spoiled → IsStopped M es call done (λ _ _. ⊤)
-  stopped_so is = record { pairs = is.pairs; output = is.output; front = is.front; next = is.next; rest = is.rest; is_refused = is.is_refused; is_enabled = is.is_enabled; kept = is.kept; agrees = is.agrees; stands = is.stands; are_done = is.are_done; is_spoiled = tt }
+  stopped_so is = record { pairs = is.pairs; output = is.output; front = is.front; next = is.next; rest = is.rest; is_refused = is.is_refused; is_enabled = is.is_enabled; kept = is.kept; agrees = is.agrees; stands = is.stands; reads = is.reads; written = is.written; are_done = is.are_done; is_spoiled = tt }
 
   -- a hit of a function whose calls are reads alone stops at no write
   pub never_refused : {done : List C → Type 0} {spoiled : List (C × R) → List C → Type 0} → IsStopped M es call done spoiled → ((c : C) → M.is_write c ≡ false) → ⊥

@@ -1,5 +1,6 @@
 -- How a call of a memoized function begins.
 use Rattle.std.specs.Prelude.{◌≡◌, ◌⊎◌, Bool, true, false, List, [], ◌∷◌, ◌++◌, IsTrue, refl}
+use Rattle.std.specs.List.{All}
 use Rattle.std.specs.Coded.{Coded, code_by, coded×, coded_bool}
 use Rattle.comemo_base.specs.Answers.{Respects, Agrees}
 use Rattle.comemo_track.specs.Recording.{Recording, recording_code}
@@ -44,8 +45,8 @@ module _ {K C R O : Type 0} (M : Meaning K C R O) (es : Entries K C R O) (call :
     pub early : begun.recording.late ≡ false
     pub none : call.enabled ≡ true → HasNone M es call
 
-  -- a hit: an entry was kept that has the key and agrees with the answers; its path, and its writes in order, went to the
-  -- sink, the writes were done on the input, and the output is right wherever the path agrees, so also at the answers
+  -- a hit: an entry was kept that has the key and agrees with the answers; its path, which has reads alone, and its writes, in order,
+  -- went to the sink, the writes were done on the input, and the output is right wherever the path agrees, so also at the answers
   pub record IsHit (done : List C → Type 0) (sent : List (C × R) → List C → Type 0) (output : O) : Type 0 where
     pub pairs : List (C × R)
     pub writes : List C
@@ -53,6 +54,8 @@ module _ {K C R O : Type 0} (M : Meaning K C R O) (es : Entries K C R O) (call :
     pub kept : Has M es call (run call.key pairs output writes)
     pub agrees : Agrees M.same_answer call.answers pairs
     pub stands : Stands M (run call.key pairs output writes)
+    pub reads : All (λ p. M.is_write p.0 ≡ false) pairs
+    pub written : All (λ c. M.is_write c ≡ true) writes
     pub are_done : done writes
     pub are_sent : sent pairs writes
     pub right : M.def call.key call.answers output writes
@@ -79,5 +82,7 @@ module _ {K C R O : Type 0} (M : Meaning K C R O) (es : Entries K C R O) (call :
     pub kept : Has M es call (run call.key pairs output (front ++ next ∷ rest))
     pub agrees : Agrees M.same_answer call.answers pairs
     pub stands : Stands M (run call.key pairs output (front ++ next ∷ rest))
+    pub reads : All (λ p. M.is_write p.0 ≡ false) pairs
+    pub written : All (λ c. M.is_write c ≡ true) (front ++ next ∷ rest)
     pub are_done : done front
     pub is_spoiled : spoiled pairs front

@@ -1,5 +1,6 @@
 -- What a memoized function replies to a call.
 use Rattle.std.specs.Prelude.{◌≡◌, ◌↔◌, ◌⊎◌, ◌++◌, [], Bool, true, false, List, Option, map, IsTrue}
+use Rattle.std.specs.List.{All}
 use Rattle.std.specs.List.Sorted.{IsPermutation}
 use Rattle.comemo_base.specs.Answers.{Agrees}
 use Rattle.comemo_cache.specs.Meaning.{Meaning, Invocation, Run, run}
@@ -12,10 +13,12 @@ use Rattle.comemo.specs.declared.pending.How.{How}
 use Rattle.comemo.specs.declared.pending.How.TheVariants as how
 
 module _ {K C R O : Type 0} (M : Meaning K C R O) (call : Invocation K C R) where
-  -- an entry of es that has the key and agrees with the answers came to this, and was touched
+  -- an entry of es that has the key and agrees with the answers came to this, by reads alone and by writes, and was touched
   pub record CameByHit (es : Entries K C R O) (found : Run K C R O) (es' : Entries K C R O) : Type 0 where
     pub is_enabled : call.enabled ≡ true
     pub kept : Has M es call found
+    pub reads : All (λ p. M.is_write p.0 ≡ false) found.pairs
+    pub written : All (λ c. M.is_write c ≡ true) found.writes
     pub touched : Touches M es call es'
 
   -- no entry of es has the key and agrees with the answers; a run came to this, and ended so, which took the entries from mid

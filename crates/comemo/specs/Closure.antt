@@ -1,5 +1,5 @@
 -- A call of a memoized function whose run is a closure.
-use Rattle.std.specs.Prelude.{◌≡◌, ◌↔◌, ◌⊎◌, ⊤, Bool, true, false, List, [], IsTrue, Result, Ok, Err}
+use Rattle.std.specs.Prelude.{◌≡◌, ◌↔◌, ◌⊎◌, ⊤, Bool, true, false, List, [], IsTrue, Result, Ok, Err, IfOk}
 use Rattle.std.specs.Borrow.{MutBor}
 use Rattle.comemo_track.specs.Recording.{Recording}
 use Rattle.comemo_cache.specs.Meaning.{Meaning, Invocation, run}
@@ -34,19 +34,26 @@ module _ {K C R O : Type 0} (M : Meaning K C R O) (es : Entries K C R O) (call :
         pub gave : post i p r j q
         pub left : recorded q.now ≡ t
 
-      -- why the call failed: for want of memory, or a hit stopped at a write, or the run's recording is spoiled, or the closure gave
-      -- that fault
-      abbrev pub IsFault : Fault → Type 0
-      IsFault f =
-          (f ≡ fault.Memory) ⊎ ((f ≡ fault.Write) × (j : I) × IsStopped M es call (did input j) (λ _ _. ⊤)) ⊎ ((f ≡ fault.Incomplete) × (output : O) × (t : Recording C R) × Ran (Ok output) t × (t.whole ≡ false)) ⊎ ((t : Recording C R) × Ran (Err f) t)
+      module _ (left : I) where
+        -- the closure ran, gave this, and left this recording, and the input so
+        pub record RanTo (r : Result O Fault) (t : Recording C R) : Type 0 where
+          pub ran : Ran r t
+          pub ends : ran.j.now ≡ left
 
-      -- how the sink and the entries of a call that failed are left: the entries as they were, and the sink as by a call that did not
-      -- begin, so as it was where the closure failed or its recording is spoiled; or the closure gave an output, and its recording,
-      -- which is whole, was broken off; or a hit was touched, and stopped
-      abbrev pub IsBroken : (List (C × R) → Type 0) → (List (C × R) → List C → Type 0) → Entries K C R O → Type 0
-      IsBroken broken after es' =
-          ((es' ≡ es) × (IsBrokenOff M es call broken ⊎ ((output : O) × (t : Recording C R) × Ran (Ok output) t × (t.whole ≡ true) × BreaksOffRun M broken t.pairs)))
-          ⊎ (Touches M es call es' × (j : I) × IsStopped M es call (did input j) after)
+        -- why a call failed that left the input so: it did not begin, for want of memory, and wrote nothing; or a hit stopped at a
+        -- write; or the closure gave an output, and its run could not be finished, as incomplete exactly where its recording is
+        -- spoiled; or the closure gave that fault
+        abbrev pub IsFault : Fault → Type 0
+        IsFault f =
+            ((f ≡ fault.Memory) × did input left []) ⊎ ((f ≡ fault.Write) × IsStopped M es call (did input left) (λ _ _. ⊤)) ⊎ ((output : O) × (t : Recording C R) × RanTo (Ok output) t × ((f ≡ fault.Incomplete) ↔ (t.whole ≡ false)) × (f ≡ fault.Write → ⊥)) ⊎ ((t : Recording C R) × RanTo (Err f) t)
+
+        -- how the sink and the entries are left by a call that failed and left the input so: the entries as they were, and the sink as by
+        -- a call that did not begin; or the closure failed or its recording is spoiled, and the sink, which took nothing, is broken off;
+        -- or the closure gave an output, and its recording, which is whole, was broken off; or a hit was touched, and stopped
+        abbrev pub IsBroken : (List (C × R) → Type 0) → (List (C × R) → List C → Type 0) → Entries K C R O → Type 0
+        IsBroken broken after es' =
+            ((es' ≡ es) × ((did input left [] × IsBrokenOff M es call broken) ⊎ ((r : Result O Fault) × (t : Recording C R) × RanTo r t × IfOk r (λ _. t.whole ≡ false) × broken []) ⊎ ((output : O) × (t : Recording C R) × RanTo (Ok output) t × (t.whole ≡ true) × BreaksOffRun M broken t.pairs)))
+            ⊎ (Touches M es call es' × IsStopped M es call (did input left) after)
 
   -- the closure, whose runs are these, ran and gave the output; its recording, which is whole, went to the sink, and became of
   -- the entries what the reply says

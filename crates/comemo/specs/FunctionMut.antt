@@ -82,3 +82,9 @@ WasStopped M es call done spoiled es' = Touches M es call es' × IsStopped M es 
 -- pairs, or a hit was stopped
 abbrev pub IsFailed : {K C R O : Type 0} → Meaning K C R O → Entries K C R O → Invocation K C R → (List C → Type 0) → (List (C × R) → Type 0) → (List (C × R) → List C → Type 0) → Entries K C R O → Type 0
 IsFailed {C = C} {R} M es call done broken spoiled es' = ((es' ≡ es) × (pairs : List (C × R)) × broken pairs) ⊎ WasStopped M es call done spoiled es'
+
+-- which fault a call of a function that writes failed with: the entries are as they were, and it is want of memory, or one of the run,
+-- of which the sink took nothing; or a hit was stopped at a write that was refused
+abbrev pub FailsBy : {K C R O : Type 0} → Meaning K C R O → Entries K C R O → Invocation K C R → (List C → Type 0) → Type 0 → (List (C × R) → List C → Type 0) → Fault → Entries K C R O → Type 0
+FailsBy M es call done spoils spoiled f es' =
+    ((es' ≡ es) × ((f ≡ fault.Memory) ⊎ spoils)) ⊎ ((f ≡ fault.Write) × WasStopped M es call done spoiled es')

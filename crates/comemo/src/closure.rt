@@ -6,7 +6,7 @@ ghost use Rattle.comemo_track.specs.Recording.{Recording};
 ghost use Rattle.comemo_cache.specs.Meaning.{IsNamedRun, run};
 ghost use Rattle.comemo_cache.specs.Cache.{Stands, Touches};
 ghost use Rattle.comemo_cache.specs.Held.{Held, Leads, LeadsBy};
-ghost use Rattle.comemo.specs.Closure.{Starts, Ran, Ended, IsFault, IsBroken};
+ghost use Rattle.comemo.specs.Closure.{Starts, Ran, RanTo, Ended, IsFault, IsBroken};
 
 use crate::pending::{Begun, Fault, How, Invoked, Reply, begin};
 use comemo_cache::cache::{Meant, Memo};
@@ -62,64 +62,70 @@ impl<C: Call, R: Clone + Ord> Record for Constraint<C, R> {
 ///
 /// The closure gets the input and the recording that what it asks has to go to. It is called only where no entry
 /// agrees, or none is looked for, and its output has to be right for all answers that agree with what it recorded, but
-/// where that is late. A
-/// fault of the closure is answered, and nothing is stored then. With `enabled` false there is no look-up, and nothing
-/// is stored. What it costs is what `begin`, the closure and `finish` cost. Every fault spoils the sink, to which a run
+/// where that is late. With `enabled` false there is no look-up, and nothing is stored.
+///
+/// A fault of the closure is answered, and nothing is stored then. Else `Incomplete` comes exactly where it gave an
+/// output and its recording is spoiled; `Memory` comes where the call didn't begin, as `begin` says, or where there was
+/// none to give a whole recording to the sink; and `Write` comes of a hit. Every fault spoils the sink, to which a run
 /// that failed or is spoiled gives nothing, and leaves the cache as it was, but for `Write`: there the entry of the hit
-/// has age 0. A function that calls itself takes `begin` and `finish` in its place. comemo's `memoize`.
+/// has age 0.
+///
+/// What it costs is what `begin`, the closure and `finish` cost. A function that calls itself takes `begin` and `finish`
+/// in its place. comemo's `memoize`, which takes the input by value.
 pub fn memoize<
     M: Memo,
     H: Hold<M>,
-    In: Input<Call = M::Call, Key = M::Key, Answer = M::Answer> + Drop,
+    In: Input<Call = M::Call, Key = M::Key, Answer = M::Answer>,
     S: Sink<Call = M::Call, Answer = M::Answer>,
     P: Record<Call = M::Call, Answer = M::Answer>,
     F: FnOnce(&mut In, &mut P) -> Result<M::Out, Fault>,
 >(
     alloc: Global,
     cache: &mut H,
-    mut input: In,
+    input: &mut In,
     sink: &mut S,
     enabled: bool,
     func: F,
 ) -> Result<Reply<M::Out>, Fault>
     requires callable { (i : MutBor In) (p : MutBor P)
         → Held (H.entries cache.now) (λ es. Starts ⟦<M as Meant>⟧.meaning es
-        (⟦<In as Invoked>⟧.invoked input enabled) In.did P.recorded input i p)
+        (⟦<In as Invoked>⟧.invoked input.now enabled) In.did P.recorded input.now i p)
         → F.pre func i p }
     requires right { (output : M.Out) (t : Recording M.Call M.Answer)
         → Held (H.entries cache.now) (λ es. Ran ⟦<M as Meant>⟧.meaning es
-        (⟦<In as Invoked>⟧.invoked input enabled)
-        In.did P.recorded (F.post func) input (Ok output) t)
+        (⟦<In as Invoked>⟧.invoked input.now enabled)
+        In.did P.recorded (F.post func) input.now (Ok output) t)
         → t.whole ≡ true → t.late ≡ false
-        → Stands ⟦<M as Meant>⟧.meaning (run (In.key_of input) t.pairs output t.writes) }
+        → Stands ⟦<M as Meant>⟧.meaning (run (In.key_of input.now) t.pairs output t.writes) }
     requires settled { (output : M.Out) (t : Recording M.Call M.Answer)
         → Held (H.entries cache.now) (λ es. Ran ⟦<M as Meant>⟧.meaning es
-        (⟦<In as Invoked>⟧.invoked input enabled)
-        In.did P.recorded (F.post func) input (Ok output) t)
+        (⟦<In as Invoked>⟧.invoked input.now enabled)
+        In.did P.recorded (F.post func) input.now (Ok output) t)
         → t.whole ≡ true → t.late ≡ false
-        → IsNamedRun ⟦<M as Meant>⟧.meaning (In.key_of input) t.pairs }
+        → IsNamedRun ⟦<M as Meant>⟧.meaning (In.key_of input.now) t.pairs }
     ensures hit { IfOk result (λ reply. reply.how ≡ How.Hit
-        → Leads (H.entries cache.old) (H.entries cache.new) (λ es es'. ((j : In)
-        × IsHit ⟦<M as Meant>⟧.meaning es (⟦<In as Invoked>⟧.invoked input enabled)
-        (In.did input j) (S.took sink.old sink.new) reply.output)
+        → Leads (H.entries cache.old) (H.entries cache.new) (λ es es'.
+        IsHit ⟦<M as Meant>⟧.meaning es (⟦<In as Invoked>⟧.invoked input.old enabled)
+        (In.did input.old input.new) (S.took sink.old sink.new) reply.output
         × Touches ⟦<M as Meant>⟧.meaning es
-        (⟦<In as Invoked>⟧.invoked input enabled) es')) }
+        (⟦<In as Invoked>⟧.invoked input.old enabled) es')) }
     ensures run { IfOk result (λ reply. (reply.how ≡ How.Hit → ⊥)
         → LeadsBy (H.entries cache.old) (H.entries cache.old) (H.entries cache.new) (λ es mid es'.
-        Ended ⟦<M as Meant>⟧.meaning mid (⟦<In as Invoked>⟧.invoked input enabled)
-        (Ran ⟦<M as Meant>⟧.meaning es (⟦<In as Invoked>⟧.invoked input enabled)
-        In.did P.recorded (F.post func) input)
+        Ended ⟦<M as Meant>⟧.meaning mid (⟦<In as Invoked>⟧.invoked input.old enabled)
+        (RanTo ⟦<M as Meant>⟧.meaning es (⟦<In as Invoked>⟧.invoked input.old enabled)
+        In.did P.recorded (F.post func) input.old input.new)
         (λ late. ⟦<S as Breaking>⟧.took_as late sink.old sink.new)
         reply.output reply.how es')) }
     ensures fault { IfErr result (λ fault. Held (H.entries cache.old) (λ es.
-        IsFault ⟦<M as Meant>⟧.meaning es (⟦<In as Invoked>⟧.invoked input enabled)
-        In.did P.recorded (F.post func) input fault)) }
+        IsFault ⟦<M as Meant>⟧.meaning es (⟦<In as Invoked>⟧.invoked input.old enabled)
+        In.did P.recorded (F.post func) input.old input.new fault)) }
     ensures err { OnErr result (Leads (H.entries cache.old) (H.entries cache.new) (λ es es'.
-        IsBroken ⟦<M as Meant>⟧.meaning es (⟦<In as Invoked>⟧.invoked input enabled)
-        In.did P.recorded (F.post func) input (⟦<S as Breaking>⟧.breaks_off sink.old sink.new)
+        IsBroken ⟦<M as Meant>⟧.meaning es (⟦<In as Invoked>⟧.invoked input.old enabled)
+        In.did P.recorded (F.post func) input.old input.new
+        (⟦<S as Breaking>⟧.breaks_off sink.old sink.new)
         (⟦<S as Breaking>⟧.spoiled_after sink.old sink.new) es')) }
 {
-    match begin(alloc, cache, &mut input, sink, enabled) {
+    match begin(alloc, cache, input, sink, enabled) {
         Ok(Begun::Hit(output)) => {
             return Ok(Reply {
                 output,
@@ -128,7 +134,7 @@ pub fn memoize<
         }
         Ok(Begun::Run(mut pending)) => {
             let mut recording = P::empty(alloc);
-            let ran = func(&mut input, &mut recording);
+            let ran = func(input, &mut recording);
             pending.recording = recording.into_constraint();
             pending.end(cache, sink, ran)
         }

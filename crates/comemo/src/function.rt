@@ -1,5 +1,5 @@
 //! The library's front door: a memoized function of a key and a tracked value, as one trait and one call.
-ghost use Rattle.std.specs.Prelude.{◌≡◌, [], List, true, false, IsTrue, IfOk, IfErr, OnOk, OnErr, ⊤};
+ghost use Rattle.std.specs.Prelude.{◌≡◌, ◌⊎◌, [], List, true, false, IsTrue, IfOk, IfErr, OnOk, OnErr, ⊤};
 ghost use Rattle.comemo_cache.specs.Meaning.{Naming, unnamed, invocation, reading};
 ghost use Rattle.comemo.specs.MeaningLaws.{none_alike};
 ghost use Rattle.comemo.specs.Called.{RanAs, HeldReply};
@@ -287,8 +287,12 @@ impl<F: Function> FunctionOf<F::Of> for MemoOf<F> {
 ///
 /// The sink takes what was asked: the recording of the run around the call, or `Top` where there is none. With
 /// `enabled` false there is no look-up, and nothing is kept. A fault leaves the cache as it was and spoils the sink;
-/// what the run did to its needs stays. A hit costs what `begin` costs, any other call what `begin`, the run and
-/// `finish` cost. This project's own: a call of a function under comemo's `#[memoize]`.
+/// what the run did to its needs stays. `Memory` comes where the call didn't begin, where there was none to give a whole
+/// recording to the sink, or of the run. Any other fault is the run's: one that it answered, or `Incomplete` where it
+/// left its recording spoiled; then the sink took nothing.
+///
+/// A hit costs what `begin` costs, any other call what `begin`, the run and `finish` cost. This project's own: a call of
+/// a function under comemo's `#[memoize]`.
 pub fn memoized<
     M: FunctionOf<T>,
     H: Hold<M>,
@@ -307,6 +311,8 @@ pub fn memoized<
     ensures reply { IfOk result (λ reply. HeldReply ⟦<M as Meant>⟧.meaning
         (invocation key (T.answers of.now) enabled) (H.entries cache.old) (H.entries cache.old)
         (S.took sink.old sink.new) reply (H.entries cache.new)) }
+    ensures fault { IfErr result
+        (λ fault. (fault ≡ Fault.Memory) ⊎ S.spoils sink.old sink.new) }
     ensures err { OnErr result (Stays (H.entries cache.old) (H.entries cache.new)
         × BrokeOff T.Answer.eq (T.answers of.now)
         (⟦<S as Breaking>⟧.breaks_off sink.old sink.new)) }
@@ -344,6 +350,8 @@ fn run_kept<M: FunctionOf<T>, H: Hold<M>, T: Track, S: Sink<Call = T::Call, Answ
         Leads (H.entries cache.old) (H.entries cache.new) (λ es es'.
         RanAs ⟦<M as Meant>⟧.meaning (invocation key (T.answers of.now) enabled) es
         (S.took sink.old sink.new) reply es')) }
+    ensures fault { IfErr result
+        (λ fault. (fault ≡ Fault.Memory) ⊎ S.spoils sink.old sink.new) }
     ensures err { OnErr result (Stays (H.entries cache.old) (H.entries cache.new)
         × BrokeOff T.Answer.eq (T.answers of.now)
         (⟦<S as Breaking>⟧.breaks_off sink.old sink.new)) }
@@ -366,8 +374,9 @@ fn run_kept<M: FunctionOf<T>, H: Hold<M>, T: Track, S: Sink<Call = T::Call, Answ
 
 /// Calls a memoized function that needs nothing, and that no other run is around: `memoized` for the plain case.
 ///
-/// It costs what `memoized` costs with a `Top` as its sink, for which no pair is cloned. This project's own: a call of a
-/// function under comemo's `#[memoize]`.
+/// It costs what `memoized` costs with a `Top` as its sink. A hit clones the calls of the path that it found and its
+/// output, as `begin` says. The end of a run clones the output alone: its pairs go to the cache as they are, since a
+/// `Top` keeps none. This project's own: a call of a function under comemo's `#[memoize]`.
 pub fn called<M: FunctionOf<T, Needs = ()>, H: Hold<M>, T: Track>(
     alloc: Global,
     cache: &mut H,

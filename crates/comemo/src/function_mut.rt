@@ -6,7 +6,7 @@ ghost use Rattle.comemo_cache.specs.Held.{Leads, Stays};
 ghost use Rattle.comemo.specs.Begin.{Reaches};
 ghost use Rattle.comemo.specs.Finish.{BrokeOff};
 ghost use Rattle.comemo.specs.Function.{SettlesAs, SettlesRun};
-ghost use Rattle.comemo.specs.FunctionMut.{Lent, lent, HasBegun, NoneTouches, Goes, TellsMut, TellsWrites, LawsMut, IsFailed};
+ghost use Rattle.comemo.specs.FunctionMut.{Lent, lent, HasBegun, NoneTouches, Goes, TellsMut, TellsWrites, LawsMut, IsFailed, FailsBy};
 ghost use Rattle.comemo_base.specs.Answers.{Agrees};
 ghost use Rattle.comemo_track.specs.Recording.{Recording, Took, Spoiled, MarkedLate};
 ghost use Rattle.comemo_track.specs.Writing.{Done};
@@ -363,10 +363,15 @@ fn run_recorded<M: FunctionMutOf<T>, T: Track>(
 ///
 /// The sink takes what was asked, and then the writes: the recording of the run around the call, or `Top` where there
 /// is none. With `enabled` false there is no look-up, and nothing is kept. Every fault spoils the sink. Of a run that
-/// failed the writes that it did stay done, as does what it did to its needs, and the cache is as it was. `Write` comes
-/// of a hit of which the value refused a write, or of the run: the writes before it are done. A hit costs what `begin`
-/// costs, any other call what `begin`, the run and `finish` cost. This project's own: a call of a function under
-/// comemo's `#[memoize]` that takes a `TrackedMut`.
+/// failed the writes that it did stay done, as does what it did to its needs, and the cache is as it was.
+///
+/// `Write` comes of a hit of which the value refused a write: those before it are done. `Memory` comes where the call
+/// didn't begin, or where there was none to give a whole recording to the sink. Any other fault is the run's, of which
+/// the sink took nothing: one that it answered, also `Write` or `Memory`, or `Incomplete` where it left its recording
+/// spoiled.
+///
+/// A hit costs what `begin` costs, any other call what `begin`, the run and `finish` cost. This project's own: a call of
+/// a function under comemo's `#[memoize]` that takes a `TrackedMut`.
 pub fn memoized_mut<
     M: FunctionMutOf<T>,
     H: Hold<M>,
@@ -391,6 +396,13 @@ pub fn memoized_mut<
         reply (H.entries cache.new)) }
     ensures early { IfOk result (λ reply. NoneTouches T.Call.touches → reply.how ≡ How.Late → ⊥) }
     ensures reached { Reaches ⟦<T as Written>⟧.did of.old of.new }
+    ensures fault { IfErr result (λ fault.
+        Leads (H.entries cache.old) (H.entries cache.new) (λ es es'.
+        FailsBy ⟦<M as Meant>⟧.meaning es
+        (invocation key (T.answers of.old) enabled)
+        (⟦<T as Written>⟧.did of.old of.new)
+        (S.spoils sink.old sink.new)
+        (⟦<S as Breaking>⟧.spoiled_after sink.old sink.new) fault es')) }
     ensures err { OnErr result (Leads (H.entries cache.old) (H.entries cache.new) (λ es es'.
         IsFailed ⟦<M as Meant>⟧.meaning es
         (invocation key (T.answers of.old) enabled)

@@ -46,6 +46,7 @@ pub use comemo_cache::{
     Cache, CacheData, Caches, Evict, Evictor, Found, Hold, Meant, Memo, Reads, Shared, Step,
     StepReply, evictors, register_evictor,
 };
+pub use comemo_settled::{Asks, Keep, Settled, TreeOp, TreeReply};
 pub use comemo_track::{
     Accelerated, Both, BothMut, Breaking, Call, CallMap, Constraint, First, Hashed, Input, Keyed,
     KeyedMut, MappedSink, Multi, MultiAnswer, MultiCall, Second, Sink, Top, Track, Tracked,

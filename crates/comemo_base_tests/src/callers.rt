@@ -207,24 +207,30 @@ pub fn find_by_page<'a>(
 #[cfg(test)]
 mod tests {
     use super::*;
+    use crate::rows::{Tree, stores};
     use std::test::Fail;
 
-    #[test]
-    fn a_table_finds_the_path_of_its_answers(rt: HostRuntime) -> Result<(), Fail> {
-        let mut tree = PlainTree::new(rt.alloc());
-        for (second, value) in [(15, 'f'), (20, 's')] {
-            let mut sequence = CallSequence::new(rt.alloc());
-            assert!(rt; sequence.insert(0, 10)?);
-            assert!(rt; sequence.insert(1, second)?);
-            tree.insert(0, sequence, value)?;
+    // Whether a tree finds a path and its value under the key 0 by a table of answers.
+    fn finds_path(tree: &Tree, table: &[u128], wanted: &[(u8, u128)], value: char) -> bool {
+        match find_by_table(tree, 0, table) {
+            Ok(Some((path, found))) => {
+                let is_wanted = path.as_slice() == wanted;
+                is_wanted && *found == value
+            }
+            _ => false,
         }
+    }
+
+    #[test]
+    fn a_table_finds_the_path_of_its_answers(rt: HostRuntime) {
+        let alloc = rt.alloc();
+        let mut tree = PlainTree::new(alloc);
+        assert!(rt; stores(alloc, &mut tree, &[(0, 10), (1, 15)], 'f'));
+        assert!(rt; stores(alloc, &mut tree, &[(0, 10), (1, 20)], 's'));
         assert_eq!(rt; get_by_table(&tree, 0, &[10, 20]).copied(), Some('s'));
         assert_eq!(rt; get_by_table(&tree, 0, &[15, 20]).copied(), None);
         assert_eq!(rt; get_by_table(&tree, 1, &[10, 20]).copied(), None);
-        let (path, value) = find_by_table(&tree, 0, &[10, 15])?.ok_or("no path is found")?;
-        assert_eq!(rt; path.as_slice(), [(0, 10), (1, 15)].as_slice());
-        assert_eq!(rt; *value, 'f');
-        Ok(())
+        assert!(rt; finds_path(&tree, &[10, 15], &[(0, 10), (1, 15)], 'f'));
     }
 
     #[test]

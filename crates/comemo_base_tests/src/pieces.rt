@@ -1,8 +1,6 @@
 //! Bytes that are hashed in pieces, and numbers that are hashed as their bytes.
-use crate::vectors::text;
 use comemo_base::{SipHasher13, hash};
 use std::hash::Hasher;
-use std::test::Fail;
 
 // The number of a hasher after some more bytes.
 fn number_after(mut hasher: SipHasher13, bytes: &[u8]) -> u128 {
@@ -17,26 +15,6 @@ fn begun(count: u8) -> SipHasher13 {
         hasher.write(&[i.wrapping_add(1)]);
     }
     hasher
-}
-
-#[test]
-fn two_pieces_hash_as_the_whole(rt: HostRuntime) -> Result<(), Fail> {
-    for count in [0, 7, 8, 9, 255, 256] {
-        let bytes = text(rt.alloc(), count)?;
-        assert_eq!(rt; bytes.len(), count);
-        let whole = number_after(SipHasher13::new(), bytes.as_slice());
-        for cut in 0..=count {
-            let (front, back) = bytes.as_slice().split_at_checked(cut).ok_or("no such cut")?;
-            let mut hasher = SipHasher13::new();
-            hasher.write(front);
-            assert_eq!(rt;
-                number_after(hasher, back),
-                whole,
-                "{count} bytes cut at {cut}"
-            );
-        }
-    }
-    Ok(())
 }
 
 #[test]

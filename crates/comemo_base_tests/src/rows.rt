@@ -1,26 +1,46 @@
-//! Worked examples of sequences and trees: calls are bytes, answers numbers.
-use comemo_base::{CallSequence, InsertError, PlainTree};
+//! Worked examples of sequences and trees: calls are bytes, answers numbers. The rows of `bench rows` have more.
+use comemo_base::{CallSequence, PlainTree};
 use std::alloc::{AllocError, Global};
 use std::test::Fail;
 
-type Tree = PlainTree<u128, u8, u128, char>;
+pub(crate) type Tree = PlainTree<u128, u8, u128, char>;
 
-fn sequence_of(alloc: Global, pairs: &[(u8, u128)]) -> Result<CallSequence<u8, u128>, AllocError> {
-    let mut sequence = CallSequence::new(alloc);
+// Whether a sequence saw none of these calls before, and takes their pairs in.
+fn takes(sequence: &mut CallSequence<u8, u128>, pairs: &[(u8, u128)]) -> bool {
     for (call, answer) in pairs {
-        let _ = sequence.insert(*call, *answer)?;
+        let Ok(true) = sequence.insert(*call, *answer) else {
+            return false;
+        };
     }
-    Ok(sequence)
+    true
 }
 
-fn insert(
-    alloc: Global,
-    tree: &mut Tree,
-    pairs: &[(u8, u128)],
-    value: char,
-) -> Result<(), InsertError> {
-    let sequence = sequence_of(alloc, pairs)?;
-    tree.insert(0, sequence, value)
+// Whether a sequence saw a call before, so that its pair is left out.
+fn leaves_out(sequence: &mut CallSequence<u8, u128>, call: u8, answer: u128) -> bool {
+    matches!(sequence.insert(call, answer), Ok(false))
+}
+
+// Whether the remaining pairs of a sequence are these, in this order.
+fn has_pairs(sequence: &CallSequence<u8, u128>, pairs: &[(u8, u128)]) -> bool {
+    let mut left = pairs;
+    for pair in sequence.slots().iter().flatten() {
+        let Some((first, rest)) = left.split_first() else {
+            return false;
+        };
+        if first != pair {
+            return false;
+        }
+        left = rest;
+    }
+    left.is_empty()
+}
+
+/// Whether a tree stores a value under the key 0 and pairs whose calls differ.
+pub(crate) fn stores(alloc: Global, tree: &mut Tree, pairs: &[(u8, u128)], value: char) -> bool {
+    let mut sequence = CallSequence::new(alloc);
+    let is_taken = takes(&mut sequence, pairs);
+    let is_stored = tree.insert(0, sequence, value).is_ok();
+    is_taken && is_stored
 }
 
 // The answer of a table to a call. One that the table lacks is refused.
@@ -33,179 +53,74 @@ fn answer_in(table: &[(u8, u128)], call: u8) -> Result<u128, AllocError> {
     Err(AllocError)
 }
 
-// What a tree finds under a key by the answers of a table, and the calls that it asked.
-fn look_up(
-    alloc: Global,
-    tree: &Tree,
-    key: u128,
-    table: &[(u8, u128)],
-) -> Result<(Option<char>, Vec<u8>), AllocError> {
-    let mut asked = Vec::new(alloc);
-    let found = tree.get(
-        &key,
-        &mut |call: &u8| {
-            asked.push(*call)?;
-            answer_in(table, *call)
-        },
-    )?;
-    Ok((found.copied(), asked))
-}
-
-#[test]
-fn paths_that_part_are_each_found(rt: HostRuntime) -> Result<(), Fail> {
-    let alloc = rt.alloc();
-    let mut tree = PlainTree::new(alloc);
-    let rows = [
-        ([(b'a', 10), (b'b', 15)], 'f'),
-        ([(b'a', 10), (b'b', 20)], 's'),
-        ([(b'a', 15), (b'c', 15)], 't'),
-    ];
-    for (pairs, value) in rows {
-        assert_eq!(rt; insert(alloc, &mut tree, &pairs, value), Ok(()), "{value}");
+// Whether a tree finds a value by the answers of a table.
+fn finds(tree: &Tree, table: &[(u8, u128)], value: char) -> bool {
+    match tree.get(&0, &mut |call: &u8| answer_in(table, *call)) {
+        Ok(Some(found)) => *found == value,
+        _ => false,
     }
-    for (pairs, value) in rows {
-        let (found, _) = look_up(alloc, &tree, 0, &pairs)?;
-        assert_eq!(rt; found, Some(value));
+}
+
+// Whether a tree finds a path and its value by the answers of a table.
+fn finds_path(tree: &Tree, table: &[(u8, u128)], wanted: &[(u8, u128)], value: char) -> bool {
+    match tree.find(&0, &mut |call: &u8| answer_in(table, *call)) {
+        Ok(Some((path, found))) => {
+            let is_wanted = path.as_slice() == wanted;
+            is_wanted && *found == value
+        }
+        _ => false,
     }
-    Ok(())
 }
 
 #[test]
-fn a_path_follows_the_stored_ones_and_then_the_sequence(rt: HostRuntime) -> Result<(), Fail> {
+fn a_path_follows_the_stored_ones_and_then_the_sequence(rt: HostRuntime) {
     let alloc = rt.alloc();
     let mut tree = PlainTree::new(alloc);
-    let first = [(b'a', 10), (b'b', 15)];
-    let second = [(b'a', 10), (b'c', 15), (b'b', 20)];
-    let third = [(b'a', 15), (b'b', 30), (b'c', 15)];
-    assert_eq!(rt; insert(alloc, &mut tree, &first, 'f'), Ok(()));
-    assert_eq!(rt; insert(alloc, &mut tree, &second, 's'), Ok(()));
-    assert_eq!(rt; insert(alloc, &mut tree, &third, 't'), Ok(()));
-    assert_eq!(rt; look_up(alloc, &tree, 0, &first)?.0, Some('f'));
-    assert_eq!(rt; look_up(alloc, &tree, 0, &second)?.0, Some('s'));
-    assert_eq!(rt; look_up(alloc, &tree, 0, &third)?.0, Some('t'));
-    let found = tree.find(&0, &mut |call: &u8| answer_in(&second, *call))?;
-    let (path, value) = found.ok_or("no path is found")?;
-    assert_eq!(rt;
-        path.as_slice(),
-        [(b'a', 10), (b'b', 20), (b'c', 15)].as_slice()
-    );
-    assert_eq!(rt; *value, 's');
-    Ok(())
+    let first: &[(u8, u128)] = &[(b'a', 10), (b'b', 15)];
+    let second: &[(u8, u128)] = &[(b'a', 10), (b'c', 15), (b'b', 20)];
+    let third: &[(u8, u128)] = &[(b'a', 15), (b'b', 30), (b'c', 15)];
+    assert!(rt; stores(alloc, &mut tree, first, 'f'));
+    assert!(rt; stores(alloc, &mut tree, second, 's'));
+    assert!(rt; stores(alloc, &mut tree, third, 't'));
+    assert!(rt; finds(&tree, first, 'f'));
+    assert!(rt; finds(&tree, second, 's'));
+    assert!(rt; finds(&tree, third, 't'));
+    let path: &[(u8, u128)] = &[(b'a', 10), (b'b', 20), (b'c', 15)];
+    assert!(rt; finds_path(&tree, second, path, 's'));
 }
 
 #[test]
-fn what_is_stored_and_what_lacks_a_call_is_not_stored(rt: HostRuntime) -> Result<(), Fail> {
+fn a_sequence_absorbs_what_it_never_saw(rt: HostRuntime) {
     let alloc = rt.alloc();
-    let mut tree = PlainTree::new(alloc);
-    assert_eq!(rt; insert(alloc, &mut tree, &[(b'a', 1)], 'x'), Ok(()));
-    let longer = insert(alloc, &mut tree, &[(b'a', 1), (b'b', 2)], 'y');
-    assert_eq!(rt; longer, Err(InsertError::AlreadyExists));
-    let empty = insert(alloc, &mut tree, &[], 'z');
-    assert_eq!(rt; empty, Err(InsertError::MissingCall));
-    assert_eq!(rt; look_up(alloc, &tree, 0, &[(b'a', 1)])?.0, Some('x'));
-    Ok(())
-}
-
-#[test]
-fn an_empty_path_is_found_unasked(rt: HostRuntime) -> Result<(), Fail> {
-    let alloc = rt.alloc();
-    let mut tree = PlainTree::new(alloc);
-    assert_eq!(rt; insert(alloc, &mut tree, &[], 'x'), Ok(()));
-    let longer = insert(alloc, &mut tree, &[(b'a', 1)], 'y');
-    assert_eq!(rt; longer, Err(InsertError::AlreadyExists));
-    let (found, asked) = look_up(alloc, &tree, 0, &[(b'a', 1)])?;
-    assert_eq!(rt; found, Some('x'));
-    assert!(rt; asked.is_empty());
-    let (other, asked) = look_up(alloc, &tree, 1, &[(b'a', 1)])?;
-    assert_eq!(rt; other, None);
-    assert!(rt; asked.is_empty());
-    Ok(())
-}
-
-#[test]
-fn calls_are_asked_in_the_order_of_the_tree(rt: HostRuntime) -> Result<(), Fail> {
-    let alloc = rt.alloc();
-    let mut tree = PlainTree::new(alloc);
-    assert_eq!(rt;
-        insert(alloc, &mut tree, &[(b'a', 1), (b'b', 2)], 'x'),
-        Ok(())
-    );
-    assert_eq!(rt;
-        insert(alloc, &mut tree, &[(b'b', 3), (b'a', 1)], 'y'),
-        Ok(())
-    );
-    let (found, asked) = look_up(alloc, &tree, 0, &[(b'a', 1), (b'b', 3)])?;
-    assert_eq!(rt; found, Some('y'));
-    assert_eq!(rt; asked.as_slice(), b"ab".as_slice());
-    let (found, asked) = look_up(alloc, &tree, 0, &[(b'a', 2), (b'b', 3)])?;
-    assert_eq!(rt; found, None);
-    assert_eq!(rt; asked.as_slice(), b"a".as_slice());
-    Ok(())
-}
-
-#[test]
-fn a_call_that_was_taken_out_stays_seen(rt: HostRuntime) -> Result<(), Fail> {
-    let mut sequence = sequence_of(rt.alloc(), &[(b'a', 1), (b'b', 2)])?;
-    assert_eq!(rt; sequence.extract(&b'b'), Some(2));
-    assert_eq!(rt; sequence.extract(&b'b'), None);
-    assert!(rt; !sequence.insert(b'b', 9)?);
-    assert_eq!(rt; sequence.next(), Some((b'a', 1)));
-    assert_eq!(rt; sequence.next(), None);
-    assert!(rt; !sequence.insert(b'a', 1)?);
-    Ok(())
-}
-
-// The remaining pairs of a sequence, in their order.
-fn pairs_of(
-    alloc: Global,
-    sequence: &CallSequence<u8, u128>,
-) -> Result<Vec<(u8, u128)>, AllocError> {
-    let mut pairs = Vec::new(alloc);
-    for (call, answer) in sequence.slots().iter().flatten() {
-        pairs.push((*call, *answer))?;
-    }
-    Ok(pairs)
-}
-
-#[test]
-fn a_sequence_absorbs_what_it_never_saw(rt: HostRuntime) -> Result<(), Fail> {
-    let alloc = rt.alloc();
-    let mut left = sequence_of(alloc, &[(b'a', 1), (b'b', 2)])?;
-    let right = sequence_of(alloc, &[(b'b', 9), (b'c', 3)])?;
-    left.absorb(right)?;
-    assert_eq!(rt;
-        pairs_of(alloc, &left)?.as_slice(),
-        [(b'a', 1), (b'b', 2), (b'c', 3)].as_slice()
-    );
-    assert!(rt; !left.insert(b'c', 4)?);
+    let mut left = CallSequence::new(alloc);
+    assert!(rt; takes(&mut left, &[(b'a', 1), (b'b', 2)]));
+    let mut right = CallSequence::new(alloc);
+    assert!(rt; takes(&mut right, &[(b'b', 9), (b'c', 3)]));
+    assert!(rt; left.absorb(right).is_ok());
+    assert!(rt; has_pairs(&left, &[(b'a', 1), (b'b', 2), (b'c', 3)]));
+    assert!(rt; leaves_out(&mut left, b'c', 4));
     // What was taken out of the one stays seen; what was taken out of the other is not absorbed.
     assert_eq!(rt; left.extract(&b'b'), Some(2));
-    let mut other = sequence_of(alloc, &[(b'd', 4), (b'b', 9), (b'e', 5)])?;
+    let mut other = CallSequence::new(alloc);
+    assert!(rt; takes(&mut other, &[(b'd', 4), (b'b', 9), (b'e', 5)]));
     assert_eq!(rt; other.extract(&b'd'), Some(4));
-    left.absorb(other)?;
-    assert_eq!(rt;
-        pairs_of(alloc, &left)?.as_slice(),
-        [(b'a', 1), (b'c', 3), (b'e', 5)].as_slice()
-    );
-    assert!(rt; left.insert(b'd', 6)?);
-    assert!(rt; !left.insert(b'e', 6)?);
-    Ok(())
+    assert!(rt; left.absorb(other).is_ok());
+    assert!(rt; has_pairs(&left, &[(b'a', 1), (b'c', 3), (b'e', 5)]));
+    assert!(rt; takes(&mut left, &[(b'd', 6)]));
+    assert!(rt; leaves_out(&mut left, b'e', 6));
 }
 
 #[test]
-fn entries_and_remaining_pairs_are_counted(rt: HostRuntime) -> Result<(), Fail> {
+fn entries_and_remaining_pairs_are_counted(rt: HostRuntime) {
     let alloc = rt.alloc();
     let mut tree = Tree::new(alloc);
     assert_eq!(rt; tree.len(), 0);
-    insert(alloc, &mut tree, &[(b'a', 1)], 'x')?;
+    assert!(rt; stores(alloc, &mut tree, &[(b'a', 1)], 'x'));
     assert_eq!(rt; tree.len(), 1);
-    let mut sequence = sequence_of(alloc, &[(b'a', 1), (b'b', 2), (b'c', 3)])?;
+    let mut sequence = CallSequence::new(alloc);
+    assert!(rt; takes(&mut sequence, &[(b'a', 1), (b'b', 2), (b'c', 3)]));
     assert_eq!(rt; sequence.extract(&b'b'), Some(2));
-    assert_eq!(rt;
-        pairs_of(alloc, &sequence)?.as_slice(),
-        [(b'a', 1), (b'c', 3)].as_slice()
-    );
-    Ok(())
+    assert!(rt; has_pairs(&sequence, &[(b'a', 1), (b'c', 3)]));
 }
 
 #[test]

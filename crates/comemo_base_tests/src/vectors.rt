@@ -2,13 +2,12 @@
 use comemo_base::SipHasher13;
 use std::alloc::{AllocError, Global};
 use std::hash::Hasher;
-use std::test::Fail;
 
 // Each pair is the length of a text and its number, under both keys 0. Byte i of a text is (7 i + 3) modulo 256.
 //
 // The numbers, here and in the next table, were made by the `SipHasher13` of 128 bits of the Rust crate `siphasher`, the
 // hasher that comemo 0.5.1 uses. A second program, written from the description of the algorithm, gave the same ones.
-const UNDER_ZERO_KEYS: [(usize, u128); 72] = [
+const UNDER_ZERO_KEYS: &[(usize, u128)] = &[
     (0, 0xb91c5ed0_31fb3303_2134935d_61d9b40d),
     (1, 0xccb70af7_614c5cd4_c45292aa_0dcbc16b),
     (2, 0x7186e5f1_52886637_660bdda1_33cc6c7a),
@@ -84,7 +83,7 @@ const UNDER_ZERO_KEYS: [(usize, u128); 72] = [
 ];
 
 // The same texts under the keys 0x0706_0504_0302_0100 and 0x0f0e_0d0c_0b0a_0908.
-const UNDER_COUNTING_KEYS: [(usize, u128); 72] = [
+const UNDER_COUNTING_KEYS: &[(usize, u128)] = &[
     (0, 0x013030dd_6adb62fd_bea58827_b2bc7ee7),
     (1, 0x084510ab_fa9db2ae_286c123c_6a4dba53),
     (2, 0x2f368355_1b8846a1_920d6cf6_09dd4bb8),
@@ -159,8 +158,8 @@ const UNDER_COUNTING_KEYS: [(usize, u128); 72] = [
     (1000, 0x0ee20877_914feaee_0f760e51_84e09366),
 ];
 
-/// The text of a length.
-pub fn text(alloc: Global, count: usize) -> Result<Vec<u8>, AllocError> {
+// The text of a length.
+fn text(alloc: Global, count: usize) -> Result<Vec<u8>, AllocError> {
     let mut bytes = Vec::new(alloc);
     let mut byte = 3u8;
     for _ in 0..count {
@@ -170,30 +169,30 @@ pub fn text(alloc: Global, count: usize) -> Result<Vec<u8>, AllocError> {
     Ok(bytes)
 }
 
-fn number_under(k0: u64, k1: u64, bytes: &[u8]) -> u128 {
+// Whether the text of a length has a number under two keys.
+fn has_number(alloc: Global, k0: u64, k1: u64, count: usize, number: u128) -> bool {
+    let Ok(bytes) = text(alloc, count) else {
+        return false;
+    };
     let mut hasher = SipHasher13::new_with_keys(k0, k1);
-    hasher.write(bytes);
-    hasher.finish128()
+    hasher.write(bytes.as_slice());
+    hasher.finish128() == number
 }
 
 #[test]
-fn texts_have_the_numbers_of_the_rust_crate(rt: HostRuntime) -> Result<(), Fail> {
+fn texts_have_the_numbers_of_the_rust_crate(rt: HostRuntime) {
+    let alloc = rt.alloc();
     for (count, number) in UNDER_ZERO_KEYS {
-        let bytes = text(rt.alloc(), count)?;
-        assert_eq!(rt;
-            number_under(0, 0, bytes.as_slice()),
-            number,
+        assert!(rt;
+            has_number(alloc, 0, 0, *count, *number),
             "of {count} bytes"
         );
     }
+    let (k0, k1) = (0x0706_0504_0302_0100, 0x0f0e_0d0c_0b0a_0908);
     for (count, number) in UNDER_COUNTING_KEYS {
-        let bytes = text(rt.alloc(), count)?;
-        let found = number_under(
-            0x0706_0504_0302_0100,
-            0x0f0e_0d0c_0b0a_0908,
-            bytes.as_slice(),
+        assert!(rt;
+            has_number(alloc, k0, k1, *count, *number),
+            "of {count} bytes"
         );
-        assert_eq!(rt; found, number, "of {count} bytes");
     }
-    Ok(())
 }

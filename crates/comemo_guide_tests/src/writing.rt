@@ -4,6 +4,7 @@ use comemo::{BothMut, CacheData, How, MemoOfMut, Top, memoized_mut};
 use comemo_guide::adding::{Adds, AddsTwice};
 use comemo_guide::tally::Tally;
 use comemo_samples::{Counter, Town};
+use std::alloc::Global;
 use std::test::Fail;
 
 #[test]
@@ -60,34 +61,40 @@ fn what_was_added_within_is_added_again(rt: HostRuntime) -> Result<(), Fail> {
     Ok(())
 }
 
+/// Whether a tally of a town gives its degrees, and this becomes of the call, and the counter has this number then.
+fn tallies(
+    alloc: Global,
+    cache: &mut CacheData<Tally>,
+    (people, degrees): (u64, u64),
+    counter: &mut Counter,
+    how: How,
+    sum: u64,
+) -> bool {
+    let mut town = Town { people, degrees };
+    let mut both = BothMut {
+        first: &mut town,
+        second: counter,
+    };
+    let is_so = match memoized_mut(alloc, cache, &mut (), (), &mut both, &mut Top::new(), true) {
+        Ok(reply) => reply.output == degrees && reply.how == how,
+        Err(_) => false,
+    };
+    is_so && both.second.number == sum
+}
+
 #[test]
-fn a_town_is_read_and_a_counter_written(rt: HostRuntime) -> Result<(), Fail> {
+fn a_town_is_read_and_a_counter_written(rt: HostRuntime) {
     let alloc = rt.alloc();
     let mut cache: CacheData<Tally> = CacheData::new(alloc);
     let mut counter = Counter { number: 0 };
-    let calls = [
-        (900, 21, How::Stored, 21),
-        (7000, 21, How::Hit, 42),
-        (7000, 4, How::Stored, 46),
+    let calls: &[((u64, u64), How, u64)] = &[
+        ((900, 21), How::Stored, 21),
+        ((7000, 21), How::Hit, 42),
+        ((7000, 4), How::Stored, 46),
     ];
-    for (people, degrees, how, sum) in calls {
-        let mut town = Town { people, degrees };
-        let mut both = BothMut {
-            first: &mut town,
-            second: &mut counter,
-        };
-        let reply = memoized_mut(
-            alloc,
-            &mut cache,
-            &mut (),
-            (),
-            &mut both,
-            &mut Top::new(),
-            true,
-        )?;
-        assert_eq!(rt; (reply.output, reply.how), (degrees, how));
-        drop(both);
-        assert_eq!(rt; counter.number, sum);
+    for (town, how, sum) in calls {
+        let is_so = tallies(alloc, &mut cache, *town, &mut counter, *how, *sum);
+        assert!(rt; is_so, "for {town:?}");
     }
-    Ok(())
+    assert_eq!(rt; counter.number, 46);
 }

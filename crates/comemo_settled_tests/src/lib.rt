@@ -1,5 +1,5 @@
-//! Tests of `comemo_settled` from outside: worked examples with their shapes, in both orders; a list of a thousand steps;
-//! and many steps from a seed beside a plain map of sets.
+//! Tests of `comemo_settled` from outside: each order of a run, and many steps from a seed beside a plain map of sets. The
+//! rows of `bench rows` have more.
 #![tactic(auto)]
 
 #[cfg(test)]
@@ -8,8 +8,6 @@ mod comparison;
 mod counted;
 #[cfg(test)]
 mod numbers;
-#[cfg(test)]
-mod places;
 #[cfg(test)]
 mod random;
 #[cfg(test)]

@@ -3,7 +3,7 @@ use Rattle.std.proofs.Common.{◌≡◌, ℕ, nat_eq, true, false, refl}
 use Rattle.std.specs.Cmp.{IsEquivalence}
 use Rattle.comemo.specs.Answers.{Respects}
 use Rattle.comemo_samples.specs.Contexts.{field}
-use Rattle.comemo_tests.proofs.Places.{same_numbers}
+use Rattle.comemo_tests.proofs.Numbers.{same_numbers}
 use Rattle.comemo_samples.specs.declared.contexts.ContextCall.{ContextCall}
 use Rattle.comemo_samples.specs.declared.contexts.ContextCall.TheVariants.{Location, Styles}
 use Rattle.comemo_samples.specs.contracts.contexts.ContextCallPartialEq.TheImpl.{ghosts}

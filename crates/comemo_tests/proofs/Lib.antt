@@ -1,4 +1,4 @@
-pub mod Places
+pub mod Numbers
 pub mod Contexts
 pub mod Contains
 pub mod Failing

@@ -1,13 +1,11 @@
 //! Memoized functions that ask through a view which keeps what it was answered, and a value that counts how often it is
 //! asked.
-ghost use Rattle.std.specs.Prelude.{◌≡◌, IfOk, OnErr, IfSome};
+ghost use Rattle.std.specs.Prelude.{◌≡◌, IfOk, OnErr};
 ghost use Rattle.std.proofs.Common.{rules};
 ghost use Rattle.comemo_tests.specs.Broken.{IsBroken};
 
 use crate::functions::LocationMemo;
-use comemo::{
-    Accelerated, Begun, Breaking, CacheData, Fault, Found, How, Reply, Sink, Top, Track, begin,
-};
+use comemo::{Accelerated, Begun, Breaking, CacheData, Fault, How, Reply, Sink, Top, Track, begin};
 use comemo_samples::{Context, ContextCall};
 use std::alloc::{AllocError, Global};
 use std::sync::atomic::{AtomicU64, Ordering};
@@ -91,24 +89,4 @@ pub fn known_location<S: Sink<Call = ContextCall, Answer = u64>>(
         }
         Err(fault) => Err(fault),
     }
-}
-
-/// The kept location of a context, if there is one, by a reference to such a view.
-pub fn look_by_known(
-    cache: &CacheData<LocationMemo>,
-    mut view: &mut Accelerated<'_, Counting>,
-) -> Result<Option<u64>, AllocError>
-    ensures { IfOk result
-        (λ found. IfSome found (λ output. output ≡ view.old.value.context.location)) }
-{
-    let Some(found) = cache.look(&(), &mut view)? else {
-        return Ok(None);
-    };
-    let Found {
-        pairs: _,
-        output,
-        writes: _,
-        age: _,
-    } = found;
-    Ok(Some(output))
 }

@@ -1,9 +1,7 @@
-//! Runs of functions that are closures: the closure is called where no entry agrees, or none is looked for.
+//! Runs of a function that is a closure: the closure is called where no entry agrees, or none is looked for.
 
-use crate::closures::{closed_square, closed_sum};
+use crate::closures::{SumMemo, closed_sum};
 use crate::expected::expect;
-use crate::functions::SumMemo;
-use crate::inputs::SquareMemo;
 use comemo::{CacheData, Fault, How, Reply, Top, Track};
 use comemo_samples::Context;
 use std::alloc::Global;
@@ -51,16 +49,5 @@ fn a_closure_that_is_not_enabled_runs_each_time(rt: HostRuntime) -> Result<(), F
     let again = sum_of(alloc, &mut cache, 4, false)?;
     expect(&rt, again, 7, How::Disabled);
     assert_eq!(rt; cache.len(), 0);
-    Ok(())
-}
-
-#[test]
-fn a_closure_that_asks_nothing_is_kept_under_its_key(rt: HostRuntime) -> Result<(), Fail> {
-    let alloc = rt.alloc();
-    let mut cache: CacheData<SquareMemo> = CacheData::new(alloc);
-    let first = closed_square(alloc, &mut cache, 12, &mut Top::new(), true)?;
-    expect(&rt, first, 144, How::Stored);
-    let again = closed_square(alloc, &mut cache, 12, &mut Top::new(), true)?;
-    expect(&rt, again, 144, How::Hit);
     Ok(())
 }

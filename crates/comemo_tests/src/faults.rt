@@ -1,13 +1,12 @@
 //! Memoized functions whose runs end in a fault, and what a caller is told of it.
-ghost use Rattle.std.specs.Prelude.{◌≡◌, OnErr, ⊤};
+ghost use Rattle.std.specs.Prelude.{⊤};
 ghost use Rattle.std.proofs.Common.{rules};
-ghost use Rattle.comemo_tests.specs.Broken.{IsBroken};
 ghost use Rattle.comemo.specs.Meaning.{reading};
 
 use crate::functions::LocationMemo;
 use comemo::{
-    Both, Breaking, CacheData, Constraint, Fault, Function, FunctionOf, Memo, MemoOf, MultiAnswer,
-    MultiCall, Recorder, Reply, Sink, Tracked, memoize,
+    Both, CacheData, Constraint, Fault, Function, FunctionOf, Memo, MemoOf, MultiAnswer, MultiCall,
+    Recorder, Reply, Tracked, memoize,
 };
 use comemo_samples::{Context, ContextCall};
 use std::alloc::Global;
@@ -125,20 +124,17 @@ impl<'a> FunctionOf<Both<'a, Context, Context>> for CallingOfPart {
 }
 
 /// A closure that ends in a fault.
-pub fn closed_fault<S: Sink<Call = ContextCall, Answer = u64>>(
+pub fn closed_fault(
     alloc: Global,
     cache: &mut CacheData<LocationMemo>,
     context: &Tracked<'_, Context>,
-    sink: &mut S,
+    sink: &mut Constraint<ContextCall, u64>,
     fault: Fault,
-) -> Result<Reply<u64>, Fault>
-    ensures err { OnErr result ((cache.new ≡ cache.old)
-        × IsBroken (⟦<S as Breaking>⟧.breaks_off sink.old sink.new)) }
-{
+) -> Result<Reply<u64>, Fault> {
     memoize(
         alloc,
         cache,
-        context.fork(alloc),
+        &mut context.fork(alloc),
         sink,
         true,
         |_view: &mut Tracked<'_, Context>, _recording: &mut Constraint<ContextCall, u64>| Err(

@@ -103,45 +103,6 @@ pub fn contains<S: Sink<Call = MultiCall<(), ContextCall>, Answer = MultiAnswer<
     }
 }
 
-/// The sum of two numbers, which wraps. It asks nothing.
-pub struct SumOfTwoMemo;
-
-impl Memo for SumOfTwoMemo {
-    type Call = MultiCall<(), ()>;
-
-    type Key = (u32, u32);
-
-    type Answer = MultiAnswer<(), ()>;
-
-    type Out = u32;
-
-    ghost def = { reading (λ key _ out. out ≡ (key.0 + key.1) % 2 ^ 32) };
-
-    ghost laws = { Prim.search rules };
-}
-
-/// The sum of two numbers, kept under both.
-pub fn sum_of_two<S: Sink<Call = MultiCall<(), ()>, Answer = MultiAnswer<(), ()>>>(
-    alloc: Global,
-    cache: &mut CacheData<SumOfTwoMemo>,
-    first: u32,
-    second: u32,
-    sink: &mut S,
-) -> Result<Reply<u32>, Fault>
-    ensures output { IfOk result (λ reply. reply.output ≡ (first + second) % 2 ^ 32) }
-    ensures err { OnErr result ((cache.new ≡ cache.old)
-        × IsBroken (⟦<S as Breaking>⟧.breaks_off sink.old sink.new)) }
-{
-    let mut input = Multi((Hashed(first), Hashed(second)));
-    match begin(alloc, cache, &mut input, sink, true)? {
-        Begun::Hit(output) => Ok(Reply {
-            output,
-            how: How::Hit,
-        }),
-        Begun::Run(pending) => pending.finish(cache, sink, first.wrapping_add(second)),
-    }
-}
-
 /// The sum of the locations of two contexts, which wraps.
 pub struct LocationsMemo;
 

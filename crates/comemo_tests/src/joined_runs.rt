@@ -1,10 +1,7 @@
 //! Runs of functions of several arguments.
 
 use crate::expected::expect;
-use crate::joined::{
-    ContainsMemo, LocationsMemo, SumOfTwoMemo, ThreeMemo, contains, locations, sum_of_three,
-    sum_of_two,
-};
+use crate::joined::{ContainsMemo, LocationsMemo, ThreeMemo, contains, locations, sum_of_three};
 use comemo::{CacheData, Fault, How, MultiAnswer, MultiCall, Reply, Top, Track};
 use comemo_samples::Context;
 use std::alloc::Global;
@@ -19,31 +16,20 @@ fn top<A, B, RA, RB>() -> Top<MultiCall<A, B>, MultiAnswer<RA, RB>> {
 }
 
 #[test]
-fn a_sum_is_kept_under_both_numbers(rt: HostRuntime) -> Result<(), Fail> {
-    let alloc = rt.alloc();
-    let mut cache: CacheData<SumOfTwoMemo> = CacheData::new(alloc);
-    let first = sum_of_two(alloc, &mut cache, 2, 4, &mut top())?;
-    expect(&rt, first, 6, How::Stored);
-    let second = sum_of_two(alloc, &mut cache, 2, 3, &mut top())?;
-    expect(&rt, second, 5, How::Stored);
-    let third = sum_of_two(alloc, &mut cache, 2, 3, &mut top())?;
-    expect(&rt, third, 5, How::Hit);
-    let fourth = sum_of_two(alloc, &mut cache, 4, 2, &mut top())?;
-    expect(&rt, fourth, 6, How::Stored);
-    assert_eq!(rt; cache.len(), 3);
-    Ok(())
-}
-
-#[test]
 fn three_inputs_are_joined_by_pairs(rt: HostRuntime) -> Result<(), Fail> {
     let alloc = rt.alloc();
     let mut cache: CacheData<ThreeMemo> = CacheData::new(alloc);
-    let first = sum_of_three(alloc, &mut cache, 2, 4, &mut top())?;
-    expect(&rt, first, 6, How::Stored);
-    let second = sum_of_three(alloc, &mut cache, 2, 4, &mut top())?;
-    expect(&rt, second, 6, How::Hit);
-    let third = sum_of_three(alloc, &mut cache, 2, 5, &mut top())?;
-    expect(&rt, third, 7, How::Stored);
+    let calls: &[(u32, u32, u32, How)] = &[
+        (2, 4, 6, How::Stored),
+        (2, 3, 5, How::Stored),
+        (2, 3, 5, How::Hit),
+        (4, 2, 6, How::Stored),
+    ];
+    for (first, second, sum, how) in calls {
+        let reply = sum_of_three(alloc, &mut cache, *first, *second, &mut top())?;
+        expect(&rt, reply, *sum, *how);
+    }
+    assert_eq!(rt; cache.len(), 3);
     Ok(())
 }
 

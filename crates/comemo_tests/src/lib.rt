@@ -3,8 +3,6 @@
 #![tactic(auto)]
 
 #[cfg(test)]
-mod absorbing;
-#[cfg(test)]
 mod accelerated;
 #[cfg(test)]
 mod accelerated_tests;
@@ -12,8 +10,6 @@ mod accelerated_tests;
 mod again;
 #[cfg(test)]
 mod again_tests;
-#[cfg(test)]
-mod age_tests;
 #[cfg(test)]
 mod closed_runs;
 #[cfg(test)]
@@ -30,7 +26,8 @@ mod faults;
 mod functions;
 #[cfg(test)]
 mod inputs;
-pub mod joined;
+#[cfg(test)]
+mod joined;
 #[cfg(test)]
 mod joined_runs;
 #[cfg(test)]
@@ -42,10 +39,9 @@ mod recordings;
 #[cfg(test)]
 mod replies;
 #[cfg(test)]
-mod rows;
-#[cfg(test)]
 mod runs;
-pub mod sinks;
+#[cfg(test)]
+mod sinks;
 #[cfg(test)]
 mod view_tests;
 #[cfg(test)]

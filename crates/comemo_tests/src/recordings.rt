@@ -1,7 +1,6 @@
 //! Recordings that absorb, sinks and views by reference, and a value as an input.
 ghost use Rattle.std.proofs.Common.{rules};
 
-use crate::absorbing::absorbed_row;
 use crate::expected::expect;
 use crate::functions::LocationMemo;
 use crate::inputs::{SquareMemo, lent_location, look_location, square};
@@ -29,18 +28,12 @@ impl Memo for AnyRowMemo {
 }
 
 #[test]
-fn a_recording_absorbs_another(rt: HostRuntime) -> Result<(), Fail> {
-    let mut recording = absorbed_row(rt.alloc(), false)?;
-    assert!(rt; recording.is_whole());
-    for (at, new) in [(1, false), (2, false), (3, false), (4, true)] {
-        assert_eq!(rt; recording.emit(Place { at }, Some(7))?, new, "{at}");
-    }
-    Ok(())
-}
-
-#[test]
 fn a_spoiled_recording_spoils_the_one_that_absorbs_it(rt: HostRuntime) -> Result<(), Fail> {
-    let recording = absorbed_row(rt.alloc(), true)?;
+    let mut recording = Constraint::new(rt.alloc());
+    assert!(rt; recording.emit(Place { at: 1 }, Some(1))?);
+    let mut other = Constraint::new(rt.alloc());
+    other.spoil();
+    recording.absorb(other)?;
     assert!(rt; !recording.is_whole());
     Ok(())
 }
@@ -64,44 +57,64 @@ fn run_absorbing(alloc: Global, pending: &mut Pending<AnyRowMemo>) -> Result<(),
     pending.recording().absorb(other)
 }
 
-#[test]
-fn a_run_is_kept_for_what_it_absorbed(rt: HostRuntime) -> Result<(), Fail> {
-    let alloc = rt.alloc();
-    let mut cache = CacheData::new(alloc);
-    let row = Row {
-        numbers: vec![in alloc; 1, 2, 3]?,
+// Whether the call of the row of these numbers is a hit that gives 6, or is no hit, as said.
+fn is_as_said(
+    alloc: Global,
+    cache: &mut CacheData<AnyRowMemo>,
+    numbers: &[u64],
+    hits: bool,
+) -> bool {
+    let Ok(numbers) = numbers.to_vec(alloc) else {
+        return false;
     };
-    let mut pending = match begin_row(alloc, &mut cache, &row)? {
-        Begun::Hit(_) => return Err("an empty cache has nothing")?,
+    match begin_row(alloc, cache, &Row { numbers }) {
+        Ok(Begun::Hit(output)) => hits && output == 6,
+        Ok(Begun::Run(pending)) => {
+            pending.give_up(&mut Top::new());
+            !hits
+        }
+        Err(_) => false,
+    }
+}
+
+// Whether the run of a new row, which absorbs another recording, is stored.
+fn stores_absorbing(alloc: Global, cache: &mut CacheData<AnyRowMemo>) -> bool {
+    let row = Row {
+        numbers: Vec::new(alloc),
+    };
+    let Ok(begun) = begin_row(alloc, cache, &row) else {
+        return false;
+    };
+    let mut pending = match begun {
+        Begun::Hit(_) => return false,
         Begun::Run(pending) => pending,
     };
     if run_absorbing(alloc, &mut pending).is_err() {
         pending.give_up(&mut Top::new());
-        return Err(Fault::Memory)?;
+        return false;
     }
-    let reply = pending.finish(&mut cache, &mut Top::new(), 6)?;
-    assert_eq!(rt; reply.how, How::Stored);
-    for (numbers, hits) in [
-        ([1, 2, 3], true),
-        ([1, 9, 3], false),
-        ([1, 2, 4], false),
-        ([2, 2, 3], false),
-    ] {
-        let row = Row {
-            numbers: numbers.to_vec(alloc)?,
-        };
-        match begin_row(alloc, &mut cache, &row)? {
-            Begun::Hit(output) => {
-                assert!(rt; hits);
-                assert_eq!(rt; output, 6);
-            }
-            Begun::Run(pending) => {
-                pending.give_up(&mut Top::new());
-                assert!(rt; !hits);
-            }
-        }
+    match pending.finish(cache, &mut Top::new(), 6) {
+        Ok(reply) => reply.how == How::Stored,
+        Err(_) => false,
     }
-    Ok(())
+}
+
+#[test]
+fn a_run_is_kept_for_what_it_absorbed(rt: HostRuntime) {
+    let alloc = rt.alloc();
+    let mut cache = CacheData::new(alloc);
+    let is_stored = stores_absorbing(alloc, &mut cache);
+    assert!(rt; is_stored);
+    let rows: &[(&[u64], bool)] = &[
+        (&[1, 2, 3], true),
+        (&[1, 9, 3], false),
+        (&[1, 2, 4], false),
+        (&[2, 2, 3], false),
+    ];
+    for (numbers, hits) in rows {
+        let is_so = is_as_said(alloc, &mut cache, *numbers, *hits);
+        assert!(rt; is_so, "for {numbers:?}");
+    }
 }
 
 #[test]

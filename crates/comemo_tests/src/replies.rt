@@ -1,49 +1,13 @@
 //! What becomes of calls, in worked order.
 use crate::expected::expect;
-use crate::functions::{
-    DoubleMemo, LocationMemo, ShownMemo, SumMemo, double, location, shown, sum,
-};
+use crate::functions::{LocationMemo, location};
 use crate::nested::{TwiceMemo, twice};
-use crate::rows::{FirstZeroMemo, first_zero};
 use comemo::{CacheData, Constraint, How, Sink, Top, Track};
-use comemo_samples::{Context, ContextCall, Page, Row};
-use std::alloc::Global;
+use comemo_samples::{Context, ContextCall};
 use std::test::Fail;
 
 fn top() -> Top<ContextCall, u64> {
     Top::new()
-}
-
-#[test]
-fn a_sum_is_kept_for_its_answers(rt: HostRuntime) -> Result<(), Fail> {
-    let alloc = rt.alloc();
-    let mut cache: CacheData<SumMemo> = CacheData::new(alloc);
-    let here = Context {
-        location: 3,
-        styles: 40,
-    };
-    let there = Context {
-        location: 5,
-        styles: 40,
-    };
-    for (context, output, how, len) in [
-        (&here, 43, How::Stored, 1),
-        (&here, 43, How::Hit, 1),
-        (&there, 45, How::Stored, 2),
-        (&here, 43, How::Hit, 2),
-        (&there, 45, How::Hit, 2),
-    ] {
-        let reply = sum(alloc, &mut cache, &context.track(alloc), &mut top(), true)?;
-        expect(&rt, reply, output, how);
-        assert_eq!(rt; cache.len(), len);
-    }
-    let last = Context {
-        location: u64::MAX,
-        styles: 2,
-    };
-    let reply = sum(alloc, &mut cache, &last.track(alloc), &mut top(), true)?;
-    expect(&rt, reply, 1, How::Stored);
-    Ok(())
 }
 
 #[test]
@@ -68,37 +32,9 @@ fn what_is_not_asked_is_not_looked_at(rt: HostRuntime) -> Result<(), Fail> {
 }
 
 #[test]
-fn a_double_is_kept_under_its_number(rt: HostRuntime) -> Result<(), Fail> {
-    let alloc = rt.alloc();
-    let mut cache: CacheData<DoubleMemo> = CacheData::new(alloc);
-    for (number, at, output, how) in [
-        (4, 1, 8, How::Stored),
-        (4, 2, 8, How::Hit),
-        (5, 2, 10, How::Stored),
-        (4, 3, 8, How::Hit),
-    ] {
-        let context = Context {
-            location: at,
-            styles: 0,
-        };
-        let reply = double(
-            alloc,
-            &mut cache,
-            number,
-            &context.track(alloc),
-            &mut top(),
-            true,
-        )?;
-        expect(&rt, reply, output, how);
-    }
-    assert_eq!(rt; cache.len(), 2);
-    Ok(())
-}
-
-#[test]
 fn what_is_not_enabled_is_neither_looked_up_nor_stored(rt: HostRuntime) -> Result<(), Fail> {
     let alloc = rt.alloc();
-    let mut cache: CacheData<SumMemo> = CacheData::new(alloc);
+    let mut cache: CacheData<LocationMemo> = CacheData::new(alloc);
     let context = Context {
         location: 3,
         styles: 40,
@@ -110,64 +46,17 @@ fn what_is_not_enabled_is_neither_looked_up_nor_stored(rt: HostRuntime) -> Resul
         (false, How::Disabled, 1),
         (true, How::Hit, 1),
     ] {
-        let reply = sum(
+        let reply = location(
             alloc,
             &mut cache,
             &context.track(alloc),
             &mut top(),
             enabled,
         )?;
-        expect(&rt, reply, 43, how);
+        expect(&rt, reply, 3, how);
         assert_eq!(rt; cache.len(), len);
     }
     Ok(())
-}
-
-/// Whether a page of this text is shown as it is, in this way.
-fn is_shown(
-    alloc: Global,
-    cache: &mut CacheData<ShownMemo>,
-    name: &str,
-    text: &str,
-    how: How,
-) -> bool {
-    let Ok(text_of_page) = String::from_str(alloc, text) else {
-        return false;
-    };
-    let page = Page { text: text_of_page };
-    let Ok(name) = String::from_str(alloc, name) else {
-        return false;
-    };
-    match shown(
-        alloc,
-        cache,
-        name,
-        &page.track(alloc),
-        &mut Top::new(),
-        true,
-    ) {
-        Ok(reply) => reply.output.as_str() == text && reply.how == how,
-        Err(_) => false,
-    }
-}
-
-#[test]
-fn equal_texts_hit(rt: HostRuntime) {
-    let alloc = rt.alloc();
-    let mut cache: CacheData<ShownMemo> = CacheData::new(alloc);
-    let calls: &[(&str, &str, How)] = &[
-        ("first", "Hi", How::Stored),
-        ("first", "Hi", How::Hit),
-        ("second", "Hi", How::Stored),
-        ("first", "Hi!", How::Stored),
-        ("first", "Hi", How::Hit),
-        ("first", "Hi!", How::Hit),
-    ];
-    for (name, text, how) in calls {
-        let is_so = is_shown(alloc, &mut cache, *name, *text, *how);
-        assert!(rt; is_so, "for {name} {text}");
-    }
-    assert_eq!(rt; cache.len(), 3);
 }
 
 #[test]
@@ -187,38 +76,6 @@ fn what_a_call_asked_goes_to_its_sink(rt: HostRuntime) -> Result<(), Fail> {
         assert!(rt; !outer.emit(ContextCall::Location, Some(3))?);
         assert!(rt; outer.emit(ContextCall::Styles, Some(40))?);
     }
-    Ok(())
-}
-
-#[test]
-fn a_run_asks_no_more_than_it_needs(rt: HostRuntime) -> Result<(), Fail> {
-    let alloc = rt.alloc();
-    let mut cache: CacheData<FirstZeroMemo> = CacheData::new(alloc);
-    // A change behind the first 0 is not looked at; one before it is.
-    for (numbers, length, output, how) in [
-        ([5, 0, 7], 3, 1, How::Stored),
-        ([5, 0, 8], 3, 1, How::Hit),
-        ([5, 6, 0], 3, 2, How::Stored),
-        ([0, 6, 0], 3, 0, How::Stored),
-        ([5, 6, 0], 2, 2, How::Stored),
-        ([5, 6, 9], 2, 2, How::Hit),
-        ([5, 0, 1], 3, 1, How::Hit),
-        ([5, 6, 0], 3, 2, How::Hit),
-    ] {
-        let row = Row {
-            numbers: numbers.to_vec(alloc)?,
-        };
-        let reply = first_zero(
-            alloc,
-            &mut cache,
-            length,
-            &row.track(alloc),
-            &mut Top::new(),
-            true,
-        )?;
-        expect(&rt, reply, output, how);
-    }
-    assert_eq!(rt; cache.len(), 4);
     Ok(())
 }
 

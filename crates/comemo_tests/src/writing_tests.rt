@@ -7,22 +7,20 @@ use comemo::{
 };
 use comemo_samples::{Counter, CounterCall, Notebook, NotebookCall, Town, TownCall};
 use std::alloc::Global;
-use std::process::Abort;
 use std::test::Fail;
 
 /// Whether a recording has the one read of a notebook's owner, and these lines as its writes.
-fn expect_recorded<A: Abort>(
-    rt: &A,
+fn is_recorded(
     recording: Constraint<NotebookCall, u64>,
     owner: Option<u64>,
     lines: &[u64],
-) {
+) -> bool {
     let (mut reads, writes) = recording.into_parts();
-    assert_eq!(rt; reads.extract(&NotebookCall::Owner), owner);
-    assert_eq!(rt; writes.len(), lines.len());
+    let mut is_so = reads.extract(&NotebookCall::Owner) == owner && writes.len() == lines.len();
     for (write, line) in writes.as_slice().iter().zip(lines) {
-        assert_eq!(rt; *write, NotebookCall::Note(*line));
+        is_so = is_so && *write == NotebookCall::Note(*line);
     }
+    is_so
 }
 
 #[test]
@@ -36,7 +34,7 @@ fn a_write_is_done_and_recorded(rt: HostRuntime) -> Result<(), Fail> {
     view.write(NotebookCall::Note(6), &mut recording)?;
     assert_eq!(rt; book.lines(), [5, 6].as_slice());
     assert!(rt; recording.is_whole());
-    expect_recorded(&rt, recording, Some(7), [5, 6].as_slice());
+    assert!(rt; is_recorded(recording, Some(7), [5, 6].as_slice()));
     Ok(())
 }
 
@@ -50,7 +48,7 @@ fn a_refused_write_is_neither_done_nor_recorded(rt: HostRuntime) -> Result<(), F
     assert!(rt; view.write(NotebookCall::Note(6), &mut recording).is_err());
     assert_eq!(rt; book.lines(), [5].as_slice());
     assert!(rt; recording.is_whole());
-    expect_recorded(&rt, recording, None, [5].as_slice());
+    assert!(rt; is_recorded(recording, None, [5].as_slice()));
     Ok(())
 }
 
@@ -65,7 +63,7 @@ fn a_view_with_a_sink_sends_what_it_asks_and_writes(rt: HostRuntime) -> Result<(
     assert_eq!(rt; format!(in alloc; "{view:?}")?.as_str(), "TrackedMut(..)");
     drop(view);
     assert_eq!(rt; book.lines(), [5].as_slice());
-    expect_recorded(&rt, recording, Some(7), [5].as_slice());
+    assert!(rt; is_recorded(recording, Some(7), [5].as_slice()));
     Ok(())
 }
 
@@ -74,7 +72,7 @@ fn views_of_views_are_of_the_same_value(rt: HostRuntime) -> Result<(), Fail> {
     let alloc = rt.alloc();
     let mut book = Notebook::new(alloc, 7, 9);
     let mut view = book.track_mut(alloc);
-    let mut inner = TrackedMut::reborrow_mut(&mut view);
+    let mut inner = TrackedMut::reborrow_mut(&mut view, alloc);
     inner.write(NotebookCall::Note(5), &mut Top::new())?;
     drop(inner);
     view.write(NotebookCall::Note(6), &mut Top::new())?;
@@ -118,23 +116,44 @@ fn a_write_of_two_values_changes_its_own(rt: HostRuntime) -> Result<(), Fail> {
     Ok(())
 }
 
-/// Notes three numbers in a notebook, and sends it all to a sink.
-fn note<S: Sink<Call = NotebookCall, Answer = u64>>(
+/// Notes three numbers in a notebook, and sends it all to a recording.
+fn note(
     alloc: Global,
     cache: &mut CacheData<MemoOfMut<NotesThree>>,
     number: u64,
     book: &mut Notebook,
-    sink: &mut S,
+    recording: &mut Constraint<NotebookCall, u64>,
     enabled: bool,
 ) -> Result<Reply<u64>, Fault> {
-    memoized_mut(alloc, cache, &mut (), number, book, sink, enabled)
+    memoized_mut(alloc, cache, &mut (), number, book, recording, enabled)
+}
+
+/// Whether a number is noted so in a new notebook that has this owner and so much room: this became of the call, and
+/// these lines stand in it then and are recorded.
+fn is_noted(
+    alloc: Global,
+    cache: &mut CacheData<MemoOfMut<NotesThree>>,
+    number: u64,
+    (owner, room): (u64, usize),
+    how: Result<How, Fault>,
+    lines: &[u64],
+) -> bool {
+    let mut book = Notebook::new(alloc, owner, room);
+    let mut recording = Constraint::new(alloc);
+    let became = match note(alloc, cache, number, &mut book, &mut recording, true) {
+        Ok(reply) => reply.output == owner && how == Ok(reply.how),
+        Err(fault) => how == Err(fault),
+    };
+    let is_whole = recording.is_whole() == how.is_ok();
+    let is_written = book.lines() == lines;
+    became && is_whole && is_written && is_recorded(recording, Some(owner), lines)
 }
 
 #[test]
-fn a_hit_writes_again_in_order(rt: HostRuntime) -> Result<(), Fail> {
+fn a_hit_writes_again_in_order(rt: HostRuntime) {
     let alloc = rt.alloc();
     let mut cache = CacheData::new(alloc);
-    let calls = [
+    let calls: &[(u64, u64, How)] = &[
         (3, 7, How::Stored),
         (3, 7, How::Hit),
         (3, 8, How::Stored),
@@ -142,17 +161,18 @@ fn a_hit_writes_again_in_order(rt: HostRuntime) -> Result<(), Fail> {
         (3, 8, How::Hit),
     ];
     for (number, owner, how) in calls {
-        let mut book = Notebook::new(alloc, owner, 3);
-        let mut recording = Constraint::new(alloc);
-        let reply = note(alloc, &mut cache, number, &mut book, &mut recording, true)?;
-        assert_eq!(rt; (reply.output, reply.how), (owner, how));
-        let lines = [number, owner, number];
-        assert_eq!(rt; book.lines(), lines.as_slice());
-        assert!(rt; recording.is_whole());
-        expect_recorded(&rt, recording, Some(owner), lines.as_slice());
+        let lines = [*number, *owner, *number];
+        let is_so = is_noted(
+            alloc,
+            &mut cache,
+            *number,
+            (*owner, 3),
+            Ok(*how),
+            lines.as_slice(),
+        );
+        assert!(rt; is_so, "for {number} of {owner}");
     }
     assert_eq!(rt; cache.len(), 3);
-    Ok(())
 }
 
 #[test]
@@ -160,9 +180,10 @@ fn a_call_that_is_not_enabled_writes_and_keeps_nothing(rt: HostRuntime) -> Resul
     let alloc = rt.alloc();
     let mut cache = CacheData::new(alloc);
     let mut book = Notebook::new(alloc, 7, 9);
+    let mut recording = Constraint::new(alloc);
     for enabled in [false, true, false] {
         let how = if enabled { How::Stored } else { How::Disabled };
-        let reply = note(alloc, &mut cache, 3, &mut book, &mut Top::new(), enabled)?;
+        let reply = note(alloc, &mut cache, 3, &mut book, &mut recording, enabled)?;
         assert_eq!(rt; (reply.output, reply.how), (7, how));
     }
     assert_eq!(rt; book.lines(), [3, 7, 3, 3, 7, 3, 3, 7, 3].as_slice());
@@ -171,41 +192,41 @@ fn a_call_that_is_not_enabled_writes_and_keeps_nothing(rt: HostRuntime) -> Resul
 }
 
 #[test]
-fn a_hit_stops_at_a_refused_write(rt: HostRuntime) -> Result<(), Fail> {
+fn a_hit_stops_at_a_refused_write(rt: HostRuntime) {
     let alloc = rt.alloc();
     let mut cache = CacheData::new(alloc);
-    let mut ample = Notebook::new(alloc, 7, 6);
-    let first = note(alloc, &mut cache, 3, &mut ample, &mut Top::new(), true)?;
-    assert_eq!(rt; first.how, How::Stored);
-    for room in 0..3 {
-        let mut short = Notebook::new(alloc, 7, room);
-        let mut recording = Constraint::new(alloc);
-        let stopped = note(alloc, &mut cache, 3, &mut short, &mut recording, true);
-        assert!(rt; matches!(stopped, Err(Fault::Write)));
-        assert_eq!(rt; short.lines(), &[3, 7, 3][..room]);
-        assert!(rt; !recording.is_whole());
-        expect_recorded(&rt, recording, Some(7), &[3, 7, 3][..room]);
+    let calls: &[(&[u64], Result<How, Fault>)] = &[
+        (&[3, 7, 3], Ok(How::Stored)),
+        (&[], Err(Fault::Write)),
+        (&[3], Err(Fault::Write)),
+        (&[3, 7], Err(Fault::Write)),
+        (&[3, 7, 3], Ok(How::Hit)),
+    ];
+    for (lines, how) in calls {
+        let is_so = is_noted(alloc, &mut cache, 3, (7, lines.len()), *how, *lines);
+        assert!(rt; is_so, "for {lines:?}");
     }
-    let again = note(alloc, &mut cache, 3, &mut ample, &mut Top::new(), true)?;
-    assert_eq!(rt; (again.output, again.how), (7, How::Hit));
-    assert_eq!(rt; ample.lines(), [3, 7, 3, 3, 7, 3].as_slice());
-    Ok(())
+}
+
+/// Whether a run in a new notebook that has room for these lines alone is refused the next: they stand, and nothing is
+/// kept.
+fn is_refused(alloc: Global, cache: &mut CacheData<MemoOfMut<NotesThree>>, lines: &[u64]) -> bool {
+    let mut short = Notebook::new(alloc, 7, lines.len());
+    let mut recording = Constraint::new(alloc);
+    let refused = note(alloc, cache, 3, &mut short, &mut recording, true);
+    let is_written = short.lines() == lines;
+    matches!(refused, Err(Fault::Memory)) && is_written && !recording.is_whole() && cache.len() == 0
 }
 
 #[test]
-fn a_run_that_is_refused_a_write_keeps_nothing(rt: HostRuntime) -> Result<(), Fail> {
+fn a_run_that_is_refused_a_write_keeps_nothing(rt: HostRuntime) {
     let alloc = rt.alloc();
     let mut cache = CacheData::new(alloc);
-    for room in 0..3 {
-        let mut short = Notebook::new(alloc, 7, room);
-        let mut recording = Constraint::new(alloc);
-        let refused = note(alloc, &mut cache, 3, &mut short, &mut recording, true);
-        assert!(rt; matches!(refused, Err(Fault::Memory)));
-        assert_eq!(rt; short.lines(), &[3, 7, 3][..room]);
-        assert!(rt; !recording.is_whole());
-        assert_eq!(rt; cache.len(), 0);
+    let begun: &[&[u64]] = &[&[], &[3], &[3, 7]];
+    for lines in begun {
+        let is_so = is_refused(alloc, &mut cache, *lines);
+        assert!(rt; is_so, "for {lines:?}");
     }
-    Ok(())
 }
 
 #[test]
@@ -217,7 +238,7 @@ fn a_closure_writes_and_its_hit_writes_again(rt: HostRuntime) -> Result<(), Fail
         let reply = memoize(
             alloc,
             &mut cache,
-            counter.track_mut(alloc),
+            &mut counter.track_mut(alloc),
             &mut Top::new(),
             true,
             |view: &mut TrackedMut<'_, Counter>, recording: &mut Constraint<CounterCall, u64>| {

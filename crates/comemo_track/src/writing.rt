@@ -107,10 +107,11 @@ impl<'a, T: Track> TrackedMut<'a, T> {
     /// time.
     ///
     /// comemo's `TrackedMut::reborrow_mut`.
-    pub fn reborrow_mut(this: &mut Self) -> TrackedMut<'_, T>
+    pub fn reborrow_mut(this: &mut Self, alloc: Global) -> TrackedMut<'_, T>
         ensures* writes_back { sem 𝓛 (follows (the_row (record { mir = named 1; lft = [] }) T.row) T.row this.entry.ghost_name (place_of result).ghost_name (λ w. record this.old { value = record this.old.value { now = w } })) }
         ensures value { (place_of result).now ≡ (place_of this.old).now }
     {
+        let _ = alloc;
         TrackedMut {
             value: &mut *this.value,
         }

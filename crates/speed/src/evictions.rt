@@ -1,9 +1,7 @@
 //! How the workloads of evictions are done. Each fills a cache, and then reads the clock around one eviction.
 
-use crate::seen::Seen;
-use crate::stopwatch::Stopwatch;
+use crate::stopwatch::{Seen, Stopwatch};
 use crate::sums::{SumKey, SumMemo, sum};
-use crate::tree_runs::Layout;
 use comemo::{CacheData, Fault, Track};
 use comemo_samples::Cells;
 use std::alloc::Global;
@@ -11,6 +9,15 @@ use std::rt::Clock;
 
 /// Of how many cells the sums are.
 const CELLS: u32 = 16;
+
+/// How the entries of a cache lie.
+#[derive(Clone, Copy, Drop, Debug, PartialEq, Eq)]
+pub enum Layout {
+    /// Each under a key of its own, by so many calls.
+    Keys { calls: u32 },
+    /// All under one key, by the answers to one call.
+    OneKey,
+}
 
 /// What an eviction leaves.
 #[derive(Clone, Copy, Drop, Debug, PartialEq, Eq)]
@@ -41,19 +48,15 @@ fn call(
     cells: &mut Cells,
     layout: Layout,
     number: u64,
-) -> Result<(), Fault> {
-    let key = match layout {
-        Layout::Keys { calls } => SumKey {
-            start: number,
-            count: calls,
-        },
+) -> Result<u64, Fault> {
+    let (start, count) = match layout {
+        Layout::Keys { calls } => (number, calls),
         Layout::OneKey => {
             cells.set(0, number);
-            SumKey { start: 1, count: 1 }
+            (1, 1)
         }
     };
-    sum(alloc, cache, key, &cells.track(alloc))?;
-    Ok(())
+    sum(alloc, cache, SumKey { start, count }, &cells.track(alloc))
 }
 
 /// Evicts from a cache of so many sums. The sum is the number of those that are left.
@@ -64,7 +67,7 @@ pub fn evict<R: Clock>(
     left: Left,
     entries: u64,
 ) -> Result<Seen, Fault> {
-    let mut cells = Cells::new(alloc, CELLS).map_err(|_| Fault::Memory)?;
+    let mut cells = Cells::new(alloc, CELLS)?;
     let mut cache: CacheData<SumMemo> = CacheData::new(alloc);
     for number in 0..entries {
         call(alloc, &mut cache, &mut cells, layout, number)?;
@@ -72,19 +75,13 @@ pub fn evict<R: Clock>(
     if left == Left::Half {
         cache.evict(1);
         for number in 0..entries / 2 {
-            call(
-                alloc,
-                &mut cache,
-                &mut cells,
-                layout,
-                number.wrapping_mul(2),
-            )?;
+            let even = number.wrapping_mul(2);
+            call(alloc, &mut cache, &mut cells, layout, even)?;
         }
     }
     let watch = Stopwatch::start(rt);
     cache.evict(left.max_age());
-    Ok(Seen {
-        nanoseconds: watch.nanoseconds(rt),
-        sum: cache.len() as u64,
-    })
+    let nanoseconds = watch.nanoseconds(rt);
+    let sum = cache.len() as u64;
+    Ok(Seen { nanoseconds, sum })
 }

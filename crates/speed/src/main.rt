@@ -1,31 +1,24 @@
 //! The program `speed`: how long the library's operations take.
 //!
-//! With no word after its name it times all workloads; with `sums` it prints what they compute, without times; with
-//! `large` it does the large inputs of `calc` in full. It ends with status 0, with 1 where there was no memory or its
-//! output could not be written, and with 2 where it knows no such word.
+//! With no word after its name it times all workloads; with `sums` it prints what they compute, without times. It ends
+//! with status 0, with 1 where there was no memory or its output could not be written, and with 2 where it knows no such
+//! word.
 #![tactic(auto)]
 
-mod counting;
 mod evictions;
-mod hashing;
-mod inputs;
-mod lengths;
-mod player;
 mod report;
 mod runs;
-mod scatter;
-mod seen;
+mod scripts;
 mod sharing;
 mod stopwatch;
 mod sums;
-mod tree_runs;
-mod trees;
+mod texts;
 mod workload;
 
-use report::{Failure, write_large, write_sums, write_times};
+use report::{Failure, write_sums, write_times};
 use std::alloc::AllocError;
 use std::env::Env;
-use std::io::Write;
+use std::io::{ErrorKind, Write};
 use std::process::ExitCode;
 use std::{env, io};
 
@@ -36,22 +29,21 @@ enum Request {
     Times,
     /// Their sums alone.
     Sums,
-    /// The times of the large inputs of `calc`, in full.
-    Large,
     /// Nothing that it knows.
     Unknown,
 }
 
 /// What the words after the program's name ask for.
 fn request_of<R: Env + Alloc>(rt: &R) -> Result<Request, AllocError> {
-    let Ok(words) = env::args(rt) else {
-        return Ok(Request::Unknown);
+    let words = match env::args(rt) {
+        Ok(words) => words,
+        Err(error) if error.kind() == ErrorKind::OutOfMemory => return Err(AllocError),
+        Err(_) => return Ok(Request::Unknown),
     };
     let mut request = Request::Times;
     for word in words.skip(1) {
         request = match request {
             Request::Times if word.as_str() == "sums" => Request::Sums,
-            Request::Times if word.as_str() == "large" => Request::Large,
             _ => Request::Unknown,
         };
     }
@@ -65,9 +57,8 @@ fn main(rt: HostRuntime) -> ExitCode {
     let written = match request_of(&rt) {
         Ok(Request::Times) => write_times(&rt, alloc, &mut writer),
         Ok(Request::Sums) => write_sums(&rt, alloc, &mut writer),
-        Ok(Request::Large) => write_large(&rt, alloc, &mut writer),
         Ok(Request::Unknown) => {
-            let _ = errors.write_all(b"usage: speed [sums | large]\n");
+            let _ = errors.write_all(b"usage: speed [sums]\n");
             return ExitCode::from(2);
         }
         Err(_) => Err(Failure::Memory),

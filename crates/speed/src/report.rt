@@ -1,6 +1,5 @@
 //! The lines that are printed.
 
-use crate::inputs::INPUTS;
 use crate::runs::run;
 use crate::workload::{WORKLOADS, Workload};
 use comemo::Fault;
@@ -69,7 +68,7 @@ pub fn write_sums<R: Clock + Threads + Wait + Sync, W: Write>(
 ) -> Result<(), Failure> {
     for workload in WORKLOADS {
         let seen = run(rt, alloc, workload.brief(), workload.few())?;
-        write_line(alloc, writer, workload, &[], seen.sum)?;
+        write_line(alloc, writer, *workload, &[], seen.sum)?;
     }
     Ok(())
 }
@@ -86,10 +85,10 @@ pub fn write_times<R: Clock + Threads + Wait + Sync, W: Write>(
 ) -> Result<(), Failure> {
     for workload in WORKLOADS {
         let operations = workload.operations();
-        let mut sum = run(rt, alloc, workload, operations)?.sum;
+        let mut sum = run(rt, alloc, *workload, operations)?.sum;
         let mut times = Vec::new(alloc);
         for _ in 0..REPETITIONS {
-            let seen = run(rt, alloc, workload, operations)?;
+            let seen = run(rt, alloc, *workload, operations)?;
             sum = seen.sum;
             if let Some(nanoseconds) = seen.nanoseconds {
                 times
@@ -98,31 +97,7 @@ pub fn write_times<R: Clock + Threads + Wait + Sync, W: Write>(
             }
         }
         times.sort_unstable();
-        write_line(alloc, writer, workload, times.as_slice(), sum)?;
-    }
-    Ok(())
-}
-
-/// Writes the name, the time and the sum of each large input of `calc`: all its rounds, once, without repetition.
-///
-/// Each line is written as soon as its input was carried out, since some take minutes. The time is that of one round,
-/// in nanoseconds. A failure ends it; then the lines of the inputs before are written.
-pub fn write_large<R: Clock + Threads + Wait + Sync, W: Write>(
-    rt: &R,
-    alloc: Global,
-    writer: &mut W,
-) -> Result<(), Failure> {
-    for input in INPUTS {
-        let rounds = input.whole();
-        let workload = Workload::Calc { input };
-        let seen = run(rt, alloc, workload, rounds)?;
-        match seen.nanoseconds {
-            Some(nanoseconds) => {
-                let each = Each::of(nanoseconds, rounds);
-                write_line(alloc, writer, workload, &[each], seen.sum)?;
-            }
-            None => write_line(alloc, writer, workload, &[], seen.sum)?,
-        }
+        write_line(alloc, writer, *workload, times.as_slice(), sum)?;
     }
     Ok(())
 }
@@ -137,7 +112,6 @@ fn write_line<W: Write>(
 ) -> Result<(), Failure> {
     let name = workload.name(alloc)?;
     let line = match times {
-        [only] => format!(in alloc; "{name:<34} {only:>12} ns {sum:016x}\n")?,
         [least, .., greatest] => {
             let median = times[times.len() / 2];
             format!(in alloc; "{name:<34} {median:>12} ns ({least} .. {greatest}) {sum:016x}\n")?

@@ -1,7 +1,6 @@
 //! How the workloads of threads are done: each thread has a view and a share of one cache all the while.
 
-use crate::seen::Seen;
-use crate::stopwatch::Stopwatch;
+use crate::stopwatch::{Seen, Stopwatch};
 use crate::sums::{SumKey, SumMemo, sum};
 use comemo::{Cache, Fault, Track};
 use comemo_samples::Cells;
@@ -20,14 +19,24 @@ const CELLS: u32 = 16;
 #[derive(Clone, Copy, Drop, Debug, PartialEq, Eq)]
 pub struct Share {
     /// Of how many cells each sum is.
-    pub count: u32,
+    count: u32,
     /// How many each thread takes.
-    pub each: u64,
+    each: u64,
     /// Whether each tenth sum is under a new key.
-    pub misses: bool,
+    misses: bool,
 }
 
 impl Share {
+    /// The share of each of so many threads that take so many sums together.
+    pub fn of(threads: u32, count: u32, sums: u64, misses: bool) -> Share {
+        let each = sums / u64::from(threads.max(1));
+        Share {
+            count,
+            each,
+            misses,
+        }
+    }
+
     /// What a thread's sum at this step begins with: one of the keys by turns, or a number that no other sum begins with.
     fn start(self, thread: u64, step: u64) -> u64 {
         if self.misses && step % 10 == 9 {
@@ -50,13 +59,11 @@ fn add_up<R: Wait>(
 ) -> Result<u64, Fault> {
     let view = cells.track(alloc);
     let held = &mut cache.hold(rt);
+    let count = share.count;
     let mut all: u64 = 0;
     for step in 0..share.each {
-        let key = SumKey {
-            start: share.start(thread, step),
-            count: share.count,
-        };
-        all = all.wrapping_add(sum(alloc, held, key, &view)?);
+        let start = share.start(thread, step);
+        all = all.wrapping_add(sum(alloc, held, SumKey { start, count }, &view)?);
     }
     Ok(all)
 }
@@ -65,32 +72,27 @@ fn add_up<R: Wait>(
 pub fn take_sums<R: Clock + Threads + Wait + Sync>(
     rt: &R,
     alloc: Global,
-    threads: usize,
+    threads: u32,
     share: Share,
 ) -> Result<Seen, Fault> {
-    let cells = Cells::new(alloc, CELLS).map_err(|_| Fault::Memory)?;
+    let cells = Cells::new(alloc, CELLS)?;
     let cache: Cache<SumMemo> = Cache::new(alloc);
+    let count = share.count;
     for start in 0..KEYS {
-        let key = SumKey {
-            start,
-            count: share.count,
-        };
+        let key = SumKey { start, count };
         sum(alloc, &mut cache.hold(rt), key, &cells.track(alloc))?;
     }
     let watch = Stopwatch::start(rt);
     let taken = map_indices(
         rt,
         alloc,
-        threads,
+        threads as usize,
         &|thread| { add_up(rt, alloc, &cache, &cells, share, thread as u64) },
     );
     let nanoseconds = watch.nanoseconds(rt);
-    let mut all: u64 = 0;
-    for sum in taken.map_err(|_| Fault::Memory)? {
-        all = all.wrapping_add(sum?);
+    let mut sum: u64 = 0;
+    for part in taken? {
+        sum = sum.wrapping_add(part?);
     }
-    Ok(Seen {
-        nanoseconds,
-        sum: all,
-    })
+    Ok(Seen { nanoseconds, sum })
 }

@@ -1,83 +1,41 @@
 //! The workloads: what each is called, and how often it is done.
 
-use crate::evictions::Left;
-use crate::inputs::Input;
-use crate::tree_runs::Layout;
+use crate::evictions::{Layout, Left};
 use std::alloc::{AllocError, Global};
 
 /// A kind of work, whose operations are timed.
 #[derive(Clone, Copy, Drop, Debug, PartialEq, Eq)]
 pub enum Workload {
-    /// SipHash over so many bytes.
-    Sip {
-        bytes: usize,
-    },
     /// A kept sum of so many cells, by one view for all.
-    HitSameView {
-        calls: u32,
-    },
+    HitSameView { calls: u32 },
     /// A kept sum of so many cells, by a view of its own each.
-    HitNewView {
-        calls: u32,
-    },
+    HitNewView { calls: u32 },
     /// Sums of so many cells, each under a key of its own, into a cache that is empty at first.
-    MissNewKeys {
-        calls: u32,
-    },
+    MissNewKeys { calls: u32 },
     /// Sums of ten cells under one key, of which the last cell differs each time.
     MissLastDiffers,
     /// Kept sums of one cell, among so many under one key.
-    HitAmong {
-        entries: u64,
-    },
+    HitAmong { entries: u64 },
     /// Kept sums of one cell, each under a key of its own, among so many.
-    HitAmongKeys {
-        keys: u64,
-    },
-    /// A kept run of so many levels, each of which wrote once.
-    HitWrites {
-        levels: u32,
-    },
-    /// Runs of so many levels, each of which writes once, each under a key of its own.
-    MissWrites {
-        levels: u32,
-    },
-    /// Sums of so many cells by so many threads through one cache, all kept, or nine of ten.
-    Shared {
-        threads: u32,
-        calls: u32,
-        misses: bool,
-    },
-    /// A retention by the call tree alone, of entries that lie so. It keeps all of them, or drops all.
-    Retain {
-        layout: Layout,
-        keeps: bool,
-    },
+    HitAmongKeys { keys: u64 },
+    /// Kept sums of so many cells, by so many threads through one cache.
+    HitShared { by: u32, calls: u32 },
+    /// Sums of one cell by so many threads through one cache, of which each tenth is a miss.
+    MixShared { by: u32 },
     /// An eviction from a cache whose entries lie so, which leaves so many.
-    Evict {
-        layout: Layout,
-        left: Left,
-    },
-    /// Different answers to one call, which come in a scattered order to the call tree alone.
-    InsertScattered,
+    Evict(Layout, Left),
     /// The kept length of a text, under the text.
     TextItself,
     /// The kept length of a text, under its number, which is computed each time.
     TextByNumber,
     /// The kept length of a text, under the number that it keeps.
     TextByKeptNumber,
-    /// A large input of the program `calc`, whose rounds are the operations.
-    Calc {
-        input: Input,
-    },
+    /// Different scripts of the program `calc`.
+    ManyScripts,
 }
 
 /// All workloads, in the order in which they are done.
-pub const WORKLOADS: [Workload; 59] = [
-    Workload::Sip { bytes: 16 },
-    Workload::Sip { bytes: 64 },
-    Workload::Sip { bytes: 1024 },
-    Workload::Sip { bytes: 1_048_576 },
+pub const WORKLOADS: &[Workload] = &[
     Workload::HitSameView { calls: 0 },
     Workload::HitNewView { calls: 0 },
     Workload::HitSameView { calls: 1 },
@@ -95,131 +53,28 @@ pub const WORKLOADS: [Workload; 59] = [
     Workload::HitAmong { entries: 1000 },
     Workload::HitAmong { entries: 100_000 },
     Workload::HitAmongKeys { keys: 100_000 },
-    Workload::HitWrites { levels: 1 },
-    Workload::HitWrites { levels: 3 },
-    Workload::HitWrites { levels: 10 },
-    Workload::MissWrites { levels: 1 },
-    Workload::MissWrites { levels: 3 },
-    Workload::Shared {
-        threads: 1,
-        calls: 0,
-        misses: false,
-    },
-    Workload::Shared {
-        threads: 2,
-        calls: 0,
-        misses: false,
-    },
-    Workload::Shared {
-        threads: 4,
-        calls: 0,
-        misses: false,
-    },
-    Workload::Shared {
-        threads: 1,
-        calls: 1,
-        misses: false,
-    },
-    Workload::Shared {
-        threads: 2,
-        calls: 1,
-        misses: false,
-    },
-    Workload::Shared {
-        threads: 4,
-        calls: 1,
-        misses: false,
-    },
-    Workload::Shared {
-        threads: 1,
-        calls: 10,
-        misses: false,
-    },
-    Workload::Shared {
-        threads: 2,
-        calls: 10,
-        misses: false,
-    },
-    Workload::Shared {
-        threads: 4,
-        calls: 10,
-        misses: false,
-    },
-    Workload::Shared {
-        threads: 1,
-        calls: 1,
-        misses: true,
-    },
-    Workload::Shared {
-        threads: 4,
-        calls: 1,
-        misses: true,
-    },
-    Workload::Retain {
-        layout: Layout::Keys { calls: 1 },
-        keeps: true,
-    },
-    Workload::Retain {
-        layout: Layout::Keys { calls: 1 },
-        keeps: false,
-    },
-    Workload::Retain {
-        layout: Layout::Keys { calls: 10 },
-        keeps: true,
-    },
-    Workload::Retain {
-        layout: Layout::Keys { calls: 10 },
-        keeps: false,
-    },
-    Workload::Retain {
-        layout: Layout::OneKey,
-        keeps: true,
-    },
-    Workload::Retain {
-        layout: Layout::OneKey,
-        keeps: false,
-    },
-    Workload::Evict {
-        layout: Layout::Keys { calls: 1 },
-        left: Left::All,
-    },
-    Workload::Evict {
-        layout: Layout::Keys { calls: 1 },
-        left: Left::Half,
-    },
-    Workload::Evict {
-        layout: Layout::Keys { calls: 1 },
-        left: Left::Nothing,
-    },
-    Workload::Evict {
-        layout: Layout::Keys { calls: 10 },
-        left: Left::All,
-    },
-    Workload::Evict {
-        layout: Layout::Keys { calls: 10 },
-        left: Left::Nothing,
-    },
-    Workload::Evict {
-        layout: Layout::OneKey,
-        left: Left::All,
-    },
-    Workload::Evict {
-        layout: Layout::OneKey,
-        left: Left::Nothing,
-    },
-    Workload::InsertScattered,
+    Workload::HitShared { by: 1, calls: 0 },
+    Workload::HitShared { by: 2, calls: 0 },
+    Workload::HitShared { by: 4, calls: 0 },
+    Workload::HitShared { by: 1, calls: 1 },
+    Workload::HitShared { by: 2, calls: 1 },
+    Workload::HitShared { by: 4, calls: 1 },
+    Workload::HitShared { by: 1, calls: 10 },
+    Workload::HitShared { by: 2, calls: 10 },
+    Workload::HitShared { by: 4, calls: 10 },
+    Workload::MixShared { by: 1 },
+    Workload::MixShared { by: 4 },
+    Workload::Evict(Layout::Keys { calls: 1 }, Left::All),
+    Workload::Evict(Layout::Keys { calls: 1 }, Left::Half),
+    Workload::Evict(Layout::Keys { calls: 1 }, Left::Nothing),
+    Workload::Evict(Layout::Keys { calls: 10 }, Left::All),
+    Workload::Evict(Layout::Keys { calls: 10 }, Left::Nothing),
+    Workload::Evict(Layout::OneKey, Left::All),
+    Workload::Evict(Layout::OneKey, Left::Nothing),
     Workload::TextItself,
     Workload::TextByNumber,
     Workload::TextByKeptNumber,
-    Workload::Calc {
-        input: Input::Diamond,
-    },
-    Workload::Calc { input: Input::Deep },
-    Workload::Calc { input: Input::Wide },
-    Workload::Calc {
-        input: Input::Project,
-    },
-    Workload::Calc { input: Input::Many },
+    Workload::ManyScripts,
 ];
 
 /// Among how many entries hits are done where the sum alone is wanted.
@@ -229,7 +84,6 @@ impl Workload {
     /// What it is called, as its line says. An error says that there was no memory for the text.
     pub fn name(self, alloc: Global) -> Result<String, AllocError> {
         match self {
-            Workload::Sip { bytes } => sip_name(alloc, bytes),
             Workload::HitSameView { calls } => format!(in alloc; "hit {calls} calls, same view"),
             Workload::HitNewView { calls } => format!(in alloc; "hit {calls} calls, new view each"),
             Workload::MissNewKeys { calls } => format!(in alloc; "miss {calls} calls, new keys"),
@@ -238,54 +92,40 @@ impl Workload {
                 format!(in alloc; "hit among {entries} under one key")
             }
             Workload::HitAmongKeys { keys } => format!(in alloc; "hit among {keys} keys"),
-            Workload::HitWrites { levels } => format!(in alloc; "hit {levels} levels that write"),
-            Workload::MissWrites { levels } => {
-                format!(in alloc; "miss {levels} levels that write")
+            Workload::HitShared { by, calls } => {
+                format!(in alloc; "hit {calls} calls, {by} threads")
             }
-            Workload::Shared {
-                threads,
-                calls,
-                misses,
-            } => shared_name(alloc, threads, calls, misses),
-            Workload::Retain { layout, keeps } => retain_name(alloc, layout, keeps),
-            Workload::Evict { layout, left } => evict_name(alloc, layout, left),
-            Workload::InsertScattered => String::from_str(alloc, "tree insert, scattered answers"),
+            Workload::MixShared { by } => format!(in alloc; "mix 1 calls, {by} threads"),
+            Workload::Evict(layout, left) => evict_name(alloc, layout, left),
             Workload::TextItself => String::from_str(alloc, "text 1 MiB as a key, kept itself"),
             Workload::TextByNumber => String::from_str(alloc, "text 1 MiB by its number"),
             Workload::TextByKeptNumber => String::from_str(alloc, "text 1 MiB by a number kept"),
-            Workload::Calc { input } => format!(in alloc; "calc, {}", input.name()),
+            Workload::ManyScripts => String::from_str(alloc, "calc, many"),
         }
     }
 
     /// How many operations a timed repetition does.
     pub fn operations(self) -> u64 {
         match self {
-            Workload::Sip { bytes: 0..=16 } => 2_000_000,
-            Workload::Sip { bytes: 17..=64 } => 1_000_000,
-            Workload::Sip { bytes: 65..=1024 } => 100_000,
-            Workload::Sip { .. } => 50,
             Workload::HitSameView { calls } | Workload::HitNewView { calls } => match calls {
                 0 => 600_000,
                 1 => 500_000,
                 2..=10 => 150_000,
                 _ => 20_000,
             },
-            Workload::MissNewKeys { calls: 0..=10 }
-            | Workload::MissLastDiffers
-            | Workload::MissWrites { .. } => 10_000,
+            Workload::MissNewKeys { calls: 0..=10 } | Workload::MissLastDiffers => 10_000,
             Workload::MissNewKeys { .. } => 2_000,
             Workload::HitAmong { .. } | Workload::HitAmongKeys { .. } => 400_000,
-            Workload::HitWrites { levels: 0..=3 } => 300_000,
-            Workload::HitWrites { .. } => 150_000,
-            Workload::Shared {
-                threads,
-                calls,
-                misses,
-            } => u64::from(threads).saturating_mul(shared_by_each(calls, misses)),
-            Workload::Retain { .. } | Workload::Evict { .. } | Workload::InsertScattered => 100_000,
+            Workload::HitShared { by, calls } => match calls {
+                0 => u64::from(by) * 500_000,
+                1 => u64::from(by) * 333_333,
+                _ => u64::from(by) * 83_333,
+            },
+            Workload::MixShared { by } => u64::from(by) * 30_000,
+            Workload::Evict(..) => 100_000,
             Workload::TextItself | Workload::TextByNumber => 20,
             Workload::TextByKeptNumber => 500_000,
-            Workload::Calc { input } => input.moderate(),
+            Workload::ManyScripts => 400_000,
         }
     }
 
@@ -306,52 +146,10 @@ impl Workload {
     /// How many operations are done where the sum alone is wanted.
     pub fn few(self) -> u64 {
         match self {
-            Workload::Sip { bytes: 0..=64 } => 100,
-            Workload::Sip { bytes: 65..=1024 } => 10,
-            Workload::Sip { .. } | Workload::TextItself | Workload::TextByNumber => 2,
-            Workload::Calc { input } => input.few(),
+            Workload::TextItself | Workload::TextByNumber => 2,
+            Workload::ManyScripts => 100,
             _ => 10,
         }
-    }
-}
-
-/// What hashing so many bytes is called.
-fn sip_name(alloc: Global, bytes: usize) -> Result<String, AllocError> {
-    let kibibytes = bytes / 1024;
-    match kibibytes {
-        0 => format!(in alloc; "sip {bytes} B"),
-        1..=1023 => format!(in alloc; "sip {kibibytes} KiB"),
-        _ => format!(in alloc; "sip {} MiB", kibibytes / 1024),
-    }
-}
-
-/// How many sums each thread of a timed repetition takes.
-fn shared_by_each(calls: u32, misses: bool) -> u64 {
-    match calls {
-        _ if misses => 30_000,
-        0 => 500_000,
-        1 => 333_333,
-        _ => 83_333,
-    }
-}
-
-/// What sums of several threads are called.
-fn shared_name(
-    alloc: Global,
-    threads: u32,
-    calls: u32,
-    misses: bool,
-) -> Result<String, AllocError> {
-    let does = if misses { "mix" } else { "hit" };
-    format!(in alloc; "{does} {calls} calls, {threads} threads")
-}
-
-/// What a retention by the call tree is called.
-fn retain_name(alloc: Global, layout: Layout, keeps: bool) -> Result<String, AllocError> {
-    let does = if keeps { "keeps" } else { "drops" };
-    match layout {
-        Layout::Keys { calls } => format!(in alloc; "tree {does} all, {calls} calls, keys"),
-        Layout::OneKey => format!(in alloc; "tree {does} all, 1 calls, one key"),
     }
 }
 

@@ -40,5 +40,11 @@ returns g c =
     let upto25 = next _ _ _ _ c.row-26.ensures.held c.row-26.ensures.earlier c.row-26.ensures.failed (25, omega arith, refl) upto24 in
     let upto26 = next _ _ _ _ c.row-27.ensures.held c.row-27.ensures.earlier c.row-27.ensures.failed (26, omega arith, refl) upto25 in
     let upto27 = next _ _ _ _ c.row-28.ensures.held c.row-28.ensures.earlier c.row-28.ensures.failed (27, omega arith, refl) upto26 in
-    let upto28 = next _ _ _ _ c.row-29.ensures.held c.row-29.ensures.earlier c.row-29.ensures.failed (27, omega arith, refl) upto27 in
-    upto28
+    let upto28 = next _ _ _ _ c.row-29.ensures.held c.row-29.ensures.earlier c.row-29.ensures.failed (28, omega arith, refl) upto27 in
+    let upto29 = next _ _ _ _ c.row-30.ensures.held c.row-30.ensures.earlier c.row-30.ensures.failed (28, omega arith, refl) upto28 in
+    let upto30 = next _ _ _ _ c.row-31.ensures.held c.row-31.ensures.earlier c.row-31.ensures.failed (28, omega arith, refl) upto29 in
+    let upto31 = next _ _ _ _ c.row-32.ensures.held c.row-32.ensures.earlier c.row-32.ensures.failed (28, omega arith, refl) upto30 in
+    let upto32 = next _ _ _ _ c.row-33.ensures.held c.row-33.ensures.earlier c.row-33.ensures.failed (28, omega arith, refl) upto31 in
+    let upto33 = next _ _ _ _ c.row-34.ensures.held c.row-34.ensures.earlier c.row-34.ensures.failed (29, omega arith, refl) upto32 in
+    let upto34 = next _ _ _ _ c.row-35.ensures.held c.row-35.ensures.earlier c.row-35.ensures.failed (29, omega arith, refl) upto33 in
+    upto34

@@ -1,5 +1,5 @@
-use Rattle.std.proofs.Common.{[], subst}
-use Rattle.comemo.proofs.Calls.{reply_by_hit, reply_by_own_run, broke_at_begin, on_fault, never_stops}
+use Rattle.std.proofs.Common.{[], inl, subst}
+use Rattle.comemo.proofs.Calls.{reply_by_hit, reply_by_own_run, broke_at_begin, on_fault, for_memory, never_stops}
 use Rattle.comemo_cache.proofs.Sendings.{mapped}
 use Rattle.comemo_cache.proofs.Holding.{some_held, some_led, of_led, stayed, led_by, led_from}
 use Rattle.comemo.proofs.function.memoized.Goals as goal
@@ -36,3 +36,13 @@ pub returns-clause-err : goal.returns-clause-err
 returns-clause-err g c =
     let err = (rw c.in-Err.is at c.look_up.ensures.err) in
     (on_fault c.in-Err.fault err (λ memory. (memory.0, rw (← c.fork.ensures) (broke_at_begin (some_held (g.H.Hold.entries c.args.cache.now) _ memory.2).1))) (λ write. absurd (never_stops (g.met.T.Track.alike c.fork.result) (λ output writes d. g.met.M.FunctionOf.reads c.args.key (g.T.Track.answers c.fork.result) output writes d) (some_led (g.H.Hold.entries c.args.cache.now) (g.H.Hold.entries c.look_up.new.cache) _ write).2.1)))
+
+pub returns-in-Ok-Run-clause-fault : goal.returns-in-Ok-Run-clause-fault
+returns-in-Ok-Run-clause-fault g c =
+    let run = rw (c.in-Ok-Run.is, c.in-Ok-Run.field-0-is) at c.look_up.ensures.run in
+    rw run.2 at c.run_kept.ensures.fault
+
+pub returns-clause-fault : goal.returns-clause-fault
+returns-clause-fault g c =
+    let err = (rw c.in-Err.is at c.look_up.ensures.err) in
+    inl (for_memory c.in-Err.fault _ err (λ write. never_stops (g.met.T.Track.alike c.fork.result) (λ output writes d. g.met.M.FunctionOf.reads c.args.key (g.T.Track.answers c.fork.result) output writes d) (some_led (g.H.Hold.entries c.args.cache.now) (g.H.Hold.entries c.look_up.new.cache) _ write).2.1))

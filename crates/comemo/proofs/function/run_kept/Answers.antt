@@ -5,6 +5,7 @@ use Rattle.comemo_cache.proofs.Sendings.{breaks_at_once}
 use Rattle.comemo.proofs.Calls.{broke_by_run, finished_itself, finished_early}
 use Rattle.comemo.proofs.Settled.{settled_end}
 use Rattle.comemo_cache.proofs.Sendings.{mapped}
+use Rattle.comemo.proofs.Closures.{fault_of_end}
 use Rattle.comemo_cache.proofs.Holding.{leads_map}
 use Rattle.comemo.proofs.function.run_kept.Goals as goal
 
@@ -37,3 +38,6 @@ returns-clause-err g c =
     (λ w. subst (λ v. Agrees g.T.Answer.PartialEq.eq (g.T.Track.answers v) c.recorder.inside.recording.pairs) view (c.recorder.invariant.agrees w))
     (λ w. breaks_at_once g.met.S.Sink.starts _ _ [] (c.end.ensures.spoils w))
     _ c.end.result c.end.ensures.err
+
+pub returns-clause-fault : goal.returns-clause-fault
+returns-clause-fault g c = fault_of_end _ _ c.run-ran.result c.end.result c.end.ensures.incomplete c.end.ensures.write c.end.ensures.fault c.end.ensures.spoils

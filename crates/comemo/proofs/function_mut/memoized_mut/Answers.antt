@@ -2,13 +2,14 @@ use Rattle.std.proofs.Common.{rules, ◌≡◌, ◌∙◌, true, false, refl, []
 use Rattle.std.proofs.lemmas.Bool.{cases_Bool}
 use Rattle.comemo_base.specs.Answers.{Agrees}
 use Rattle.comemo_track.specs.Writing.{Done}
-use Rattle.comemo.proofs.Calls.{run_seen, reply_by_done_hit, reply_by_done_run, stopped_as, on_fault}
+use Rattle.comemo_cache.proofs.Sendings.{breaks_at_once}
+use Rattle.comemo.proofs.Calls.{run_seen, reply_by_done_hit, reply_by_done_run, stopped_as, on_fault, on_fault_is}
 use Rattle.comemo.proofs.RecordersMut.{done_at, spoiled_any}
 use Rattle.comemo_cache.specs.Meaning.{IsRunOf}
 use Rattle.comemo_cache.proofs.Named.{named_moved}
 use Rattle.comemo.proofs.Settled.{settled_end}
 use Rattle.comemo_cache.proofs.Sendings.{mapped}
-use Rattle.comemo.proofs.Closures.{mapped_by, mapped_err}
+use Rattle.comemo.proofs.Closures.{mapped_by, mapped_err, err_with, fault_of_end}
 use Rattle.comemo_cache.proofs.Holding.{some_held, some_led, of_led, stayed, led_by, led_from, leads_same, leads_map}
 use Rattle.comemo.proofs.function_mut.memoized_mut.Goals as goal
 
@@ -91,3 +92,15 @@ returns-in-Ok-Run-clause-early g c =
     mapped (λ reply done none late.
     let fin = (some_led (g.H.Hold.entries c.begin-begun.new.cache) (g.H.Hold.entries c.end.new.cache) _ done.2).2 in
     spoiled_any _ (c.run_recorded-ran.ensures.early none fin.whole) (fin.late.0 late)) c.end.result c.end.ensures.finished
+
+pub returns-in-Ok-Run-clause-fault : goal.returns-in-Ok-Run-clause-fault
+returns-in-Ok-Run-clause-fault g c =
+    let run = rw (c.in-Ok-Run.is, c.in-Ok-Run.field-0-is) at c.begin-begun.ensures.run in
+    err_with (λ f e which. leads_same (g.H.Hold.entries c.args.cache.now) (g.H.Hold.entries c.end.new.cache) [] _ e.0 (λ es. inl (refl, which))) c.end.result (rw (stayed (g.H.Hold.entries c.args.cache.now) (g.H.Hold.entries c.begin-begun.new.cache) run.3) at c.end.ensures.err) (rw run.2 at (fault_of_end _ _ c.run_recorded-ran.result.0 c.end.result c.end.ensures.incomplete c.end.ensures.write c.end.ensures.fault c.end.ensures.spoils))
+
+pub returns-clause-fault : goal.returns-clause-fault
+returns-clause-fault g c =
+    let err = (rw c.in-Err.is at c.begin-begun.ensures.err) in
+    (on_fault_is c.in-Err.fault err
+    (λ e memory. leads_same (g.H.Hold.entries c.args.cache.now) (g.H.Hold.entries c.begin-begun.new.cache) [] _ memory.0 (λ es. inl (refl, inl e)))
+    (λ e stop. leads_map (g.H.Hold.entries c.args.cache.now) (g.H.Hold.entries c.begin-begun.new.cache) _ _ (λ es es' s. inr (e, (s.0, stopped_as s.1 (search (rules, s.1.are_done.0))))) stop))

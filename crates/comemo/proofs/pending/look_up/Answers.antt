@@ -1,3 +1,4 @@
+use Rattle.std.specs.List.{All}
 use Rattle.std.proofs.Common.{◌≡◌, ◌∙◌, [], inl, inr, true, false, refl, sym, subst}
 use Rattle.comemo_base.proofs.Paths.{turned}
 use Rattle.comemo_cache.specs.Meaning.{Meaning, run, invocation}
@@ -32,6 +33,8 @@ returns-in-Ok-Some-clause-hit g c =
         kept = Has-alike M g.met.M.Key.Eq.laws es c.in-Ok.key _ alike m true true ran k.0;
         agrees = agrees;
         stands = λ n r a. g.met.M.Memo.laws.keys c.in-Ok.key _ n c.in-Ok-Some.found.output c.in-Ok-Some.found.writes.items r alike (stands n r a);
+        reads = rw (c.in-Ok-Some.is, c.in-Ok-Some.field-0-is) at c.look.ensures.reads;
+        written = rw (c.in-Ok-Some.is, c.in-Ok-Some.field-0-is) at c.look.ensures.written;
         are_done = g.met.In.Input.joins _ _ _ [] c.in-Ok-Some.found.writes.items c.look.ensures.same c.in_ok-output-in-Ok-Some.ensures.done;
         are_sent = c.in_ok-output-in-Ok-Some.ensures.sent;
         right = g.met.M.Memo.laws.keys c.in-Ok.key _ m c.in-Ok-Some.found.output c.in-Ok-Some.found.writes.items respects alike (stands m respects agrees);
@@ -110,6 +113,8 @@ returns-in_err-output-in-Ok-Some-clause-err g c =
         kept = subst (λ ws. Has M es (invocation key m c.args.enabled) (run key pairs output ws)) stop.3 (Has-alike M g.met.M.Key.Eq.laws es c.in-Ok.key key alike m true c.args.enabled ran k.0);
         agrees = Agrees-found M g.met.M.Call.Eq.laws g.met.M.Answer.Eq.laws m respects ran _ k.0;
         stands = subst (λ ws. Stands M (run key pairs output ws)) stop.3 right;
+        reads = rw (c.in-Ok-Some.is, c.in-Ok-Some.field-0-is) at c.look.ensures.reads;
+        written = subst (λ ws. All (λ call. M.is_write call ≡ true) ws) stop.3 (rw (c.in-Ok-Some.is, c.in-Ok-Some.field-0-is) at c.look.ensures.written);
         are_done = g.met.In.Input.joins _ _ _ [] stop.0 same stop.4;
         is_spoiled = stop.5;
       },

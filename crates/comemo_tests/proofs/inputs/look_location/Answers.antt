@@ -1,7 +1,7 @@
 use Rattle.std.proofs.Common.{rules}
 use Rattle.comemo.proofs.Paths.{Agrees-same, IsSamePath-turned}
 use Rattle.comemo_tests.proofs.Contexts.{same_calls}
-use Rattle.comemo_tests.proofs.Places.{same_numbers}
+use Rattle.comemo_tests.proofs.Numbers.{same_numbers}
 use Rattle.comemo_tests.proofs.inputs.look_location.Goals as goal
 
 pub returns : goal.returns

@@ -5,7 +5,7 @@ use Rattle.comemo.proofs.Recorders.{stays_early}
 use Rattle.comemo_samples.specs.Contexts.{field}
 use Rattle.comemo_tests.proofs.Contexts.{same_calls, respects_field}
 use Rattle.comemo_tests.proofs.Failing.{given_up, on_reply, on_err}
-use Rattle.comemo_tests.proofs.Places.{same_numbers}
+use Rattle.comemo_tests.proofs.Numbers.{same_numbers}
 use Rattle.comemo_tests.proofs.nested.twice.Goals as goal
 
 pub returns-in-Hit-clause-output : goal.returns-in-Hit-clause-output

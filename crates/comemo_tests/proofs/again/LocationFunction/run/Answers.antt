@@ -1,5 +1,5 @@
 use Rattle.comemo_tests.proofs.Failing.{on_reply}
-use Rattle.comemo_tests.proofs.Places.{same_number}
+use Rattle.comemo_tests.proofs.Numbers.{same_number}
 use Rattle.comemo_tests.proofs.again.LocationFunction.run.Goals as goal
 
 pub returns-clause-right : goal.returns-clause-right

@@ -1,0 +1,76 @@
+//! Rows of keys and answers that are kept themselves, and not by their hashes.
+
+use crate::broken::Broken;
+use crate::calls::{call, gives};
+use calc_commands::{Answer, Command};
+use calc_sessions::session;
+use comemo::{CacheData, How, MemoOf};
+use comemo_guide::numbers::{DoubleFlat, Flat};
+use std::alloc::{AllocError, Global};
+
+/// Whether keys that all have one hash are kept apart.
+pub(crate) fn keys_of_one_hash_are_kept_apart(alloc: Global) -> Result<bool, Broken> {
+    let mut cache: CacheData<MemoOf<DoubleFlat>> = CacheData::new(alloc);
+    let two = gives(call(alloc, &mut cache, Flat(2), &())?, 4, How::Stored);
+    let three = gives(call(alloc, &mut cache, Flat(3), &())?, 6, How::Stored);
+    Ok(two && three)
+}
+
+/// The commands for which these lines ask, up to the first that asks for nothing.
+fn commands(alloc: Global, lines: &[&str]) -> Result<Vec<Command>, AllocError> {
+    let mut commands = Vec::new(alloc);
+    for line in lines {
+        let Some(command) = Command::parse(alloc, *line)? else {
+            return Ok(commands);
+        };
+        commands.push(command)?;
+    }
+    Ok(commands)
+}
+
+/// Whether a new session answers so to these lines.
+fn answers(alloc: Global, lines: &[&str], wanted: &[Answer]) -> Result<bool, Broken> {
+    let commands = commands(alloc, lines)?;
+    let answered = session(alloc, commands.as_slice())?;
+    Ok(answered.as_slice() == wanted)
+}
+
+/// What is answered where a script has this number, and the run is in the cache afterwards.
+fn kept(hit: bool, number: i32) -> Answer {
+    Answer::Value {
+        hit,
+        kept: true,
+        value: Ok(number),
+    }
+}
+
+/// Whether a value that was said to be kept is found again, while the files that it read have the texts that they had then.
+pub(crate) fn what_is_said_to_be_kept_is_found(alloc: Global) -> Result<bool, Broken> {
+    let lines: &[&str] = &[
+        "write a 1 + eval b",
+        "write b 2",
+        "eval eval a",
+        "write c 9",
+        "eval eval a",
+        "write b 5",
+        "eval eval a",
+        "write b 2",
+        "eval eval a",
+        "evict 0",
+        "eval eval a",
+    ];
+    let wanted: &[Answer] = &[
+        Answer::Written,
+        Answer::Written,
+        kept(false, 3),
+        Answer::Written,
+        kept(true, 3),
+        Answer::Written,
+        kept(false, 6),
+        Answer::Written,
+        kept(true, 3),
+        Answer::Evicted,
+        kept(false, 3),
+    ];
+    answers(alloc, lines, wanted)
+}

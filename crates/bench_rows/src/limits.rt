@@ -1,0 +1,42 @@
+//! The row of a script under a limit that changes.
+
+use crate::broken::Broken;
+use calc_evaluation::{Eval, EvalFault, evaluate};
+use calc_files::Files;
+use calc_scripts::Outcome;
+use comemo::{CacheData, How, Reply, Top, Track};
+use std::alloc::Global;
+
+/// What becomes of the script `1` under a limit, where no file is.
+fn one_under(
+    alloc: Global,
+    cache: &mut CacheData<Eval>,
+    limit: u64,
+) -> Result<Reply<Outcome>, EvalFault> {
+    let files = Files::new(alloc);
+    evaluate(
+        alloc,
+        cache,
+        &files.track(alloc),
+        "1",
+        limit,
+        &mut Top::new(),
+    )
+}
+
+/// Whether the value is 1, and this became of the call.
+fn is_one(came_to: Result<Reply<Outcome>, EvalFault>, how: How) -> bool {
+    let Ok(reply) = came_to else {
+        return false;
+    };
+    reply.output.value == Ok(1) && reply.how == how
+}
+
+/// Whether a script is told to be too deep for the limit of a call, also where it is kept, and is kept on.
+pub(crate) fn a_limit_holds_for_a_hit(alloc: Global) -> Result<bool, Broken> {
+    let mut cache: CacheData<Eval> = CacheData::new(alloc);
+    let first = is_one(one_under(alloc, &mut cache, 1), How::Stored);
+    let is_too_deep = matches!(one_under(alloc, &mut cache, 0), Err(EvalFault::TooDeep));
+    let third = is_one(one_under(alloc, &mut cache, 1), How::Hit);
+    Ok(first && is_too_deep && third)
+}

@@ -1,0 +1,4 @@
+use Rattle.comemo_base.proofs.hashing.PrehashedDebug.fmt.Goals as goal
+
+pub returns : goal.returns
+returns g c = rw (← c.self.view_is) c.fmt.ensures

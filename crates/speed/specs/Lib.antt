@@ -1,4 +1,0 @@
-pub mod Sums
-pub mod Lengths
-pub mod Counting
-pub mod CountingLaws
