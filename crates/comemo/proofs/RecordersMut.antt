@@ -8,7 +8,7 @@ use Rattle.std.specs.Cmp.{IsEquivalence}
 use Rattle.comemo_base.specs.Answers.{Respects, Agrees}
 use Rattle.comemo_base.specs.Sequence.{held, absorbed}
 use Rattle.comemo_base.proofs.Pairs.{held-push}
-use Rattle.comemo_base.proofs.Paths.{turned, joined}
+use Rattle.comemo_base.proofs.Paths.{turned, joined, Agrees-same, IsSamePath-turned}
 use Rattle.comemo_track.specs.Recording.{Recording, Took, Spoiled, MarkedLate}
 use Rattle.comemo_track.specs.RecordingLaws.{held-absorbed}
 use Rattle.comemo_track.specs.Sending.{Asks, BreaksOff, SpoiledAfter, TookAs}
@@ -19,8 +19,9 @@ use Rattle.comemo_cache.specs.Meaning.{Meaning, Invocation, invocation}
 use Rattle.comemo_cache.specs.Cache.{Entries}
 use Rattle.comemo.specs.Called.{IsReply, IsReplyMut, IsLate}
 use Rattle.comemo.specs.declared.pending.Reply.{Reply}
-use Rattle.comemo.specs.Begin.{Reaches}
-use Rattle.comemo.specs.FunctionMut.{Lent, Began, HasBegun, NoneTouches, Goes, TellsMut, TellsWrites, IsFailed}
+use Rattle.comemo.specs.Begin.{Reaches, IsBrokenOff}
+use Rattle.comemo.specs.Finish.{BreaksOffRun}
+use Rattle.comemo.specs.FunctionMut.{Lent, Began, HasBegun, NoneTouches, Goes, TellsMut, TellsWrites, BrokeOffMut, IsFailed}
 use Rattle.comemo.specs.declared.pending.Fault.{Fault}
 use Rattle.comemo.specs.declared.pending.Fault.TheVariants as fault
 use Rattle.comemo.proofs.Recorders.{was_whole, in_time, agrees_from, fitted_from, taken_from}
@@ -291,8 +292,8 @@ module _ {V K C R O : Type 0} (M : Meaning K C R O) (wrote : V → C → V → T
       }
 
 -- after a fault of a call, the recording is spoiled
-pub failed_spoils : {K C R O : Type 0} {touches : C → C → Bool} {M : Meaning K C R O} {es es' : Entries K C R O} {call : Invocation K C R} {done : List C → Type 0} {s t : Recording C R} → IsFailed M es call done (BreaksOff (Took M.same_call touches) Spoiled s t) (SpoiledAfter (Took M.same_call touches) Spoiled s t) es' → t.whole ≡ false
-failed_spoils (inl a) = a.2.spoiled.whole
+pub failed_spoils : {K C R O : Type 0} {touches : C → C → Bool} {M : Meaning K C R O} {es es' : Entries K C R O} {call : Invocation K C R} {done : List C → Type 0} {s t : Recording C R} → IsFailed M touches es call done (BreaksOff (Took M.same_call touches) Spoiled s t) (SpoiledAfter (Took M.same_call touches) Spoiled s t) es' → t.whole ≡ false
+failed_spoils (inl a) = a.1.is_broken.spoiled.whole
 failed_spoils (inr b) = b.1.is_spoiled.spoiled.whole
 
 -- the writes are those that were, after a call of a function that reads
@@ -319,3 +320,14 @@ module _ {V C R : Type 0} (wrote : V → C → V → Type 0) (w : C → Bool) (t
   pub writes_failed : {fits : Recording C R → (C → R) → Type 0} {X : Type 0} {P : X → (C → R) → List C → Type 0} (r : Result X Fault) → IsErr r → TellsWrites (Goes (Done wrote w touches same answers) touches same answers) fits s t r P
   writes_failed (Ok x) h = let no : false ≡ true = h in cc
   writes_failed (Err f) h = record { goes = goes_failed; before = tt; told = tt; whole = tt; fault = λ e. broken }
+
+-- a call of a function that writes and that did not begin broke off what was sent to its sink
+pub broke_at_begin_mut : {K C R O : Type 0} {M : Meaning K C R O} {es : Entries K C R O} {call : Invocation K C R} {broken : List (C × R) → Type 0} (touches : C → C → Bool) → IsBrokenOff M es call broken → BrokeOffMut touches M.same_answer call.answers broken
+broke_at_begin_mut touches is = record { pairs = is.pairs; agrees = λ _. is.agrees; is_broken = is.is_broken }
+
+-- so did a run of one, of which what is whole agrees with the answers where no write touches a read, and what is spoiled spoiled the
+-- sink as it was
+pub broke_by_run_mut : {K C R O : Type 0} (M : Meaning K C R O) (touches : C → C → Bool) (m : C → R) → IsEquivalence M.same_call → IsEquivalence M.same_answer → Respects M.same_call M.same_answer m → (broken : List (C × R) → Type 0) (pairs : List (C × R)) (whole : Bool) → (whole ≡ true → NoneTouches touches → Agrees M.same_answer m pairs) → (whole ≡ false → broken []) → (X : Type 0) {T E : Type 0} (r : Result T E) → OnErr r (X × BreaksOffRun M broken pairs) → OnErr r (X × BrokeOffMut touches M.same_answer m broken)
+broke_by_run_mut M touches m calls answers respects broken pairs whole agrees spoiled X (Ok x) e = tt
+broke_by_run_mut M touches m calls answers respects broken pairs true agrees spoiled X (Err x) e = (e.0, record { pairs = e.1.given; agrees = λ none. Agrees-same calls answers m respects pairs e.1.given (IsSamePath-turned calls answers e.1.given pairs e.1.alike) (agrees refl none); is_broken = e.1.is_broken })
+broke_by_run_mut M touches m calls answers respects broken pairs false agrees spoiled X (Err x) e = (e.0, record { pairs = []; agrees = λ _. tt; is_broken = spoiled refl })

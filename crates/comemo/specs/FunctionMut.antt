@@ -78,10 +78,16 @@ module _ {V C R : Type 0} (leads : Lent V C R → Lent V C R → Type 0) where
 abbrev pub WasStopped : {K C R O : Type 0} → Meaning K C R O → Entries K C R O → Invocation K C R → (List C → Type 0) → (List (C × R) → List C → Type 0) → Entries K C R O → Type 0
 WasStopped M es call done spoiled es' = Touches M es call es' × IsStopped M es call done spoiled
 
--- what stands after a fault of a call of a function that writes: the entries are as they were and the sink was broken off at some
--- pairs, or a hit was stopped
-abbrev pub IsFailed : {K C R O : Type 0} → Meaning K C R O → Entries K C R O → Invocation K C R → (List C → Type 0) → (List (C × R) → Type 0) → (List (C × R) → List C → Type 0) → Entries K C R O → Type 0
-IsFailed {C = C} {R} M es call done broken spoiled es' = ((es' ≡ es) × (pairs : List (C × R)) × broken pairs) ⊎ WasStopped M es call done spoiled es'
+-- a sink, broken off, took some pairs; where no write touches a read, the answers agree with them
+pub record BrokeOffMut {C R : Type 0} (touches : C → C → Bool) (same : R → R → Bool) (m : C → R) (broken : List (C × R) → Type 0) : Type 0 where
+  pub pairs : List (C × R)
+  pub agrees : NoneTouches touches → Agrees same m pairs
+  pub is_broken : broken pairs
+
+-- what stands after a fault of a call of a function that writes: the entries are as they were and the sink was broken off, or a hit
+-- was stopped
+abbrev pub IsFailed : {K C R O : Type 0} → Meaning K C R O → (C → C → Bool) → Entries K C R O → Invocation K C R → (List C → Type 0) → (List (C × R) → Type 0) → (List (C × R) → List C → Type 0) → Entries K C R O → Type 0
+IsFailed M touches es call done broken spoiled es' = ((es' ≡ es) × BrokeOffMut touches M.same_answer call.answers broken) ⊎ WasStopped M es call done spoiled es'
 
 -- which fault a call of a function that writes failed with: the entries are as they were, and it is want of memory, or one of the run,
 -- of which the sink took nothing; or a hit was stopped at a write that was refused

@@ -238,7 +238,7 @@ impl<'a, 'b, T: Track> RecorderMut<'a, 'b, T> {
             × ⟦<T as Written>⟧.did self.old.value.now self.new.value.now W)
             reply (H.entries cache.new)) }
         ensures err { OnErr result (Leads (H.entries cache.old) (H.entries cache.new) (λ es es'.
-            IsFailed ⟦<G as Meant>⟧.meaning es
+            IsFailed ⟦<G as Meant>⟧.meaning T.Call.touches es
             (invocation key (T.answers self.old.value.now) true)
             (⟦<T as Written>⟧.did self.old.value.now self.new.value.now)
             (BreaksOff (Took T.Call.eq T.Call.touches) Spoiled self.old.recording.now self.new.recording.now)
@@ -404,7 +404,7 @@ pub fn memoized_mut<
         (S.spoils sink.old sink.new)
         (⟦<S as Breaking>⟧.spoiled_after sink.old sink.new) fault es')) }
     ensures err { OnErr result (Leads (H.entries cache.old) (H.entries cache.new) (λ es es'.
-        IsFailed ⟦<M as Meant>⟧.meaning es
+        IsFailed ⟦<M as Meant>⟧.meaning T.Call.touches es
         (invocation key (T.answers of.old) enabled)
         (⟦<T as Written>⟧.did of.old of.new)
         (⟦<S as Breaking>⟧.breaks_off sink.old sink.new)

@@ -4,7 +4,7 @@ use Rattle.comemo_base.specs.Answers.{Agrees}
 use Rattle.comemo_track.specs.Writing.{Done}
 use Rattle.comemo_cache.proofs.Sendings.{breaks_at_once}
 use Rattle.comemo.proofs.Calls.{run_seen, reply_by_done_hit, reply_by_done_run, stopped_as, on_fault, on_fault_is}
-use Rattle.comemo.proofs.RecordersMut.{done_at, spoiled_any}
+use Rattle.comemo.proofs.RecordersMut.{done_at, spoiled_any, broke_at_begin_mut, broke_by_run_mut}
 use Rattle.comemo_cache.specs.Meaning.{IsRunOf}
 use Rattle.comemo_cache.proofs.Named.{named_moved}
 use Rattle.comemo.proofs.Settled.{settled_end}
@@ -77,13 +77,17 @@ returns-in-Ok-Run-clause-reached g c =
 pub returns-in-Ok-Run-clause-err : goal.returns-in-Ok-Run-clause-err
 returns-in-Ok-Run-clause-err g c =
     let run = rw (c.in-Ok-Run.is, c.in-Ok-Run.field-0-is) at c.begin-begun.ensures.run in
-    mapped_err (λ e. leads_same (g.H.Hold.entries c.args.cache.now) (g.H.Hold.entries c.end.new.cache) [] _ e.0 (λ es. inl (refl, e.1.given, e.1.is_broken))) c.end.result (rw (stayed (g.H.Hold.entries c.args.cache.now) (g.H.Hold.entries c.begin-begun.new.cache) run.3) at (rw run.2 at c.end.ensures.err))
+    let t = c.run_recorded-ran.result.1 in
+    mapped_err (λ e. leads_same (g.H.Hold.entries c.args.cache.now) (g.H.Hold.entries c.end.new.cache) [] _ e.0 (λ es. inl (refl, e.1))) c.end.result (broke_by_run_mut (record { same_call = g.T.Call.PartialEq.eq; same_answer = g.T.Answer.PartialEq.eq; same_key = g.M.Key.PartialEq.eq; is_write = g.T.Call.Call.is_write; is_clone = g.M.Out.Clone.is_clone; def = g.M.Memo.def; naming = g.M.Memo.naming }) g.T.Call.Call.touches (g.T.Track.answers c.args.of.now) g.met.T.Call.Eq.laws g.met.T.Answer.Eq.laws (g.met.T.Track.alike c.args.of.now) _ t.pairs t.whole
+    (λ w none. subst (λ v. Agrees g.T.Answer.PartialEq.eq (g.T.Track.answers v) t.pairs) run.1.0 (c.run_recorded-ran.ensures.agrees w (c.run_recorded-ran.ensures.early none w)))
+    (λ w. breaks_at_once g.met.S.Sink.starts _ _ [] (rw run.2 at (c.end.ensures.spoils w)))
+    _ c.end.result (rw (stayed (g.H.Hold.entries c.args.cache.now) (g.H.Hold.entries c.begin-begun.new.cache) run.3) at (rw run.2 at c.end.ensures.err)))
 
 pub returns-clause-err : goal.returns-clause-err
 returns-clause-err g c =
     let err = (rw c.in-Err.is at c.begin-begun.ensures.err) in
     (on_fault c.in-Err.fault err
-    (λ memory. leads_same (g.H.Hold.entries c.args.cache.now) (g.H.Hold.entries c.begin-begun.new.cache) [] _ memory.0 (λ es. inl (refl, (some_held (g.H.Hold.entries c.args.cache.now) _ memory.2).1.pairs, (some_held (g.H.Hold.entries c.args.cache.now) _ memory.2).1.is_broken)))
+    (λ memory. leads_same (g.H.Hold.entries c.args.cache.now) (g.H.Hold.entries c.begin-begun.new.cache) [] _ memory.0 (λ es. inl (refl, broke_at_begin_mut g.T.Call.Call.touches (some_held (g.H.Hold.entries c.args.cache.now) _ memory.2).1)))
     (λ stop. leads_map (g.H.Hold.entries c.args.cache.now) (g.H.Hold.entries c.begin-begun.new.cache) _ _ (λ es es' s. inr (s.0, stopped_as s.1 (search (rules, s.1.are_done.0)))) stop))
 
 pub returns-in-Ok-Run-clause-early : goal.returns-in-Ok-Run-clause-early
