@@ -30,6 +30,11 @@ module _ {K C R O : Type 0} (M : Meaning K C R O) (call : Invocation K C R) wher
     pub ends : Ends M mid (record ran { key = own }) reply es'
     pub disabled : (reply ≡ how.Disabled) ↔ (call.enabled ≡ false)
 
+  -- a fault is that of a run: one was to be done, since no entry of es has the key and agrees, or the call is not enabled; and the
+  -- sink, of which this is said, took nothing of it and is spoiled
+  abbrev pub IsOfRun : Entries K C R O → Type 0 → Type 0
+  IsOfRun es spoils = (call.enabled ≡ true → HasNone M es call) × spoils
+
   -- a run under the call's own key came to the reply: it recorded reads, which the call's answers agree with, and by which alone its
   -- output is right; and it was finished
   pub record RanAs (es : Entries K C R O) (sent : List (C × R) → List C → Type 0) (reply : Reply O) (es' : Entries K C R O) : Type 0 where

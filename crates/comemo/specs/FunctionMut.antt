@@ -7,6 +7,7 @@ use Rattle.comemo_cache.specs.Meaning.{Meaning, Invocation, SameWrites}
 use Rattle.comemo_cache.specs.Cache.{Entries, Touches}
 use Rattle.comemo.specs.Begin.{Reaches, IsStopped}
 use Rattle.comemo.specs.Finish.{BrokeOff}
+use Rattle.comemo.specs.Called.{IsOfRun}
 use Rattle.comemo.specs.declared.pending.Fault.{Fault}
 use Rattle.comemo.specs.declared.pending.Fault.TheVariants as fault
 
@@ -72,8 +73,8 @@ WasStopped M es call done spoiled es' = Touches M es call es' × IsStopped M es 
 abbrev pub IsFailed : {K C R O : Type 0} → Meaning K C R O → Entries K C R O → Invocation K C R → (List C → Type 0) → (List (C × R) → Type 0) → (List (C × R) → List C → Type 0) → Entries K C R O → Type 0
 IsFailed M es call done broken spoiled es' = ((es' ≡ es) × BrokeOff M.same_answer call.answers broken) ⊎ WasStopped M es call done spoiled es'
 
--- which fault a call of a function that writes failed with: the entries are as they were, and it is want of memory, or one of the run,
--- of which the sink took nothing; or a hit was stopped at a write that was refused
+-- which fault a call of a function that writes failed with: the entries are as they were, and it is want of memory, or one of the run;
+-- or a hit was stopped at a write that was refused
 abbrev pub FailsBy : {K C R O : Type 0} → Meaning K C R O → Entries K C R O → Invocation K C R → (List C → Type 0) → Type 0 → (List (C × R) → List C → Type 0) → Fault → Entries K C R O → Type 0
 FailsBy M es call done spoils spoiled f es' =
-    ((es' ≡ es) × ((f ≡ fault.Memory) ⊎ spoils)) ⊎ ((f ≡ fault.Write) × WasStopped M es call done spoiled es')
+    ((es' ≡ es) × ((f ≡ fault.Memory) ⊎ IsOfRun M call es spoils)) ⊎ ((f ≡ fault.Write) × WasStopped M es call done spoiled es')

@@ -2,8 +2,8 @@
 ghost use Rattle.std.specs.Prelude.{◌≡◌, ◌⊎◌, [], List, true, false, IsTrue, IfOk, IfErr, OnOk, OnErr, ⊤};
 ghost use Rattle.comemo_cache.specs.Meaning.{invocation, reading};
 ghost use Rattle.comemo.specs.MeaningLaws.{none_alike};
-ghost use Rattle.comemo.specs.Called.{RanAs, HeldReply};
-ghost use Rattle.comemo_cache.specs.Held.{Leads, Stays};
+ghost use Rattle.comemo.specs.Called.{RanAs, IsOfRun, HeldReply};
+ghost use Rattle.comemo_cache.specs.Held.{Held, Leads, Stays};
 ghost use Rattle.comemo.specs.Finish.{BrokeOff};
 ghost use Rattle.comemo_track.specs.Recording.{Recording, Took, Spoiled};
 ghost use Rattle.comemo_track.specs.Sending.{Asks, BreaksOff};
@@ -301,7 +301,9 @@ pub fn memoized<
         (invocation key (T.answers of.now) enabled) (H.entries cache.old) (H.entries cache.old)
         (S.took sink.old sink.new) reply (H.entries cache.new)) }
     ensures fault { IfErr result
-        (λ fault. (fault ≡ Fault.Memory) ⊎ S.spoils sink.old sink.new) }
+        (λ fault. (fault ≡ Fault.Memory) ⊎ Held (H.entries cache.old) (λ es.
+        IsOfRun ⟦<M as Meant>⟧.meaning (invocation key (T.answers of.now) enabled) es
+        (S.spoils sink.old sink.new))) }
     ensures err { OnErr result (Stays (H.entries cache.old) (H.entries cache.new)
         × BrokeOff T.Answer.eq (T.answers of.now)
         (⟦<S as Breaking>⟧.breaks_off sink.old sink.new)) }

@@ -1,7 +1,9 @@
+use Rattle.std.proofs.Math.Logic.{⊎_map}
 use Rattle.std.proofs.Common.{[], inl, subst}
 use Rattle.comemo.proofs.Calls.{reply_by_hit, reply_by_own_run, broke_at_begin, on_fault, for_memory, never_stops}
 use Rattle.comemo_cache.proofs.Sendings.{mapped}
-use Rattle.comemo_cache.proofs.Holding.{some_held, some_led, of_led, stayed, led_by, led_from}
+use Rattle.comemo.proofs.Closures.{err_with}
+use Rattle.comemo_cache.proofs.Holding.{held_map, some_held, some_led, of_led, stayed, led_by, led_from}
 use Rattle.comemo.proofs.function.memoized.Goals as goal
 
 pub returns-in-Ok-Hit-clause-reply : goal.returns-in-Ok-Hit-clause-reply
@@ -39,8 +41,8 @@ returns-clause-err g c =
 
 pub returns-in-Ok-Run-clause-fault : goal.returns-in-Ok-Run-clause-fault
 returns-in-Ok-Run-clause-fault g c =
-    let run = rw (c.in-Ok-Run.is, c.in-Ok-Run.field-0-is) at c.look_up.ensures.run in
-    rw run.2 at c.run_kept.ensures.fault
+    let run = rw (c.in-Ok-Run.is, c.in-Ok-Run.field-0-is, c.fork.ensures) at c.look_up.ensures.run in
+    err_with (λ f e which. ⊎_map (λ memory. memory) (λ spoils. held_map (g.H.Hold.entries c.args.cache.now) _ _ (λ es has. (has.none, spoils)) run.0) which) c.run_kept.result c.run_kept.ensures.err (rw run.2 at c.run_kept.ensures.fault)
 
 pub returns-clause-fault : goal.returns-clause-fault
 returns-clause-fault g c =

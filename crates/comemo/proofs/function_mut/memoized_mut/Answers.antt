@@ -1,3 +1,4 @@
+use Rattle.std.proofs.Math.Logic.{⊎_map}
 use Rattle.std.proofs.Common.{rules, refl, [], inl, inr, sym, subst}
 use Rattle.comemo_base.specs.Answers.{Agrees}
 use Rattle.comemo_track.specs.Writing.{Done}
@@ -6,7 +7,7 @@ use Rattle.comemo.proofs.Calls.{run_seen, reply_by_done_hit, reply_by_done_run, 
 use Rattle.comemo.proofs.RecordersMut.{done_at}
 use Rattle.comemo_cache.proofs.Sendings.{mapped}
 use Rattle.comemo.proofs.Closures.{mapped_by, mapped_err, err_with, fault_of_end}
-use Rattle.comemo_cache.proofs.Holding.{some_held, some_led, of_led, stayed, led_by, led_from, leads_same, leads_map}
+use Rattle.comemo_cache.proofs.Holding.{held_leads, some_held, some_led, of_led, stayed, led_by, led_from, leads_same, leads_map}
 use Rattle.comemo.proofs.function_mut.memoized_mut.Goals as goal
 
 pub end-requires : goal.end-requires
@@ -79,7 +80,7 @@ returns-clause-err g c =
 pub returns-in-Ok-Run-clause-fault : goal.returns-in-Ok-Run-clause-fault
 returns-in-Ok-Run-clause-fault g c =
     let run = rw (c.in-Ok-Run.is, c.in-Ok-Run.field-0-is) at c.begin-begun.ensures.run in
-    err_with (λ f e which. leads_same (g.H.Hold.entries c.args.cache.now) (g.H.Hold.entries c.end.new.cache) [] _ e.0 (λ es. inl (refl, which))) c.end.result (rw (stayed (g.H.Hold.entries c.args.cache.now) (g.H.Hold.entries c.begin-begun.new.cache) run.3) at c.end.ensures.err) (rw run.2 at (fault_of_end _ _ c.run_recorded-ran.result.0 c.end.result c.end.ensures.incomplete c.end.ensures.write c.end.ensures.fault c.end.ensures.spoils))
+    err_with (λ f e which. held_leads (g.H.Hold.entries c.args.cache.now) (g.H.Hold.entries c.end.new.cache) _ _ e.0 (λ es began. inl (refl, ⊎_map (λ memory. memory) (λ spoils. (began.none, spoils)) which)) run.0) c.end.result (rw (stayed (g.H.Hold.entries c.args.cache.now) (g.H.Hold.entries c.begin-begun.new.cache) run.3) at c.end.ensures.err) (rw run.2 at (fault_of_end _ _ c.run_recorded-ran.result.0 c.end.result c.end.ensures.incomplete c.end.ensures.write c.end.ensures.fault c.end.ensures.spoils))
 
 pub returns-clause-fault : goal.returns-clause-fault
 returns-clause-fault g c =
