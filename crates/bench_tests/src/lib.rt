@@ -10,4 +10,6 @@ mod overtaken;
 #[cfg(test)]
 mod program;
 #[cfg(test)]
+mod shares;
+#[cfg(test)]
 mod threads;
