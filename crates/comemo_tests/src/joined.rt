@@ -6,8 +6,8 @@ ghost use Rattle.comemo.specs.Meaning.{reading};
 ghost use Rattle.comemo.specs.MeaningLaws.{none_alike};
 
 use comemo::{
-    Begun, CacheData, Constraint, Fault, First, Hashed, How, MappedSink, Memo, Multi, MultiAnswer,
-    MultiCall, Reply, Second, Top, Track, Tracked, begin,
+    Begun, CacheData, Fault, First, Hashed, How, Input, Memo, Multi, MultiAnswer, MultiCall, Reply,
+    Second, Top, Track, Tracked, begin,
 };
 use comemo_samples::{Context, ContextCall};
 use std::alloc::Global;
@@ -119,21 +119,15 @@ fn a_number_is_looked_for_in_a_context(rt: HostRuntime) {
     assert_eq!(rt; cache.len(), 3);
 }
 
-/// A call to the first of three inputs, or to one of those behind it.
-type ThreeCall = MultiCall<ContextCall, MultiCall<ContextCall, ()>>;
+/// A function of two contexts of which any output is right.
+pub struct AnyOfTwoMemo;
 
-/// An answer to such a call.
-type ThreeAnswer = MultiAnswer<u64, MultiAnswer<u64, ()>>;
+impl Memo for AnyOfTwoMemo {
+    type Call = MultiCall<ContextCall, ContextCall>;
 
-/// A function of two contexts and nothing of which any output is right.
-pub struct AnyOfThreeMemo;
+    type Key = ((), ());
 
-impl Memo for AnyOfThreeMemo {
-    type Call = ThreeCall;
-
-    type Key = ((), ((), ()));
-
-    type Answer = ThreeAnswer;
+    type Answer = MultiAnswer<u64, u64>;
 
     type Out = u64;
 
@@ -142,39 +136,50 @@ impl Memo for AnyOfThreeMemo {
     ghost laws = { Prim.search rules };
 }
 
-/// The sum of the locations of two contexts, as a run asks them.
-fn ask_both(
-    first: &mut Tracked<'_, Context>,
-    second: &mut Tracked<'_, Context>,
-    recording: &mut Constraint<ThreeCall, ThreeAnswer>,
-) -> Result<u64, Fault> {
-    let at = first.ask_through(ContextCall::Location, First::new(), recording)?;
-    let mut behind = MappedSink::new(recording, Second::new());
-    let by = second.ask_through(ContextCall::Location, First::new(), &mut behind)?;
-    Ok(at.wrapping_add(by))
+/// The sum of the locations of two contexts, each asked once, and what became of the call.
+fn sum(
+    alloc: Global,
+    cache: &mut CacheData<AnyOfTwoMemo>,
+    first: &Context,
+    second: &Context,
+) -> Result<(u64, How), Fault> {
+    let mut input = Multi((first.track(alloc), second.track(alloc)));
+    match begin(alloc, cache, &mut input, &mut Top::new(), true) {
+        Err(fault) => Err(fault),
+        Ok(Begun::Hit(sum)) => Ok((sum, How::Hit)),
+        Ok(Begun::Run(mut pending)) => {
+            let Multi((mut left, mut right)) = input;
+            let read = ContextCall::Location;
+            let at = left.ask_through(read, First::new(), pending.recording());
+            let by = right.ask_through(read, Second::new(), pending.recording());
+            let sum = at.unwrap_or(0).wrapping_add(by.unwrap_or(0));
+            match pending.finish(cache, &mut Top::new(), sum) {
+                Ok(reply) => Ok((reply.output, reply.how)),
+                Err(fault) => Err(fault),
+            }
+        }
+    }
 }
 
 /// Whether the sum of the locations of two contexts is given, and this becomes of the call.
 fn sums(
     alloc: Global,
-    cache: &mut CacheData<AnyOfThreeMemo>,
+    cache: &mut CacheData<AnyOfTwoMemo>,
     (at, by): (u64, u64),
     styles: u64,
     how: How,
 ) -> bool {
-    let [one, other] = [at, by].map(|location| Context { location, styles });
-    let (mut first, mut second) = (one.track(alloc), other.track(alloc));
-    let mut input = Multi((one.track(alloc), Multi((other.track(alloc), Multi(())))));
-    match begin(alloc, cache, &mut input, &mut Top::new(), true) {
+    let one = Context {
+        location: at,
+        styles,
+    };
+    let other = Context {
+        location: by,
+        styles,
+    };
+    match sum(alloc, cache, &one, &other) {
+        Ok((sum, became)) => sum == at.wrapping_add(by) && became == how,
         Err(_) => false,
-        Ok(Begun::Hit(output)) => output == at.wrapping_add(by) && how == How::Hit,
-        Ok(Begun::Run(mut pending)) => {
-            let sum = ask_both(&mut first, &mut second, pending.recording());
-            match pending.finish(cache, &mut Top::new(), sum.unwrap_or(0)) {
-                Ok(reply) => reply.output == at.wrapping_add(by) && reply.how == how,
-                Err(_) => false,
-            }
-        }
     }
 }
 
@@ -193,4 +198,11 @@ fn a_change_of_one_of_two_contexts_is_seen(rt: HostRuntime) {
         assert!(rt; is_so, "for {locations:?}");
     }
     assert_eq!(rt; cache.len(), 3);
+}
+
+#[test]
+fn no_input_has_no_key(rt: HostRuntime) {
+    let mut nothing = Multi(());
+    let is_so = nothing.key() == Ok(()) && nothing.call(&()) == Ok(());
+    assert!(rt; is_so);
 }
