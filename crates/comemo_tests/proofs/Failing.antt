@@ -1,5 +1,5 @@
 -- How a run of a memoized function ended.
-use Rattle.std.proofs.Common.{List, [], Result, Ok, Err, IfOk, OnErr, refl}
+use Rattle.std.proofs.Common.{List, [], Result, Ok, Err, IfOk, refl}
 use Rattle.comemo.specs.Sending.{BreaksOff}
 use Rattle.comemo_tests.specs.Broken.{IsBroken}
 
@@ -11,7 +11,3 @@ given_up starts x s t spoiled = (x, ([], record { front = []; rest = []; parts =
 pub on_reply : {A E : Type 0} {P Q : A → Type 0} → ((a : A) → P a → Q a) → (r : Result A E) → IfOk r P → IfOk r Q
 on_reply f (Ok a) p = f a p
 on_reply f (Err e) p = tt
-
-pub on_err : {A E P : Type 0} (r : Result A E) → P → OnErr r P
-on_err (Ok x) p = tt
-on_err (Err e) p = p

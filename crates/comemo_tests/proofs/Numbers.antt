@@ -1,9 +1,5 @@
 -- Numbers are told apart by what they are.
 use Rattle.std.proofs.Common.{◌≡◌, ℕ, nat_eq, rules, IsTrue}
-use Rattle.std.specs.Cmp.{IsEquivalence}
-
-pub same_numbers : IsEquivalence nat_eq
-same_numbers = search rules
 
 -- an answer that equals one is it, turned round
 pub same_number : (a b : ℕ) → IsTrue (nat_eq a b) → b ≡ a

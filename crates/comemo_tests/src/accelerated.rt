@@ -1,28 +1,31 @@
-//! Memoized functions that ask through a view which keeps what it was answered, and a value that counts how often it is
+//! A memoized function that asks through a view which keeps what it was answered, and a value that counts how often it is
 //! asked.
-ghost use Rattle.std.specs.Prelude.{◌≡◌, IfOk, OnErr};
+ghost use Rattle.std.specs.Prelude.{◌≡◌, IfOk, false, refl};
 ghost use Rattle.std.proofs.Common.{rules};
-ghost use Rattle.comemo_tests.specs.Broken.{IsBroken};
 
-use crate::functions::LocationMemo;
-use comemo::{Accelerated, Begun, Breaking, CacheData, Fault, How, Reply, Sink, Top, Track, begin};
+use crate::inputs::LocationMemo;
+use comemo::{
+    Accelerated, Begun, CacheData, Call, Constraint, Fault, How, Reply, Sink, Top, Track, begin,
+};
 use comemo_samples::{Context, ContextCall};
 use std::alloc::{AllocError, Global};
+use std::hash::Hash;
 use std::sync::atomic::{AtomicU64, Ordering};
 
-/// A context that counts how often it is asked.
+/// A context that counts how often it is asked, and may refuse to say how it is set.
 #[derive(Drop)]
 pub struct Counting {
-    /// What answers.
-    pub context: Context,
+    context: Context,
+    refuses: bool,
     asked: AtomicU64,
 }
 
 impl Counting {
     /// A context that was not asked yet.
-    pub fn new(location: u64, styles: u64) -> Counting {
+    pub fn new(location: u64, styles: u64, refuses: bool) -> Counting {
         Counting {
             context: Context { location, styles },
+            refuses,
             asked: AtomicU64::new(0),
         }
     }
@@ -48,45 +51,186 @@ impl Track for Counting {
 
     fn ask(&self, call: &ContextCall) -> Result<u64, AllocError> {
         self.asked.fetch_add(1, Ordering::SeqCst);
+        if self.refuses && *call == ContextCall::Styles {
+            return Err(AllocError);
+        }
         self.context.ask(call)
     }
 }
 
-/// Where a context is, asked twice through one view.
-pub fn where_twice(view: &mut Accelerated<'_, Counting>) -> Result<(u64, u64), AllocError>
-    ensures first { IfOk result (λ both. both.0 ≡ view.old.value.context.location) }
-    ensures second { IfOk result (λ both. both.1 ≡ view.old.value.context.location) }
-    ensures same { view.new.value ≡ view.old.value }
-{
-    let first = view.ask(ContextCall::Location, &mut Top::new())?;
-    let second = view.ask(ContextCall::Location, &mut Top::new())?;
-    Ok((first, second))
-}
-
 /// The location of a context, kept, by a view that knows what it was answered.
-pub fn known_location<S: Sink<Call = ContextCall, Answer = u64>>(
+pub fn known_location(
     alloc: Global,
     cache: &mut CacheData<LocationMemo>,
     view: &mut Accelerated<'_, Counting>,
-    sink: &mut S,
 ) -> Result<Reply<u64>, Fault>
     ensures output { IfOk result (λ reply. reply.output ≡ view.old.value.context.location) }
     ensures same { view.new.value ≡ view.old.value }
-    ensures err { OnErr result ((cache.new ≡ cache.old)
-        × IsBroken (⟦<S as Breaking>⟧.breaks_off sink.old sink.new)) }
 {
-    match begin(alloc, cache, view, sink, true) {
+    match begin(alloc, cache, view, &mut Top::new(), true) {
         Ok(Begun::Hit(output)) => Ok(Reply {
             output,
             how: How::Hit,
         }),
         Ok(Begun::Run(mut pending)) => {
             let Ok(at) = view.ask(ContextCall::Location, pending.recording()) else {
-                pending.give_up(sink);
+                pending.give_up(&mut Top::new());
                 return Err(Fault::Memory);
             };
-            pending.finish(cache, sink, at)
+            pending.finish(cache, &mut Top::new(), at)
         }
         Err(fault) => Err(fault),
     }
+}
+
+/// Whether three calls through one view of a value give its location, this becomes of the first, and the others are hits.
+/// The value is asked once.
+fn asks_once(
+    alloc: Global,
+    cache: &mut CacheData<LocationMemo>,
+    location: u64,
+    first: How,
+) -> bool {
+    let value = Counting::new(location, 5, false);
+    let mut view = value.track(alloc).accelerated(alloc);
+    let hows: &[How] = &[first, How::Hit, How::Hit];
+    for how in hows {
+        let is_so = match known_location(alloc, cache, &mut view) {
+            Ok(reply) => reply.output == location && reply.how == *how,
+            Err(_) => false,
+        };
+        if !is_so {
+            return false;
+        }
+    }
+    value.asked() == 1
+}
+
+#[test]
+fn hits_and_runs_ask_through_one_view(rt: HostRuntime) {
+    let alloc = rt.alloc();
+    let mut cache = CacheData::new(alloc);
+    let is_first = asks_once(alloc, &mut cache, 3, How::Stored);
+    // The look-up asks before the run does.
+    let is_other = asks_once(alloc, &mut cache, 4, How::Stored);
+    let is_again = asks_once(alloc, &mut cache, 3, How::Hit);
+    assert!(rt; is_first);
+    assert!(rt; is_other);
+    assert!(rt; is_again);
+}
+
+/// Whether a view gives the location 3 twice.
+fn gives_twice(view: &mut Accelerated<'_, Counting>) -> bool {
+    let first = view.ask(ContextCall::Location, &mut Top::new());
+    let second = view.ask(ContextCall::Location, &mut Top::new());
+    first == Ok(3) && second == Ok(3)
+}
+
+/// Whether a view keeps an answer, and sends it without asking the value again.
+fn sends_what_it_knows(alloc: Global) -> bool {
+    let value = Counting::new(3, 5, false);
+    let mut view = value.track(alloc).accelerated(alloc);
+    let is_given = gives_twice(&mut view);
+    let is_known = view.known(&ContextCall::Location) == Some(&3);
+    let mut recording = Constraint::new(alloc);
+    let is_sent = view.ask(ContextCall::Location, &mut recording) == Ok(3);
+    let is_held = recording.emit(ContextCall::Location, Some(4)) == Ok(false);
+    let here = recording.validate(&Counting::new(3, 6, false));
+    let there = recording.validate(&Counting::new(4, 5, false));
+    let holds = here == Ok(true) && there == Ok(false);
+    is_given && is_known && is_sent && is_held && holds && value.asked() == 1
+}
+
+/// Whether a fork of a view knows nothing of what the view knows, nor the view of what its fork does, and the plain view
+/// asks each time.
+fn forks_know_nothing(alloc: Global) -> bool {
+    let value = Counting::new(3, 5, false);
+    let mut view = value.track(alloc).accelerated(alloc);
+    let is_given = gives_twice(&mut view);
+    let mut fork = view.fork(alloc);
+    let was_unknown = fork.known(&ContextCall::Location).is_none();
+    let is_forked = gives_twice(&mut fork) && value.asked() == 2;
+    let styles = fork.ask(ContextCall::Styles, &mut Top::new()) == Ok(5);
+    let is_unknown = view.known(&ContextCall::Styles).is_none();
+    let mut plain = view.view(alloc);
+    let at = plain.ask(ContextCall::Location, &mut Top::new()) == Ok(3) && value.asked() == 4;
+    let again = plain.ask(ContextCall::Location, &mut Top::new()) == Ok(3) && value.asked() == 5;
+    is_given && was_unknown && is_forked && styles && is_unknown && at && again
+}
+
+#[test]
+fn a_view_that_keeps_answers_sends_them_and_its_fork_has_none(rt: HostRuntime) {
+    let sends = sends_what_it_knows(rt.alloc());
+    let forks = forks_know_nothing(rt.alloc());
+    assert!(rt; sends);
+    assert!(rt; forks);
+}
+
+/// A read for whose clones there is no memory.
+#[derive(Drop, Debug, PartialEq, Eq, Hash)]
+struct Single {
+    number: u64,
+}
+
+impl Clone for Single {
+    ghost use Rattle.std.specs.Prelude.{◌≡◌};
+
+    ghost is_clone = { λ call copy. copy ≡ call };
+
+    fn clone(&self) -> Result<Self, AllocError> {
+        Err(AllocError)
+    }
+}
+
+impl Call for Single {
+    ghost is_write = { λ _. false };
+
+    ghost same_kind = { λ x y h. refl };
+
+    ghost clones = { λ x y h. Prim.search rules };
+
+    fn is_mutable(&self) -> bool {
+        false
+    }
+}
+
+/// A value that answers a number by itself, and counts how often it is asked.
+#[derive(Drop)]
+struct Echo {
+    asked: AtomicU64,
+}
+
+impl Track for Echo {
+    type Call = Single;
+
+    type Answer = u64;
+
+    ghost answers = { λ _ call. call.number };
+
+    ghost alike = { λ s x y h. Prim.search rules };
+
+    ghost clones = { λ x y h. Prim.search rules };
+
+    fn ask(&self, call: &Single) -> Result<u64, AllocError> {
+        self.asked.fetch_add(1, Ordering::SeqCst);
+        Ok(call.number)
+    }
+}
+
+/// Whether a view that has no memory for a call gives the answer of the value, and knows nothing of it then.
+fn goes_without(view: &mut Accelerated<'_, Echo>) -> bool {
+    let is_given = view.ask(Single { number: 8 }, &mut Top::new()) == Ok(8);
+    is_given && view.known(&Single { number: 8 }).is_none()
+}
+
+#[test]
+fn a_view_without_memory_goes_without(rt: HostRuntime) {
+    let alloc = rt.alloc();
+    let value = Echo {
+        asked: AtomicU64::new(0),
+    };
+    let mut view = value.track(alloc).accelerated(alloc);
+    let is_so = goes_without(&mut view) && goes_without(&mut view);
+    assert!(rt; is_so);
+    assert_eq!(rt; value.asked.load(Ordering::SeqCst), 2);
 }

@@ -4,8 +4,8 @@ ghost use Rattle.std.specs.Prelude.{◌≡◌, IfOk, IsTrue};
 ghost use Rattle.std.proofs.Common.{rules};
 
 use comemo::{
-    CacheData, Constraint, Fault, Function, FunctionOf, How, Recorder, Reply, Top, Track, Tracked,
-    memoized,
+    CacheData, Constraint, Fault, Function, FunctionOf, How, MemoOf, Recorder, Reply, Top, Track,
+    Tracked, memoized,
 };
 use comemo_samples::{Context, ContextCall};
 use std::alloc::Global;
@@ -101,4 +101,57 @@ pub fn call_around<M: FunctionOf<T>, T: Track>(
         valid,
         second,
     })
+}
+
+/// Whether a reply has this output, and this became of the call.
+fn gives(reply: Reply<u64>, output: u64, how: How) -> bool {
+    reply.output == output && reply.how == how
+}
+
+/// Whether of two calls at one context the first is stored and the second is a hit.
+fn is_hit_again(alloc: Global) -> bool {
+    let mut cache: CacheData<MemoOf<Location>> = CacheData::new(alloc);
+    let context = Context {
+        location: 3,
+        styles: 40,
+    };
+    match call_twice(alloc, &mut cache, &mut (), (), &context.track(alloc)) {
+        Ok((first, second)) => gives(first, 3, How::Stored) && gives(second, 3, How::Hit),
+        Err(_) => false,
+    }
+}
+
+/// Whether of a call at the location 3 and one at this location the first is stored, and this becomes of the second,
+/// which is a hit exactly where what the first asked is answered alike.
+fn becomes(alloc: Global, location: u64, styles: u64, how: How) -> bool {
+    let mut cache: CacheData<MemoOf<Location>> = CacheData::new(alloc);
+    let before = Context {
+        location: 3,
+        styles: 40,
+    };
+    let after = Context { location, styles };
+    match call_around(alloc, &mut cache, &mut (), (), &before, &after) {
+        Ok(around) => {
+            let Around {
+                first,
+                valid,
+                second,
+            } = around;
+            let is_stored = gives(first, 3, How::Stored);
+            let is_so = gives(second, location, how);
+            is_stored && is_so && valid == (how == How::Hit)
+        }
+        Err(_) => false,
+    }
+}
+
+#[test]
+fn a_call_that_was_stored_is_a_hit_until_an_answer_changes(rt: HostRuntime) {
+    let alloc = rt.alloc();
+    let is_again = is_hit_again(alloc);
+    let is_turned = becomes(alloc, 3, 41, How::Hit);
+    let is_moved = becomes(alloc, 4, 40, How::Stored);
+    assert!(rt; is_again);
+    assert!(rt; is_turned);
+    assert!(rt; is_moved);
 }

@@ -1,9 +1,8 @@
 //! A memoized function whose run is a closure.
-ghost use Rattle.std.specs.Prelude.{◌≡◌, IfOk, OnErr, ◌+◌, ◌%◌, ◌^◌};
+ghost use Rattle.std.specs.Prelude.{◌≡◌, IfOk, ◌+◌, ◌%◌, ◌^◌};
 ghost use Rattle.std.proofs.Common.{rules};
-ghost use Rattle.comemo_tests.specs.Broken.{IsBroken};
 
-use comemo::{Breaking, CacheData, Constraint, Fault, Memo, Reply, Sink, Tracked, memoize};
+use comemo::{CacheData, Constraint, Fault, How, Memo, Reply, Top, Track, Tracked, memoize};
 use comemo_samples::{Context, ContextCall};
 use std::alloc::Global;
 
@@ -27,23 +26,20 @@ impl Memo for SumMemo {
 }
 
 /// The sum of the location and the styles of a context, which wraps, kept.
-pub fn closed_sum<S: Sink<Call = ContextCall, Answer = u64>>(
+pub fn closed_sum(
     alloc: Global,
     cache: &mut CacheData<SumMemo>,
     context: &Tracked<'_, Context>,
-    sink: &mut S,
     enabled: bool,
 ) -> Result<Reply<u64>, Fault>
-    ensures output { IfOk result
+    ensures { IfOk result
         (λ reply. reply.output ≡ (context.now.location + context.now.styles) % 2 ^ 64) }
-    ensures err { OnErr result ((cache.new ≡ cache.old)
-        × IsBroken (⟦<S as Breaking>⟧.breaks_off sink.old sink.new)) }
 {
     memoize(
         alloc,
         cache,
         &mut context.fork(alloc),
-        sink,
+        &mut Top::new(),
         enabled,
         |view: &mut Tracked<'_, Context>, recording: &mut Constraint<ContextCall, u64>| {
             let at = view.ask(ContextCall::Location, recording)?;
@@ -51,4 +47,42 @@ pub fn closed_sum<S: Sink<Call = ContextCall, Answer = u64>>(
             Ok(at.wrapping_add(by))
         },
     )
+}
+
+/// Whether a call at a context of the location 3 gives this sum, and this becomes of the call.
+fn gives(
+    alloc: Global,
+    cache: &mut CacheData<SumMemo>,
+    styles: u64,
+    enabled: bool,
+    sum: u64,
+    how: How,
+) -> bool {
+    let context = Context {
+        location: 3,
+        styles,
+    };
+    match closed_sum(alloc, cache, &context.track(alloc), enabled) {
+        Ok(reply) => reply.output == sum && reply.how == how,
+        Err(_) => false,
+    }
+}
+
+#[test]
+fn a_closure_runs_where_no_entry_agrees_or_none_is_looked_for(rt: HostRuntime) {
+    let alloc = rt.alloc();
+    let mut cache = CacheData::new(alloc);
+    let calls: &[(u64, bool, u64, How, usize)] = &[
+        (4, false, 7, How::Disabled, 0),
+        (4, false, 7, How::Disabled, 0),
+        (4, true, 7, How::Stored, 1),
+        (4, true, 7, How::Hit, 1),
+        (4, false, 7, How::Disabled, 1),
+        (5, true, 8, How::Stored, 2),
+    ];
+    for (styles, enabled, sum, how, len) in calls {
+        let is_so = gives(alloc, &mut cache, *styles, *enabled, *sum, *how);
+        assert!(rt; is_so, "for {styles} {how:?}");
+        assert_eq!(rt; cache.len(), *len);
+    }
 }

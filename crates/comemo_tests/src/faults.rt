@@ -3,10 +3,10 @@ ghost use Rattle.std.specs.Prelude.{⊤};
 ghost use Rattle.std.proofs.Common.{rules};
 ghost use Rattle.comemo.specs.Meaning.{reading};
 
-use crate::functions::LocationMemo;
+use crate::inputs::LocationMemo;
 use comemo::{
     Both, CacheData, Constraint, Fault, Function, FunctionOf, Memo, MemoOf, MultiAnswer, MultiCall,
-    Recorder, Reply, Tracked, memoize,
+    Recorder, Top, Track, Tracked, memoize, memoized,
 };
 use comemo_samples::{Context, ContextCall};
 use std::alloc::Global;
@@ -123,22 +123,89 @@ impl<'a> FunctionOf<Both<'a, Context, Context>> for CallingOfPart {
     }
 }
 
-/// A closure that ends in a fault.
-pub fn closed_fault(
-    alloc: Global,
-    cache: &mut CacheData<LocationMemo>,
-    context: &Tracked<'_, Context>,
-    sink: &mut Constraint<ContextCall, u64>,
-    fault: Fault,
-) -> Result<Reply<u64>, Fault> {
-    memoize(
+/// The context that is called with.
+fn context() -> Context {
+    Context {
+        location: 3,
+        styles: 40,
+    }
+}
+
+/// Whether the caller of a closure that ends in a fault is told it, and its own recording is spoiled then.
+fn is_told_of_closure(alloc: Global, fault: Fault) -> bool {
+    let mut cache: CacheData<LocationMemo> = CacheData::new(alloc);
+    let mut outer: Constraint<ContextCall, u64> = Constraint::new(alloc);
+    let reply = memoize(
         alloc,
-        cache,
-        &mut context.fork(alloc),
-        sink,
+        &mut cache,
+        &mut context().track(alloc),
+        &mut outer,
         true,
         |_view: &mut Tracked<'_, Context>, _recording: &mut Constraint<ContextCall, u64>| Err(
             fault,
         ),
-    )
+    );
+    reply.err() == Some(fault) && !outer.is_whole()
+}
+
+/// Whether the caller of a function with this key is told this fault, and its own recording is spoiled then.
+fn is_told<F: Function<Key = bool, Of = Context, Out = u64>>(
+    alloc: Global,
+    needs: &mut F::Needs,
+    hands_on: bool,
+    fault: Fault,
+) -> bool {
+    let mut cache: CacheData<MemoOf<F>> = CacheData::new(alloc);
+    let mut outer: Constraint<ContextCall, u64> = Constraint::new(alloc);
+    let reply = memoized(
+        alloc,
+        &mut cache,
+        needs,
+        hands_on,
+        &context().track(alloc),
+        &mut outer,
+        true,
+    );
+    reply.err() == Some(fault) && !outer.is_whole()
+}
+
+/// Whether the caller of a function of two values with this key is told this fault.
+fn is_told_of_part(alloc: Global, key: (bool, bool), fault: Fault) -> bool {
+    let (one, other) = (context(), context());
+    let both = Both {
+        first: one.track(alloc),
+        second: other.track(alloc),
+    };
+    let mut cache: CacheData<CallingOfPart> = CacheData::new(alloc);
+    let mut kept = (CacheData::new(alloc), CacheData::new(alloc));
+    let reply = memoized(
+        alloc,
+        &mut cache,
+        &mut kept,
+        key,
+        &both.track(alloc),
+        &mut Top::new(),
+        true,
+    );
+    reply.err() == Some(fault)
+}
+
+#[test]
+fn a_fault_of_a_run_is_told_to_its_caller(rt: HostRuntime) {
+    let alloc = rt.alloc();
+    let mut refused = CacheData::new(alloc);
+    let mut kept = (CacheData::new(alloc), CacheData::new(alloc));
+    let faults: &[(bool, Fault)] = &[(true, Fault::Memory), (false, Fault::Incomplete)];
+    for (hands_on, fault) in faults {
+        let of_closure = is_told_of_closure(alloc, *fault);
+        let of_function = is_told::<Failing>(alloc, &mut refused, *hands_on, *fault);
+        let of_called = is_told::<Calling>(alloc, &mut kept, *hands_on, *fault);
+        let of_first = is_told_of_part(alloc, (true, *hands_on), *fault);
+        let of_second = is_told_of_part(alloc, (false, *hands_on), *fault);
+        assert!(rt; of_closure, "for {fault:?}");
+        assert!(rt; of_function, "for {fault:?}");
+        assert!(rt; of_called, "for {fault:?}");
+        assert!(rt; of_first, "for {fault:?}");
+        assert!(rt; of_second, "for {fault:?}");
+    }
 }

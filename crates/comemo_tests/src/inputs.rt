@@ -1,14 +1,32 @@
-//! Memoized functions of one input: a view that the caller lends, and a value that isn't tracked.
-ghost use Rattle.std.specs.Prelude.{◌≡◌, IfOk, OnErr, IfSome, ◌*◌, ◌%◌, ◌^◌};
+//! Memoized functions of one input: a view that the caller lends.
+ghost use Rattle.std.specs.Prelude.{◌≡◌, IfOk, OnErr};
 ghost use Rattle.std.proofs.Common.{rules};
 ghost use Rattle.comemo_tests.specs.Broken.{IsBroken};
 
-use crate::functions::LocationMemo;
 use comemo::{
-    Begun, Breaking, CacheData, Fault, Found, Hashed, How, Memo, Reply, Sink, Tracked, begin,
+    Begun, Breaking, CacheData, Fault, How, Memo, Reply, Sink, Top, Track, Tracked, begin,
 };
 use comemo_samples::{Context, ContextCall};
-use std::alloc::{AllocError, Global};
+use std::alloc::Global;
+
+/// The location of a context.
+pub struct LocationMemo;
+
+impl Memo for LocationMemo {
+    type Call = ContextCall;
+
+    type Key = ();
+
+    type Answer = u64;
+
+    type Out = u64;
+
+    ghost use Rattle.comemo_samples.specs.declared.contexts.ContextCall.TheVariants.{Location};
+
+    ghost def = { λ _ m out _. out ≡ m Location };
+
+    ghost laws = { Prim.search rules };
+}
 
 /// The location of a context, kept, by a view that the caller lends.
 pub fn lent_location<S: Sink<Call = ContextCall, Answer = u64>>(
@@ -38,58 +56,46 @@ pub fn lent_location<S: Sink<Call = ContextCall, Answer = u64>>(
     }
 }
 
-/// The kept location of a context, if there is one, by a reference to a view.
-pub fn look_location(
-    cache: &CacheData<LocationMemo>,
-    mut context: &mut Tracked<'_, Context>,
-) -> Result<Option<u64>, AllocError>
-    ensures { IfOk result (λ found. IfSome found (λ output. output ≡ context.old.location)) }
-{
-    let Some(found) = cache.look(&(), &mut context)? else {
-        return Ok(None);
-    };
-    let Found {
-        pairs: _,
-        output,
-        writes: _,
-        age: _,
-    } = found;
-    Ok(Some(output))
+/// The kept location of a context, if there is one.
+fn kept(alloc: Global, cache: &CacheData<LocationMemo>, context: &Context) -> Option<u64> {
+    match cache.look(&(), &mut context.track(alloc)) {
+        Ok(Some(found)) => Some(found.output),
+        Ok(None) => None,
+        Err(_) => None,
+    }
 }
 
-/// The square of a number, which wraps. It asks nothing, and nothing is tracked.
-pub struct SquareMemo;
-
-impl Memo for SquareMemo {
-    type Call = ();
-
-    type Key = u64;
-
-    type Answer = ();
-
-    type Out = u64;
-
-    ghost def = { λ n _ out _. out ≡ (n * n) % 2 ^ 64 };
-
-    ghost laws = { Prim.search rules };
-}
-
-/// The square of a number, kept under it.
-pub fn square<S: Sink<Call = (), Answer = ()>>(
+/// Whether a call at a context gives its location, and this becomes of the call: it is a hit where the location is kept,
+/// and the location is kept then.
+fn is_located(
     alloc: Global,
-    cache: &mut CacheData<SquareMemo>,
-    number: u64,
-    sink: &mut S,
-) -> Result<Reply<u64>, Fault>
-    ensures output { IfOk result (λ reply. reply.output ≡ (number * number) % 2 ^ 64) }
-    ensures err { OnErr result ((cache.new ≡ cache.old)
-        × IsBroken (⟦<S as Breaking>⟧.breaks_off sink.old sink.new)) }
-{
-    match begin(alloc, cache, &mut Hashed(number), sink, true)? {
-        Begun::Hit(output) => Ok(Reply {
-            output,
-            how: How::Hit,
-        }),
-        Begun::Run(pending) => pending.finish(cache, sink, number.wrapping_mul(number)),
+    cache: &mut CacheData<LocationMemo>,
+    (location, styles): (u64, u64),
+    how: How,
+) -> bool {
+    let context = Context { location, styles };
+    let was_kept = kept(alloc, cache, &context).is_some();
+    let is_given = match lent_location(alloc, cache, &mut context.track(alloc), &mut Top::new()) {
+        Ok(reply) => reply.output == location && reply.how == how,
+        Err(_) => false,
+    };
+    let is_kept = kept(alloc, cache, &context) == Some(location);
+    is_given && is_kept && was_kept == (how == How::Hit)
+}
+
+#[test]
+fn what_is_not_asked_is_not_looked_at(rt: HostRuntime) {
+    let alloc = rt.alloc();
+    let mut cache: CacheData<LocationMemo> = CacheData::new(alloc);
+    let calls: &[(u64, u64, How, usize)] = &[
+        (3, 40, How::Stored, 1),
+        (3, 41, How::Hit, 1),
+        (4, 41, How::Stored, 2),
+        (4, 40, How::Hit, 2),
+    ];
+    for (location, styles, how, len) in calls {
+        let is_so = is_located(alloc, &mut cache, (*location, *styles), *how);
+        assert!(rt; is_so, "for {location} {styles}");
+        assert_eq!(rt; cache.len(), *len);
     }
 }

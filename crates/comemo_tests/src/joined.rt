@@ -1,33 +1,16 @@
 //! Memoized functions of several arguments, joined into one input.
-ghost use Rattle.std.specs.Prelude.{◌≡◌, [], ◌∷◌, ◌||◌, ◌+◌, ◌%◌, ◌^◌, Bool, false, IfOk, OnOk, OnErr, nat_eq};
+ghost use Rattle.std.specs.Prelude.{◌≡◌, ◌||◌, IfOk, nat_eq};
 ghost use Rattle.std.proofs.Common.{rules};
 ghost use Rattle.comemo.specs.Multi.{OnParts};
 ghost use Rattle.comemo.specs.Meaning.{reading};
 ghost use Rattle.comemo.specs.MeaningLaws.{none_alike};
-ghost use Rattle.comemo_tests.specs.Broken.{IsBroken};
 
-use crate::sinks::send;
 use comemo::{
-    Begun, Breaking, CacheData, CallMap, Fault, First, Hashed, How, MappedSink, Memo, Multi,
-    MultiAnswer, MultiCall, Reply, Second, Sink, Tracked, begin,
+    Begun, CacheData, Fault, First, Hashed, How, Input, Memo, Multi, MultiAnswer, MultiCall, Reply,
+    Second, Top, Track, Tracked, begin,
 };
 use comemo_samples::{Context, ContextCall};
-use std::alloc::{AllocError, Global};
-
-/// Sends a read with its answer through a map. What the sink behind it took is known after the mapped sink is gone.
-pub fn send_through<M: CallMap + Drop, S: Sink<Call = M::To, Answer = M::ToAnswer>>(
-    call: M::From,
-    answer: M::FromAnswer,
-    map: M,
-    sink: &mut S,
-) -> Result<bool, AllocError>
-    requires { M.From.is_write call ≡ false }
-    ensures ok { OnOk result
-        (S.took sink.old sink.new ((M.maps map call, M.maps_answer map answer) ∷ []) []) }
-    ensures err { OnErr result (S.took sink.old sink.new [] []) }
-{
-    send(call, answer, &mut MappedSink::new(sink, map))
-}
+use std::alloc::Global;
 
 /// Whether a number is one of a context's.
 pub struct ContainsMemo;
@@ -64,21 +47,18 @@ impl Memo for ContainsMemo {
 }
 
 /// Whether a number is one of a context's, kept. It asks the second one only where the first is another.
-pub fn contains<S: Sink<Call = MultiCall<(), ContextCall>, Answer = MultiAnswer<(), u64>>>(
+pub fn contains(
     alloc: Global,
     cache: &mut CacheData<ContainsMemo>,
     number: u64,
     context: &Tracked<'_, Context>,
-    sink: &mut S,
 ) -> Result<Reply<bool>, Fault>
-    ensures output { IfOk result
+    ensures { IfOk result
         (λ reply. reply.output ≡
         (nat_eq context.now.location number || nat_eq context.now.styles number)) }
-    ensures err { OnErr result ((cache.new ≡ cache.old)
-        × IsBroken (⟦<S as Breaking>⟧.breaks_off sink.old sink.new)) }
 {
     let mut input = Multi((Hashed(number), context.fork(alloc)));
-    match begin(alloc, cache, &mut input, sink, true)? {
+    match begin(alloc, cache, &mut input, &mut Top::new(), true)? {
         Begun::Hit(output) => Ok(Reply {
             output,
             how: How::Hit,
@@ -87,26 +67,62 @@ pub fn contains<S: Sink<Call = MultiCall<(), ContextCall>, Answer = MultiAnswer<
             let Multi((_, mut view)) = input;
             let Ok(at) = view.ask_through(ContextCall::Location, Second::new(), pending.recording())
             else {
-                pending.give_up(sink);
+                pending.give_up(&mut Top::new());
                 return Err(Fault::Memory);
             };
             if at == number {
-                return pending.finish(cache, sink, true);
+                return pending.finish(cache, &mut Top::new(), true);
             }
             let Ok(by) = view.ask_through(ContextCall::Styles, Second::new(), pending.recording())
             else {
-                pending.give_up(sink);
+                pending.give_up(&mut Top::new());
                 return Err(Fault::Memory);
             };
-            pending.finish(cache, sink, by == number)
+            pending.finish(cache, &mut Top::new(), by == number)
         }
     }
 }
 
-/// The sum of the locations of two contexts, which wraps.
-pub struct LocationsMemo;
+/// Whether it is said so if a number is in a context of the location 3, and this becomes of the call.
+fn says(
+    alloc: Global,
+    cache: &mut CacheData<ContainsMemo>,
+    number: u64,
+    styles: u64,
+    is_in: bool,
+    how: How,
+) -> bool {
+    let context = Context {
+        location: 3,
+        styles,
+    };
+    match contains(alloc, cache, number, &context.track(alloc)) {
+        Ok(reply) => reply.output == is_in && reply.how == how,
+        Err(_) => false,
+    }
+}
 
-impl Memo for LocationsMemo {
+#[test]
+fn a_number_is_looked_for_in_a_context(rt: HostRuntime) {
+    let alloc = rt.alloc();
+    let mut cache = CacheData::new(alloc);
+    let calls: &[(u64, u64, bool, How)] = &[
+        (3, 40, true, How::Stored),
+        (3, 41, true, How::Hit),
+        (40, 40, true, How::Stored),
+        (40, 41, false, How::Stored),
+    ];
+    for (number, styles, is_in, how) in calls {
+        let is_so = says(alloc, &mut cache, *number, *styles, *is_in, *how);
+        assert!(rt; is_so, "for {number} {styles}");
+    }
+    assert_eq!(rt; cache.len(), 3);
+}
+
+/// A function of two contexts of which any output is right.
+pub struct AnyOfTwoMemo;
+
+impl Memo for AnyOfTwoMemo {
     type Call = MultiCall<ContextCall, ContextCall>;
 
     type Key = ((), ());
@@ -115,106 +131,78 @@ impl Memo for LocationsMemo {
 
     type Out = u64;
 
-    ghost use Rattle.comemo_samples.specs.declared.contexts.ContextCall.TheVariants.{Location};
-
-    ghost def = { reading (λ _ answers out. OnParts answers
-        (λ m n. out ≡ (m Location + n Location) % 2 ^ 64)) };
-
-    ghost laws = { record {
-      outputs = λ key m a b writes r d h. (
-        h.0,
-        λ x y p q. Prim.search
-            (rules, h.1 x y p q),
-      );
-      keys = λ j k m output writes r e h. (
-        h.0,
-        λ x y p q. Prim.search
-            (rules, h.1 x y p q),
-      );
-      writes = λ key m output V W r same h. (none_alike _ V W same h.0, h.1);
-      key_clones = Prim.search rules;
-      answer_clones = Prim.search rules;
-    } };
-}
-
-/// The sum of the locations of two contexts, kept. It asks each context once.
-pub fn locations<
-    S: Sink<Call = MultiCall<ContextCall, ContextCall>, Answer = MultiAnswer<u64, u64>>,
->(
-    alloc: Global,
-    cache: &mut CacheData<LocationsMemo>,
-    first: &Tracked<'_, Context>,
-    second: &Tracked<'_, Context>,
-    sink: &mut S,
-) -> Result<Reply<u64>, Fault>
-    ensures output { IfOk result
-        (λ reply. reply.output ≡ (first.now.location + second.now.location) % 2 ^ 64) }
-    ensures err { OnErr result ((cache.new ≡ cache.old)
-        × IsBroken (⟦<S as Breaking>⟧.breaks_off sink.old sink.new)) }
-{
-    let mut input = Multi((first.fork(alloc), second.fork(alloc)));
-    match begin(alloc, cache, &mut input, sink, true)? {
-        Begun::Hit(output) => Ok(Reply {
-            output,
-            how: How::Hit,
-        }),
-        Begun::Run(mut pending) => {
-            let Multi((mut left, mut right)) = input;
-            let Ok(at) = left.ask_through(ContextCall::Location, First::new(), pending.recording())
-            else {
-                pending.give_up(sink);
-                return Err(Fault::Memory);
-            };
-            let Ok(by) = right.ask_through(
-                ContextCall::Location,
-                Second::new(),
-                pending.recording(),
-            ) else {
-                pending.give_up(sink);
-                return Err(Fault::Memory);
-            };
-            pending.finish(cache, sink, at.wrapping_add(by))
-        }
-    }
-}
-
-/// The sum of two numbers, which wraps, as a function of three inputs, of which the last is nothing.
-pub struct ThreeMemo;
-
-impl Memo for ThreeMemo {
-    type Call = MultiCall<(), MultiCall<(), ()>>;
-
-    type Key = (u32, (u32, ()));
-
-    type Answer = MultiAnswer<(), MultiAnswer<(), ()>>;
-
-    type Out = u32;
-
-    ghost def = { reading (λ key _ out. out ≡ (key.0 + key.1.0) % 2 ^ 32) };
+    ghost def = { λ _ _ _ _. Unit {0} };
 
     ghost laws = { Prim.search rules };
 }
 
-/// The sum of two numbers, kept under both and nothing.
-pub fn sum_of_three<
-    S: Sink<Call = MultiCall<(), MultiCall<(), ()>>, Answer = MultiAnswer<(), MultiAnswer<(), ()>>>,
->(
+/// The sum of the locations of two contexts, each asked once, and what became of the call.
+fn sum(
     alloc: Global,
-    cache: &mut CacheData<ThreeMemo>,
-    first: u32,
-    second: u32,
-    sink: &mut S,
-) -> Result<Reply<u32>, Fault>
-    ensures output { IfOk result (λ reply. reply.output ≡ (first + second) % 2 ^ 32) }
-    ensures err { OnErr result ((cache.new ≡ cache.old)
-        × IsBroken (⟦<S as Breaking>⟧.breaks_off sink.old sink.new)) }
-{
-    let mut input = Multi((Hashed(first), Multi((Hashed(second), Multi(())))));
-    match begin(alloc, cache, &mut input, sink, true)? {
-        Begun::Hit(output) => Ok(Reply {
-            output,
-            how: How::Hit,
-        }),
-        Begun::Run(pending) => pending.finish(cache, sink, first.wrapping_add(second)),
+    cache: &mut CacheData<AnyOfTwoMemo>,
+    first: &Context,
+    second: &Context,
+) -> Result<(u64, How), Fault> {
+    let mut input = Multi((first.track(alloc), second.track(alloc)));
+    match begin(alloc, cache, &mut input, &mut Top::new(), true) {
+        Err(fault) => Err(fault),
+        Ok(Begun::Hit(sum)) => Ok((sum, How::Hit)),
+        Ok(Begun::Run(mut pending)) => {
+            let Multi((mut left, mut right)) = input;
+            let read = ContextCall::Location;
+            let at = left.ask_through(read, First::new(), pending.recording());
+            let by = right.ask_through(read, Second::new(), pending.recording());
+            let sum = at.unwrap_or(0).wrapping_add(by.unwrap_or(0));
+            match pending.finish(cache, &mut Top::new(), sum) {
+                Ok(reply) => Ok((reply.output, reply.how)),
+                Err(fault) => Err(fault),
+            }
+        }
     }
+}
+
+/// Whether the sum of the locations of two contexts is given, and this becomes of the call.
+fn sums(
+    alloc: Global,
+    cache: &mut CacheData<AnyOfTwoMemo>,
+    (at, by): (u64, u64),
+    styles: u64,
+    how: How,
+) -> bool {
+    let one = Context {
+        location: at,
+        styles,
+    };
+    let other = Context {
+        location: by,
+        styles,
+    };
+    match sum(alloc, cache, &one, &other) {
+        Ok((sum, became)) => sum == at.wrapping_add(by) && became == how,
+        Err(_) => false,
+    }
+}
+
+#[test]
+fn a_change_of_one_of_two_contexts_is_seen(rt: HostRuntime) {
+    let alloc = rt.alloc();
+    let mut cache = CacheData::new(alloc);
+    let calls: &[((u64, u64), u64, How)] = &[
+        ((3, 5), 1, How::Stored),
+        ((3, 5), 2, How::Hit),
+        ((4, 5), 1, How::Stored),
+        ((5, 3), 1, How::Stored),
+    ];
+    for (locations, styles, how) in calls {
+        let is_so = sums(alloc, &mut cache, *locations, *styles, *how);
+        assert!(rt; is_so, "for {locations:?}");
+    }
+    assert_eq!(rt; cache.len(), 3);
+}
+
+#[test]
+fn no_input_has_no_key(rt: HostRuntime) {
+    let mut nothing = Multi(());
+    let is_so = nothing.key() == Ok(()) && nothing.call(&()) == Ok(());
+    assert!(rt; is_so);
 }

@@ -1,16 +1,12 @@
 //! Runs that are begun, finished and given up by hand.
-ghost use Rattle.std.specs.Prelude.{refl};
 ghost use Rattle.std.proofs.Common.{rules};
 
-use comemo::{
-    Begun, CacheData, Constraint, Fault, How, Keyed, Memo, Pending, Sink, Top, Track, begin,
-};
+use comemo::{Begun, CacheData, Constraint, Fault, How, Keyed, Memo, Pending, Sink, Track, begin};
 use comemo_samples::{Context, ContextCall};
-use std::alloc::Global;
-use std::test::Fail;
+use std::alloc::{AllocError, Global};
 
 /// A function of which any output is right, so that its runs may ask what they like.
-struct AnyMemo;
+pub struct AnyMemo;
 
 impl Memo for AnyMemo {
     type Call = ContextCall;
@@ -26,201 +22,207 @@ impl Memo for AnyMemo {
     ghost laws = { Prim.search rules };
 }
 
-fn top() -> Top<ContextCall, u64> {
-    Top::new()
+/// What a run around takes note of.
+type Recording = Constraint<ContextCall, u64>;
+
+/// The context at a location.
+fn context(location: u64, styles: u64) -> Context {
+    Context { location, styles }
 }
 
-// The call of an input by a key and a context.
-fn begin_any<S: Sink<Call = ContextCall, Answer = u64>>(
+/// The call of an input by a key and a context.
+fn begin_any(
     alloc: Global,
     cache: &mut CacheData<AnyMemo>,
-    key: u64,
     context: &Context,
-    sink: &mut S,
+    outer: &mut Recording,
 ) -> Result<Begun<AnyMemo>, Fault> {
     let mut input = Keyed {
-        key,
+        key: 7,
         view: context.track(alloc),
     };
-    begin(alloc, cache, &mut input, sink, true)
+    begin(alloc, cache, &mut input, outer, true)
 }
 
-// A run that begins; a hit is an error.
+/// A run that begins, where no entry agrees.
 fn begin_run(
     alloc: Global,
     cache: &mut CacheData<AnyMemo>,
     context: &Context,
-) -> Result<Pending<AnyMemo>, Fault> {
-    match begin_any(alloc, cache, 7, context, &mut top())? {
-        Begun::Hit(_) => Err(Fault::Incomplete),
-        Begun::Run(pending) => Ok(pending),
+    outer: &mut Recording,
+) -> Option<Pending<AnyMemo>> {
+    match begin_any(alloc, cache, context, outer) {
+        Ok(Begun::Run(pending)) => Some(pending),
+        Ok(Begun::Hit(_)) => None,
+        Err(_) => None,
     }
 }
 
-#[test]
-fn the_second_of_two_like_runs_exists(rt: HostRuntime) -> Result<(), Fail> {
-    let alloc = rt.alloc();
-    let mut cache = CacheData::new(alloc);
-    let context = Context {
-        location: 3,
-        styles: 40,
-    };
-    let mut first = begin_run(alloc, &mut cache, &context)?;
-    let mut second = match begin_run(alloc, &mut cache, &context) {
-        Ok(second) => second,
-        Err(fault) => {
-            first.give_up(&mut top());
-            return Err(fault)?;
+/// Whether a call is a hit, which gives 6.
+fn is_hit(alloc: Global, cache: &mut CacheData<AnyMemo>, context: &Context) -> bool {
+    let mut outer = Constraint::new(alloc);
+    match begin_any(alloc, cache, context, &mut outer) {
+        Ok(Begun::Hit(output)) => output == 6,
+        Ok(Begun::Run(pending)) => {
+            pending.give_up(&mut outer);
+            false
         }
+        Err(_) => false,
+    }
+}
+
+/// How a run of the output 6 ends.
+fn finish(
+    pending: Pending<AnyMemo>,
+    cache: &mut CacheData<AnyMemo>,
+    outer: &mut Recording,
+) -> Result<How, Fault> {
+    match pending.finish(cache, outer, 6) {
+        Ok(reply) => Ok(reply.how),
+        Err(fault) => Err(fault),
+    }
+}
+
+/// How two runs end that ask where a context is, of which the second begins before the first ends.
+fn end_two(
+    alloc: Global,
+    cache: &mut CacheData<AnyMemo>,
+    context: &Context,
+) -> Option<(Result<How, Fault>, Result<How, Fault>)> {
+    let mut outer = Constraint::new(alloc);
+    let mut first = begin_run(alloc, cache, context, &mut outer)?;
+    let Some(mut second) = begin_run(alloc, cache, context, &mut outer) else {
+        first.give_up(&mut outer);
+        return None;
     };
-    let asked = context
-        .track(alloc)
-        .ask(ContextCall::Location, first.recording())
-        .is_ok();
-    let asked_too = context
-        .track(alloc)
-        .ask(ContextCall::Location, second.recording())
-        .is_ok();
-    let ended = first.finish(&mut cache, &mut top(), 3);
-    let ended_too = second.finish(&mut cache, &mut top(), 3);
-    assert!(rt; asked);
-    assert!(rt; asked_too);
-    let ended = ended?;
-    let ended_too = ended_too?;
-    assert_eq!(rt; ended.how, How::Stored);
-    assert_eq!(rt; ended_too.how, How::AlreadyExists);
-    assert_eq!(rt; ended_too.output, 3);
+    let mut view = context.track(alloc);
+    let asked = view.ask(ContextCall::Location, first.recording());
+    let asked_too = view.ask(ContextCall::Location, second.recording());
+    let have_asked = asked.is_ok() && asked_too.is_ok();
+    let ended = finish(first, cache, &mut outer);
+    let ended_too = finish(second, cache, &mut outer);
+    have_asked.then_some((ended, ended_too))
+}
+
+#[test]
+fn the_second_of_two_like_runs_exists(rt: HostRuntime) {
+    let alloc = rt.alloc();
+    let mut cache = CacheData::new(alloc);
+    let ended = end_two(alloc, &mut cache, &context(3, 40));
+    let is_so = ended == Some((Ok(How::Stored), Ok(How::AlreadyExists)));
+    assert!(rt; is_so);
     assert_eq!(rt; cache.len(), 1);
-    Ok(())
+}
+
+/// Whether a run that is spoiled, or else given up, leaves nothing but a spoiled recording around it.
+fn is_lost(alloc: Global, spoils: bool) -> bool {
+    let mut cache = CacheData::new(alloc);
+    let mut outer = Constraint::new(alloc);
+    let Some(mut pending) = begin_run(alloc, &mut cache, &context(3, 40), &mut outer) else {
+        return false;
+    };
+    let was_whole = outer.is_whole();
+    let is_told = if spoils {
+        pending.recording().spoil();
+        finish(pending, &mut cache, &mut outer) == Err(Fault::Incomplete)
+    } else {
+        pending.give_up(&mut outer);
+        true
+    };
+    was_whole && is_told && !outer.is_whole() && cache.len() == 0
 }
 
 #[test]
-fn a_spoiled_run_is_incomplete(rt: HostRuntime) -> Result<(), Fail> {
-    let alloc = rt.alloc();
-    let mut cache = CacheData::new(alloc);
-    let context = Context {
-        location: 3,
-        styles: 40,
-    };
-    let mut outer = Constraint::new(alloc);
-    let mut pending = begin_run(alloc, &mut cache, &context)?;
-    pending.recording().spoil();
-    let ended = pending.finish(&mut cache, &mut outer, 3);
-    assert_eq!(rt; ended.err(), Some(Fault::Incomplete));
-    assert!(rt; !outer.is_whole());
-    assert_eq!(rt; cache.len(), 0);
-    Ok(())
+fn a_run_that_is_spoiled_or_given_up_spoils_its_sink(rt: HostRuntime) {
+    let is_spoiled = is_lost(rt.alloc(), true);
+    let is_given_up = is_lost(rt.alloc(), false);
+    assert!(rt; is_spoiled);
+    assert!(rt; is_given_up);
 }
 
-#[test]
-fn a_run_that_is_given_up_spoils_its_sink(rt: HostRuntime) -> Result<(), Fail> {
-    let alloc = rt.alloc();
-    let mut cache = CacheData::new(alloc);
-    let context = Context {
-        location: 3,
-        styles: 40,
-    };
-    let mut outer = Constraint::new(alloc);
-    assert!(rt; outer.is_whole());
-    let pending = begin_run(alloc, &mut cache, &context)?;
-    pending.give_up(&mut outer);
-    assert!(rt; !outer.is_whole());
-    assert_eq!(rt; cache.len(), 0);
-    Ok(())
+/// How a call ends whose run asks where a context is.
+fn call(
+    alloc: Global,
+    cache: &mut CacheData<AnyMemo>,
+    context: &Context,
+    outer: &mut Recording,
+) -> Result<How, Fault> {
+    match begin_any(alloc, cache, context, outer) {
+        Err(fault) => Err(fault),
+        Ok(Begun::Hit(_)) => Ok(How::Hit),
+        Ok(Begun::Run(mut run)) => {
+            let _ = context
+                .track(alloc)
+                .ask(ContextCall::Location, run.recording());
+            finish(run, cache, outer)
+        }
+    }
 }
 
-// An outer run whose one read is that of an inner run, begun and finished within it.
-fn run_nested(
+/// How a call ends within a run that asks nothing else, and how the run does.
+fn call_within(
     alloc: Global,
     inner: &mut CacheData<AnyMemo>,
     outer: &mut CacheData<AnyMemo>,
     context: &Context,
-) -> Result<(How, How), Fault> {
-    let mut pending = begin_run(alloc, outer, context)?;
-    let begun = begin_any(alloc, inner, 1, context, pending.recording());
-    let within = match begun {
-        Err(fault) => Err(fault),
-        Ok(Begun::Hit(_)) => Ok(How::Hit),
-        Ok(Begun::Run(mut run)) => {
-            if context
-                .track(alloc)
-                .ask(ContextCall::Location, run.recording())
-                .is_err()
-            {
-                run.give_up(pending.recording());
-                Err(Fault::Memory)
-            } else {
-                run.finish(inner, pending.recording(), 0)
-                    .map(|reply| reply.how)
-            }
-        }
-    };
-    let ended = pending.finish(outer, &mut top(), 0)?;
-    Ok((within?, ended.how))
-}
-
-// Whether a call is a hit.
-fn is_hit(alloc: Global, cache: &mut CacheData<AnyMemo>, context: &Context) -> Result<bool, Fault> {
-    match begin_any(alloc, cache, 7, context, &mut top())? {
-        Begun::Hit(_) => Ok(true),
-        Begun::Run(pending) => {
-            pending.give_up(&mut top());
-            Ok(false)
-        }
-    }
+) -> Option<(Result<How, Fault>, Result<How, Fault>)> {
+    let mut around = Constraint::new(alloc);
+    let mut pending = begin_run(alloc, outer, context, &mut around)?;
+    let within = call(alloc, inner, context, pending.recording());
+    let ended = finish(pending, outer, &mut around);
+    Some((within, ended))
 }
 
 #[test]
-fn an_outer_run_has_the_reads_of_an_inner_one(rt: HostRuntime) -> Result<(), Fail> {
+fn an_outer_run_has_the_reads_of_an_inner_one(rt: HostRuntime) {
     let alloc = rt.alloc();
     let mut inner = CacheData::new(alloc);
-    let mut outer = CacheData::new(alloc);
-    let mut again = CacheData::new(alloc);
-    let here = Context {
-        location: 3,
-        styles: 40,
-    };
-    let turned = Context {
-        location: 3,
-        styles: 41,
-    };
-    let there = Context {
-        location: 5,
-        styles: 40,
-    };
-    let (within, ended) = run_nested(alloc, &mut inner, &mut outer, &here)?;
-    assert_eq!(rt; within, How::Stored);
-    assert_eq!(rt; ended, How::Stored);
-    // By a hit of the inner function the outer run has the same reads.
-    let (within, ended) = run_nested(alloc, &mut inner, &mut again, &here)?;
-    assert_eq!(rt; within, How::Hit);
-    assert_eq!(rt; ended, How::Stored);
-    assert_eq!(rt; outer.len(), 1);
-    assert_eq!(rt; again.len(), 1);
-    for (context, hits) in [(&here, true), (&turned, true), (&there, false)] {
-        assert_eq!(rt; is_hit(alloc, &mut outer, context)?, hits);
-        assert_eq!(rt; is_hit(alloc, &mut again, context)?, hits);
+    // By a run of the inner function and by a hit of it the outer run has the same reads.
+    let hows: &[How] = &[How::Stored, How::Hit];
+    for how in hows {
+        let mut outer = CacheData::new(alloc);
+        let ended = call_within(alloc, &mut inner, &mut outer, &context(3, 40));
+        let is_so = ended == Some((Ok(*how), Ok(How::Stored)));
+        assert!(rt; is_so, "for {how:?}");
+        let is_here = is_hit(alloc, &mut outer, &context(3, 40));
+        let is_turned = is_hit(alloc, &mut outer, &context(3, 41));
+        let is_there = is_hit(alloc, &mut outer, &context(5, 40));
+        assert!(rt; is_here && is_turned && !is_there, "for {how:?}");
+        assert_eq!(rt; outer.len(), 1);
     }
-    Ok(())
+}
+
+/// Records the location 1, and absorbs a recording of the location 9 and the styles 3.
+fn absorb(alloc: Global, recording: &mut Recording) -> Result<(), AllocError> {
+    let _ = recording.emit(ContextCall::Location, Some(1))?;
+    let mut other = Constraint::new(alloc);
+    let _ = other.emit(ContextCall::Location, Some(9))?;
+    let _ = other.emit(ContextCall::Styles, Some(3))?;
+    recording.absorb(other)
+}
+
+/// How a run ends that absorbs another recording.
+fn end_absorbing(alloc: Global, cache: &mut CacheData<AnyMemo>) -> Option<Result<How, Fault>> {
+    let mut outer = Constraint::new(alloc);
+    let mut pending = begin_run(alloc, cache, &context(0, 0), &mut outer)?;
+    let _ = absorb(alloc, pending.recording());
+    Some(finish(pending, cache, &mut outer))
 }
 
 #[test]
-fn a_read_is_recorded_once(rt: HostRuntime) -> Result<(), Fail> {
-    let mut recording = Constraint::new(rt.alloc());
-    assert!(rt; recording.emit(ContextCall::Location, Some(3))?);
-    assert!(rt; !recording.emit(ContextCall::Location, Some(3))?);
-    assert!(rt; recording.emit(ContextCall::Styles, Some(40))?);
-    assert!(rt; !recording.emit(ContextCall::Location, Some(3))?);
-    assert!(rt; recording.is_whole());
-    Ok(())
-}
-
-#[test]
-fn a_top_takes_everything(rt: HostRuntime) -> Result<(), Fail> {
-    let mut sink = top();
-    assert!(rt; sink.emit(ContextCall::Location, Some(3))?);
-    assert!(rt; sink.emit(ContextCall::Location, Some(4))?);
-    sink.spoil();
-    assert!(rt; sink.emit(ContextCall::Location, Some(3))?);
-    Ok(())
+fn a_run_is_kept_for_what_it_absorbed(rt: HostRuntime) {
+    let alloc = rt.alloc();
+    let mut cache = CacheData::new(alloc);
+    let is_stored = end_absorbing(alloc, &mut cache) == Some(Ok(How::Stored));
+    assert!(rt; is_stored);
+    let contexts: &[(u64, u64, bool)] = &[
+        (1, 3, true),
+        (9, 3, false),
+        (1, 4, false),
+        (2, 3, false),
+    ];
+    for (location, styles, hits) in contexts {
+        let is_so = is_hit(alloc, &mut cache, &context(*location, *styles)) == *hits;
+        assert!(rt; is_so, "for {location} {styles}");
+    }
 }

@@ -1,21 +1,18 @@
 use Rattle.std.proofs.Common.{rules, refl, ap, ◌∙◌, ◌++◌, []}
-use Rattle.comemo.proofs.Calls.{of_memory}
 use Rattle.comemo.proofs.JoinedHits.{joined_hit}
-use Rattle.comemo_tests.proofs.Stopping.{joined_never_stops}
 use Rattle.comemo_samples.specs.declared.contexts.ContextCall.TheVariants.{Location, Styles}
 use Rattle.comemo_tests.proofs.Contains.{is_first, is_second}
-use Rattle.comemo_tests.proofs.Failing.{given_up, on_err}
 use Rattle.comemo_tests.proofs.joined.contains.Goals as goal
 
 pub finish-requires : goal.finish-requires
-finish-requires g c =
+finish-requires c =
     let run = rw c.in-Run.is at c.in_ok-output.ensures.run in
     let asks = rw c.recording.ensures.value at c.in-Ok.ensures.ok in
     let pairs = rw run.0.pairs at asks.sent.pairs in
     λ w m r a. (asks.sent.writes ∙ ap (λ ws. ws ++ []) run.0.writes, λ x y p q. let told = rw pairs at a in is_first _ _ _ _ _ _ _ (rw (q _) at told.0) asks.alike asks.gives c.if-at-number.true run.0.has_key)
 
 pub finish-requires-in-Run : goal.finish-requires-in-Run
-finish-requires-in-Run g c =
+finish-requires-in-Run c =
     let run = rw c.in-Run.is at c.in_ok-output.ensures.run in
     let asks = rw c.recording.ensures.value at c.in-Ok.ensures.ok in
     let pairs = rw run.0.pairs at asks.sent.pairs in
@@ -23,22 +20,7 @@ finish-requires-in-Run g c =
     let pairs2 = rw pairs at asks2.sent.pairs in
     λ w m r a. (asks2.sent.writes ∙ ap (λ ws. ws ++ []) (asks.sent.writes ∙ ap (λ ws. ws ++ []) run.0.writes), λ x y p q. let told = rw (pairs2, q Location, q Styles) at a in is_second _ _ _ _ _ _ _ _ _ _ told.0 asks.alike asks.gives c.if-at-number.false told.1.0 asks2.alike asks2.gives run.0.has_key)
 
-pub returns-in-Hit-clause-output : goal.returns-in-Hit-clause-output
-returns-in-Hit-clause-output g c =
+pub returns-in-Hit : goal.returns-in-Hit
+returns-in-Hit c =
     let hit = (rw c.in-Hit.is at c.in_ok-output.ensures.hit).0 in
     rw (← c.fork.ensures) ((joined_hit hit (record { left = λ c d. refl; right = λ c d. refl }) (λ x y h. refl) (λ x y h. search rules)).1 _ _ (λ c. refl) (λ c. refl))
-
-pub returns-in_default-clause-err : goal.returns-in_default-clause-err
-returns-in_default-clause-err g c =
-    let run = rw c.in-Run.is at c.in_ok-output.ensures.run in
-    given_up g.met.S.Sink.starts run.3 _ _ (rw run.2 at c.give_up.ensures)
-
-pub returns-in_default-ask_through-clause-err : goal.returns-in_default-ask_through-clause-err
-returns-in_default-ask_through-clause-err g c =
-    let run = rw c.in-Run.is at c.in_ok-output.ensures.run in
-    given_up g.met.S.Sink.starts run.3 _ _ (rw run.2 at c.give_up-in_default-ask_through.ensures)
-
-pub returns-in_err-output-clause-err : goal.returns-in_err-output-clause-err
-returns-in_err-output-clause-err g c =
-    let memory = of_memory c.in_err-output.field-0.0 _ c.in_err-output.ensures.err (λ write. joined_never_stops write.1 (λ output writes d. d.0) (record { left = λ c d. refl; right = λ c d. refl }) (λ x y h. refl) (λ x y h. search rules)) in
-    on_err c.from_residual.result (memory.0, (memory.2.pairs, memory.2.is_broken))
