@@ -1,5 +1,5 @@
-//! Tests of `comemo_tree` from outside: worked examples with their shapes, wide nodes and long chains, and random steps
-//! beside a plain list.
+//! Tests of `comemo_tree` from outside: random steps beside a plain list, and wide nodes and a long chain with their shapes.
+//! The rows of `bench rows` have worked examples.
 #![tactic(auto)]
 
 #[cfg(test)]
@@ -7,10 +7,6 @@ mod examples;
 #[cfg(test)]
 mod plain;
 #[cfg(test)]
-mod rows;
-#[cfg(test)]
 mod steps;
-#[cfg(test)]
-mod texts;
 #[cfg(test)]
 mod wide;

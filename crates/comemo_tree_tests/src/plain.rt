@@ -1,13 +1,96 @@
 //! A tree as a plain list of entries that is searched whole, written apart from the tree that it is compared with.
+//!
+//! A list of pairs is a number, with a digit to the base 32 for each pair, the first pair's lowest: 1, and three times the
+//! call, and the answer. Calls are below 6 and answers below 3. Such a number is moved and compared without any memory.
 use comemo_base::InsertError;
-use std::alloc::{AllocError, Global};
+use std::alloc::Global;
+
+const BASE: u32 = 32;
+
+/// How many pairs a list has at most.
+pub const MOST: u32 = 6;
+
+/// The digit of a pair.
+fn digit_of(call: u32, answer: u32) -> u32 {
+    call.wrapping_mul(3).wrapping_add(answer).wrapping_add(1)
+}
+
+/// The first pair of a list, or none where it is empty.
+pub fn first_of(pairs: u32) -> Option<(u32, u32)> {
+    let digit = pairs % BASE;
+    if digit == 0 {
+        return None;
+    }
+    Some(((digit - 1) / 3, (digit - 1) % 3))
+}
+
+/// A list without its first pair.
+pub fn rest_of(pairs: u32) -> u32 {
+    pairs / BASE
+}
+
+/// The answer that pairs have for a call.
+pub fn answer_in(pairs: u32, call: u32) -> Option<u32> {
+    let mut left = pairs;
+    for _ in 0..MOST {
+        let (known, answer) = first_of(left)?;
+        if known == call {
+            return Some(answer);
+        }
+        left = rest_of(left);
+    }
+    None
+}
+
+/// The first pairs of a list, and the place of the digit after them.
+#[derive(Clone, Copy, Drop)]
+pub struct Front {
+    pub pairs: u32,
+    place: u32,
+}
+
+impl Front {
+    /// No pair.
+    pub fn new() -> Front {
+        Front { pairs: 0, place: 1 }
+    }
+
+    /// These pairs and one more.
+    pub fn with(self, call: u32, answer: u32) -> Front {
+        let digit = digit_of(call, answer).wrapping_mul(self.place);
+        Front {
+            pairs: self.pairs.wrapping_add(digit),
+            place: self.place.wrapping_mul(BASE),
+        }
+    }
+}
 
 /// A value under a key and a path.
-#[derive(Drop)]
+#[derive(Clone, Copy, Drop)]
 pub struct Entry {
-    pub key: u8,
-    pub path: Vec<(u8, u8)>,
+    pub key: u32,
+    pub path: u32,
     pub value: u32,
+}
+
+impl Entry {
+    /// Whether its path begins with a front.
+    fn begins(self, key: u32, front: Front) -> bool {
+        self.key == key && self.path % front.place.max(1) == front.pairs
+    }
+
+    /// The pair of its path after a front.
+    fn after(self, front: Front) -> Option<(u32, u32)> {
+        first_of(self.path / front.place.max(1))
+    }
+}
+
+/// What a look-up came to: the path that was found and its value, and the calls that were asked, as pairs whose answer is 0.
+#[derive(Clone, Copy, Drop, PartialEq, Eq)]
+pub struct Found {
+    pub value: Option<u32>,
+    pub path: u32,
+    pub asked: u32,
 }
 
 /// All entries, in the order in which they came.
@@ -16,17 +99,8 @@ pub struct Plain {
     pub entries: Vec<Entry>,
 }
 
-/// The answer that pairs have for a call.
-pub fn answer_in(pairs: &[(u8, u8)], call: u8) -> Option<u8> {
-    for (known, answer) in pairs {
-        if *known == call {
-            return Some(*answer);
-        }
-    }
-    None
-}
-
 impl Plain {
+    /// No entry.
     pub fn new(alloc: Global) -> Plain {
         Plain {
             entries: Vec::new(alloc),
@@ -34,76 +108,99 @@ impl Plain {
     }
 
     /// The first entry under a key whose path begins with a front.
-    fn first_from(&self, key: u8, front: &[(u8, u8)]) -> Option<&Entry> {
+    fn first_from(&self, key: u32, front: Front) -> Option<Entry> {
         for entry in &self.entries {
-            if entry.key == key && entry.path.as_slice().starts_with(front) {
-                return Some(entry);
+            if entry.begins(key, front) {
+                return Some(*entry);
             }
         }
         None
     }
 
     /// The path that pairs take under a key.
-    fn path_of(
-        &self,
-        alloc: Global,
-        key: u8,
-        pairs: &[(u8, u8)],
-    ) -> Result<Vec<(u8, u8)>, InsertError> {
-        let mut path: Vec<(u8, u8)> = Vec::new(alloc);
-        for _ in 0..=pairs.len() {
-            let Some(entry) = self.first_from(key, path.as_slice()) else {
+    fn path_of(&self, key: u32, pairs: u32) -> Result<u32, InsertError> {
+        let mut front = Front::new();
+        for _ in 0..=MOST {
+            let Some(entry) = self.first_from(key, front) else {
                 break;
             };
-            let Some(next) = entry.path.get(path.len()) else {
+            let Some((call, _)) = entry.after(front) else {
                 return Err(InsertError::AlreadyExists);
             };
-            let Some(answer) = answer_in(pairs, next.0) else {
+            let Some(answer) = answer_in(pairs, call) else {
                 return Err(InsertError::MissingCall);
             };
-            path.push((next.0, answer))?;
+            front = front.with(call, answer);
         }
-        for pair in pairs {
-            if answer_in(path.as_slice(), pair.0).is_none() {
-                path.push(*pair)?;
+        let mut left = pairs;
+        for _ in 0..MOST {
+            let Some((call, answer)) = first_of(left) else {
+                break;
+            };
+            if answer_in(front.pairs, call).is_none() {
+                front = front.with(call, answer);
             }
+            left = rest_of(left);
         }
-        Ok(path)
+        Ok(front.pairs)
     }
 
     /// Stores a value under a key and the path that pairs take.
-    pub fn insert(
-        &mut self,
-        alloc: Global,
-        key: u8,
-        pairs: &[(u8, u8)],
-        value: u32,
-    ) -> Result<(), InsertError> {
-        let path = self.path_of(alloc, key, pairs)?;
+    pub fn insert(&mut self, key: u32, pairs: u32, value: u32) -> Result<(), InsertError> {
+        let path = self.path_of(key, pairs)?;
         self.entries.push(Entry { key, path, value })?;
         Ok(())
     }
 
-    /// The value of the path under a key that the answers lead to, and the calls that were asked on the way.
-    pub fn look_up(
-        &self,
-        alloc: Global,
-        key: u8,
-        answers: &[u8],
-    ) -> Result<(Option<u32>, Vec<u8>), AllocError> {
-        let mut front: Vec<(u8, u8)> = Vec::new(alloc);
-        let mut asked = Vec::new(alloc);
-        for _ in 0..=answers.len() {
-            let Some(entry) = self.first_from(key, front.as_slice()) else {
+    /// What the answers lead to under a key, which hold one for each call.
+    pub fn look_up(&self, key: u32, answers: u32) -> Found {
+        let mut front = Front::new();
+        let mut asked = Front::new();
+        for _ in 0..=MOST {
+            let Some(entry) = self.first_from(key, front) else {
                 break;
             };
-            let Some(next) = entry.path.get(front.len()) else {
-                return Ok((Some(entry.value), asked));
+            let Some((call, _)) = entry.after(front) else {
+                let (value, path) = (Some(entry.value), entry.path);
+                return Found {
+                    value,
+                    path,
+                    asked: asked.pairs,
+                };
             };
-            asked.push(next.0)?;
-            let answer = answers.get(next.0 as usize).copied().unwrap_or(0);
-            front.push((next.0, answer))?;
+            asked = asked.with(call, 0);
+            front = front.with(call, answer_in(answers, call).unwrap_or(0));
         }
-        Ok((None, asked))
+        Found {
+            value: None,
+            path: 0,
+            asked: asked.pairs,
+        }
     }
+
+    /// Changes the value under a key and the path with these answers, and says whether there is one.
+    pub fn change(&mut self, key: u32, answers: &[u32], value: u32) -> bool {
+        for entry in &mut self.entries {
+            if entry.key == key && has_answers(entry.path, answers) {
+                entry.value = value;
+                return true;
+            }
+        }
+        false
+    }
+}
+
+/// Whether the answers of a path are these.
+fn has_answers(path: u32, answers: &[u32]) -> bool {
+    let mut left = path;
+    for wanted in answers {
+        let Some((_, answer)) = first_of(left) else {
+            return false;
+        };
+        if answer != *wanted {
+            return false;
+        }
+        left = rest_of(left);
+    }
+    left == 0
 }

@@ -1,11 +1,10 @@
 //! Random steps, each done by the tree and by a plain list: both say the same.
-use crate::plain::{Plain, answer_in};
+use crate::plain::{Entry, Found, Front, MOST, Plain, answer_in, first_of, rest_of};
 use comemo_base::{CallSequence, InsertError};
 use comemo_tree::CallTree;
-use std::alloc::{AllocError, Global};
-use std::test::Fail;
+use std::alloc::Global;
 
-type Tree = CallTree<u8, u8, u8, u32>;
+pub type Tree = CallTree<u32, u32, u32, u32>;
 
 /// Numbers that look random, from a seed.
 #[derive(Drop)]
@@ -15,120 +14,192 @@ struct Numbers {
 
 impl Numbers {
     /// The next number below a bound.
-    fn below(&mut self, bound: u64) -> u8 {
+    fn below(&mut self, bound: u64) -> u32 {
         self.state = self
             .state
             .wrapping_mul(6_364_136_223_846_793_005)
             .wrapping_add(1_442_695_040_888_963_407);
-        u8::try_from((self.state >> 33) % bound.max(1)).unwrap_or(0)
+        u32::try_from((self.state >> 33) % bound.max(1)).unwrap_or(0)
     }
 
-    /// Up to so many calls of six, each once, with answers of three.
-    fn pairs(&mut self, alloc: Global, most: u64) -> Result<Vec<(u8, u8)>, AllocError> {
-        let mut pairs: Vec<(u8, u8)> = Vec::new(alloc);
-        let count = self.below(most.saturating_add(1));
-        for _ in 0..count {
+    /// Up to five calls of six, each once, with answers of three.
+    fn pairs(&mut self) -> u32 {
+        let mut front = Front::new();
+        for _ in 0..self.below(6) {
             let call = self.below(6);
             let answer = self.below(3);
-            if answer_in(pairs.as_slice(), call).is_none() {
-                pairs.push((call, answer))?;
+            if answer_in(front.pairs, call).is_none() {
+                front = front.with(call, answer);
             }
         }
-        Ok(pairs)
+        front.pairs
     }
 
     /// An answer to each call.
-    fn answers(&mut self, alloc: Global) -> Result<Vec<u8>, AllocError> {
-        let mut answers = Vec::new(alloc);
-        for _ in 0..6 {
-            answers.push(self.below(3))?;
+    fn answers(&mut self) -> u32 {
+        let mut front = Front::new();
+        for call in 0..6 {
+            front = front.with(call, self.below(3));
         }
-        Ok(answers)
+        front.pairs
     }
 }
 
-fn sequence_of(alloc: Global, pairs: &[(u8, u8)]) -> Result<CallSequence<u8, u8>, AllocError> {
-    let mut sequence = CallSequence::new(alloc);
-    for (call, answer) in pairs {
-        let _ = sequence.insert(*call, *answer)?;
-    }
-    Ok(sequence)
-}
-
-/// What the tree finds under a key by answers, and the calls that it asked.
-fn look_up(
+/// Stores a value in a tree, under a key and the path that pairs take.
+fn insert(
     alloc: Global,
-    tree: &Tree,
-    key: u8,
-    answers: &[u8],
-) -> Result<(Option<u32>, Vec<u8>), AllocError> {
-    let mut asked = Vec::new(alloc);
+    tree: &mut Tree,
+    key: u32,
+    pairs: u32,
+    value: u32,
+) -> Result<(), InsertError> {
+    let mut sequence = CallSequence::new(alloc);
+    let mut left = pairs;
+    for _ in 0..MOST {
+        let Some((call, answer)) = first_of(left) else {
+            break;
+        };
+        let _ = sequence.insert(call, answer)?;
+        left = rest_of(left);
+    }
+    tree.insert(key, sequence, value)
+}
+
+/// Whether a tree gets a value by answers, and asks the calls that are wanted.
+fn gets(tree: &Tree, key: u32, answers: u32, wanted: Found) -> bool {
+    let mut asked = Front::new();
     let found = tree.get(
         &key,
-        &mut |call: &u8| {
-            asked.push(*call)?;
-            Ok(answers.get(*call as usize).copied().unwrap_or(0))
+        &mut |call: &u32| {
+            asked = asked.with(*call, 0);
+            Ok(answer_in(answers, *call).unwrap_or(0))
         },
-    )?;
-    Ok((found.copied(), asked))
+    );
+    let is_wanted = match found {
+        Ok(value) => value.copied() == wanted.value,
+        Err(_) => false,
+    };
+    is_wanted && asked.pairs == wanted.asked
 }
 
-/// The answers of a path.
-fn answers_of(alloc: Global, path: &[(u8, u8)]) -> Result<Vec<u8>, AllocError> {
-    let mut answers = Vec::new(alloc);
-    for pair in path {
-        answers.push(pair.1)?;
+/// The number of a path.
+fn number_of(path: &[(u32, u32)]) -> u32 {
+    let mut front = Front::new();
+    for (call, answer) in path {
+        front = front.with(*call, *answer);
     }
-    Ok(answers)
+    front.pairs
 }
 
-#[test]
-fn the_tree_does_what_the_plain_list_does(rt: HostRuntime) -> Result<(), Fail> {
-    let alloc = rt.alloc();
-    let mut numbers = Numbers { state: 17 };
-    let mut tree: Tree = CallTree::new(alloc);
-    let mut plain = Plain::new(alloc);
-    let mut stored: u32 = 0;
-    for step in 0..100_000_u32 {
+/// Whether a tree finds a path with its value by answers, and asks the calls that are wanted.
+fn finds(tree: &Tree, key: u32, answers: u32, wanted: Found) -> bool {
+    let mut asked = Front::new();
+    let found = tree.find(
+        &key,
+        &mut |call: &u32| {
+            asked = asked.with(*call, 0);
+            Ok(answer_in(answers, *call).unwrap_or(0))
+        },
+    );
+    let is_wanted = match found {
+        Ok(Some((path, value))) => {
+            let is_path = number_of(path.as_slice()) == wanted.path;
+            is_path && wanted.value == Some(*value)
+        }
+        Ok(None) => wanted.value.is_none(),
+        Err(_) => false,
+    };
+    is_wanted && asked.pairs == wanted.asked
+}
+
+/// A tree, and a plain list that is to say the same, and how many values were stored, found and changed.
+#[derive(Drop)]
+struct Both {
+    alloc: Global,
+    tree: Tree,
+    plain: Plain,
+    stored: u32,
+    found: u32,
+    changed: u32,
+}
+
+impl Both {
+    fn new(alloc: Global) -> Both {
+        Both {
+            alloc,
+            tree: CallTree::new(alloc),
+            plain: Plain::new(alloc),
+            stored: 0,
+            found: 0,
+            changed: 0,
+        }
+    }
+
+    /// Whether both say the same to an insertion.
+    fn agree_on_insert(&mut self, key: u32, pairs: u32, value: u32) -> bool {
+        let wanted = self.plain.insert(key, pairs, value);
+        let done = insert(self.alloc, &mut self.tree, key, pairs, value);
+        self.stored = self.stored.saturating_add(u32::from(done.is_ok()));
+        done == wanted && done != Err(InsertError::Memory)
+    }
+
+    /// Whether both find the same.
+    fn agree_on_look_up(&mut self, key: u32, answers: u32) -> bool {
+        let wanted = self.plain.look_up(key, answers);
+        self.found = self.found.saturating_add(u32::from(wanted.value.is_some()));
+        let is_got = gets(&self.tree, key, answers, wanted);
+        is_got && finds(&self.tree, key, answers, wanted)
+    }
+
+    /// Whether both change the same.
+    fn agree_on_change(&mut self, key: u32, answers: &[u32], value: u32) -> bool {
+        let wanted = self.plain.change(key, answers, value);
+        self.changed = self.changed.saturating_add(u32::from(wanted));
+        let is_changed = self
+            .tree
+            .change(&key, answers, |old: &mut u32| *old = value);
+        is_changed == wanted
+    }
+
+    /// Drops the same values from both.
+    fn retain(&mut self, rest: u32) {
+        self.tree.retain(|value: &mut u32| *value % 3 != rest);
+        self.plain
+            .entries
+            .retain(|entry: &Entry| entry.value % 3 != rest);
+    }
+
+    /// Whether both say the same to the next step.
+    fn agree(&mut self, numbers: &mut Numbers, step: u32) -> bool {
         let key = numbers.below(3);
-        match numbers.below(16) {
-            0..7 => {
-                let pairs = numbers.pairs(alloc, 5)?;
-                let sequence = sequence_of(alloc, pairs.as_slice())?;
-                let done = tree.insert(key, sequence, step);
-                let wanted = plain.insert(alloc, key, pairs.as_slice(), step);
-                assert_eq!(rt; done, wanted, "step {step}");
-                if done == Ok(()) {
-                    stored = stored.saturating_add(1);
-                }
-                assert!(rt; done != Err(InsertError::Memory));
-            }
-            7..14 => {
-                let answers = numbers.answers(alloc)?;
-                let (found, asked) = look_up(alloc, &tree, key, answers.as_slice())?;
-                let (wanted, wants) = plain.look_up(alloc, key, answers.as_slice())?;
-                assert_eq!(rt; found, wanted, "step {step}");
-                assert_eq!(rt; asked.as_slice(), wants.as_slice(), "step {step}");
-            }
+        let is_same = match numbers.below(16) {
+            0..7 => self.agree_on_insert(key, numbers.pairs(), step),
+            7..14 => self.agree_on_look_up(key, numbers.answers()),
             14 => {
-                let at = numbers.below(64) as usize;
-                if let Some(entry) = plain.entries.get_mut(at) {
-                    let answers = answers_of(alloc, entry.path.as_slice())?;
-                    entry.value = step;
-                    let key = entry.key;
-                    assert!(rt;
-                        tree.change(&key, answers.as_slice(), |value: &mut u32| *value = step)
-                    );
+                let answers = [numbers.below(3), numbers.below(3), numbers.below(3)];
+                let count = numbers.below(4) as usize;
+                match answers.as_slice().split_at_checked(count) {
+                    Some((front, _)) => self.agree_on_change(key, front, step),
+                    None => false,
                 }
             }
             _ => {
-                let kept = u32::from(numbers.below(3));
-                tree.retain(|value: &mut u32| *value % 3 != kept);
-                plain.entries.retain(|entry| entry.value % 3 != kept);
+                self.retain(numbers.below(3));
+                true
             }
-        }
-        assert_eq!(rt; tree.len(), plain.entries.len(), "step {step}");
+        };
+        is_same && self.tree.len() == self.plain.entries.len()
     }
-    assert!(rt; stored > 10_000, "{stored}");
-    Ok(())
+}
+
+#[test]
+fn the_tree_does_what_the_plain_list_does(rt: HostRuntime) {
+    let mut numbers = Numbers { state: 17 };
+    let mut both = Both::new(rt.alloc());
+    for step in 0..100_000 {
+        assert!(rt; both.agree(&mut numbers, step), "step {step}");
+    }
+    assert!(rt; both.stored > 10_000);
+    assert!(rt; both.found > 1_000);
+    assert!(rt; both.changed > 100);
 }

@@ -1,16 +1,24 @@
-//! Many answers under one node, and long chains: what is found, how many calls are asked, and what a retention drops.
+//! Many answers under one node, many keys, and a long chain: what is found, how many calls are asked, and what a retention
+//! drops.
+use crate::steps::Tree;
 use comemo_base::{CallSequence, InsertError};
-use comemo_tree::CallTree;
-use std::alloc::{AllocError, Global};
-use std::test::Fail;
+use std::alloc::Global;
 
-type Tree = CallTree<u32, u32, u32, u32>;
-
-/// The sequence of one call, with an answer.
-fn one_call(alloc: Global, answer: u32) -> Result<CallSequence<u32, u32>, AllocError> {
+/// Stores a value in a tree, under a key and the calls below a number: the first has this answer, each other its own number.
+fn insert(
+    alloc: Global,
+    tree: &mut Tree,
+    key: u32,
+    calls: u32,
+    first: u32,
+    value: u32,
+) -> Result<(), InsertError> {
     let mut sequence = CallSequence::new(alloc);
-    let _ = sequence.insert(0, answer)?;
-    Ok(sequence)
+    for call in 0..calls {
+        let answer = if call == 0 { first } else { call };
+        let _ = sequence.insert(call, answer)?;
+    }
+    tree.insert(key, sequence, value)
 }
 
 /// The answers of the numbers below 100,003, a prime: all are different, in an order that neither rises nor falls.
@@ -18,95 +26,87 @@ fn scattered(number: u32) -> u32 {
     number.wrapping_mul(7919) % 100_003
 }
 
-/// A tree with one value for each number, under one key, one call and the number's answer.
-fn wide_tree(alloc: Global, count: u32) -> Result<Tree, InsertError> {
-    let mut tree = CallTree::new(alloc);
+/// Whether a tree stores a value for each number below a count, under a key, one call and the number's answer.
+fn fills(alloc: Global, tree: &mut Tree, key: u32, count: u32) -> bool {
     for number in 0..count {
-        tree.insert(0, one_call(alloc, scattered(number))?, number)?;
+        let done = insert(alloc, tree, key, 1, scattered(number), number);
+        if done != Ok(()) {
+            return false;
+        }
     }
-    Ok(tree)
+    true
 }
 
-/// What a tree finds by an answer, and how many calls it asked.
-fn look_up(tree: &Tree, answer: u32) -> Result<(Option<u32>, u32), AllocError> {
+/// Whether a tree finds this by an answer to any call, and asks so many calls.
+fn finds(tree: &Tree, key: u32, answer: u32, wanted: Option<u32>, calls: u32) -> bool {
     let mut asked: u32 = 0;
     let found = tree.get(
-        &0,
+        &key,
         &mut |_: &u32| {
             asked = asked.saturating_add(1);
             Ok(answer)
         },
-    )?;
-    Ok((found.copied(), asked))
+    );
+    let is_wanted = match found {
+        Ok(value) => value.copied() == wanted,
+        Err(_) => false,
+    };
+    is_wanted && asked == calls
 }
 
 #[test]
-fn answers_in_no_order_are_each_found(rt: HostRuntime) -> Result<(), Fail> {
+fn a_hundred_thousand_answers_are_each_found_and_go(rt: HostRuntime) {
     let alloc = rt.alloc();
-    let mut tree = wide_tree(alloc, 5000)?;
-    assert_eq!(rt; tree.shape(), (1, 5000, 5000, 1));
-    for number in 0..5000 {
-        let again = tree.insert(0, one_call(alloc, scattered(number))?, number);
-        assert_eq!(rt; again, Err(InsertError::AlreadyExists));
-        assert_eq!(rt; look_up(&tree, scattered(number))?, (Some(number), 1));
+    let mut tree = Tree::new(alloc);
+    assert!(rt; finds(&tree, 0, 1, None, 0));
+    assert!(rt; fills(alloc, &mut tree, 0, 100_000));
+    assert_eq!(rt; tree.shape(), (1, 100_000, 100_000, 1));
+    for number in 0..100_000 {
+        let answer = scattered(number);
+        let again = insert(alloc, &mut tree, 0, 1, answer, 0);
+        assert!(rt; again == Err(InsertError::AlreadyExists));
+        assert!(rt; finds(&tree, 0, answer, Some(number), 1));
     }
-    for number in 5000..20_000 {
-        assert_eq!(rt; look_up(&tree, scattered(number))?, (None, 1));
-    }
-    assert_eq!(rt; tree.shape(), (1, 5000, 5000, 1));
-    Ok(())
-}
-
-#[test]
-fn a_miss_asks_one_call_and_so_does_a_hit(rt: HostRuntime) -> Result<(), Fail> {
-    let alloc = rt.alloc();
-    let mut tree: Tree = CallTree::new(alloc);
-    let mut in_vain: u32 = 0;
-    for number in 0..1000 {
-        let (found, asked) = look_up(&tree, scattered(number))?;
-        assert_eq!(rt; found, None);
-        in_vain = in_vain.saturating_add(asked);
-        tree.insert(0, one_call(alloc, scattered(number))?, number)?;
-    }
-    // The first look-up is in an empty tree, which asks nothing.
-    assert_eq!(rt; in_vain, 999);
-    for number in 0..1000 {
-        assert_eq!(rt; look_up(&tree, scattered(number))?, (Some(number), 1));
-    }
-    Ok(())
-}
-
-#[test]
-fn a_hundred_thousand_leaves_go(rt: HostRuntime) -> Result<(), Fail> {
-    let alloc = rt.alloc();
-    let mut tree = wide_tree(alloc, 100_000)?;
     assert_eq!(rt; tree.shape(), (1, 100_000, 100_000, 1));
     tree.retain(|value: &mut u32| *value % 2 == 1);
     assert_eq!(rt; tree.shape(), (1, 50_000, 50_000, 1));
     for number in 0..100_000 {
         let kept = if number % 2 == 1 { Some(number) } else { None };
-        assert_eq!(rt; look_up(&tree, scattered(number))?, (kept, 1));
+        assert!(rt; finds(&tree, 0, scattered(number), kept, 1));
     }
     tree.retain(|_: &mut u32| false);
     assert_eq!(rt; tree.shape(), (0, 0, 0, 0));
-    assert_eq!(rt; look_up(&tree, 1)?, (None, 0));
-    Ok(())
+    assert!(rt; finds(&tree, 0, 1, None, 0));
 }
 
 #[test]
-fn a_chain_goes_with_its_leaf(rt: HostRuntime) -> Result<(), Fail> {
+fn a_chain_and_a_wide_node_go_with_their_leaves(rt: HostRuntime) {
     let alloc = rt.alloc();
-    let mut tree: Tree = CallTree::new(alloc);
-    let mut chain = CallSequence::new(alloc);
-    for call in 0..1000 {
-        let _ = chain.insert(call, call)?;
-    }
-    tree.insert(0, chain, 1)?;
-    tree.insert(0, one_call(alloc, 1)?, 2)?;
+    let mut tree = Tree::new(alloc);
+    assert!(rt; insert(alloc, &mut tree, 0, 1000, 0, 20_000) == Ok(()));
+    assert!(rt; insert(alloc, &mut tree, 0, 1, 1, 20_001) == Ok(()));
     assert_eq!(rt; tree.shape(), (1000, 2, 1001, 1));
-    tree.retain(|value: &mut u32| *value == 2);
+    assert!(rt; fills(alloc, &mut tree, 1, 10_000));
+    assert_eq!(rt; tree.shape(), (1001, 10_002, 11_001, 2));
+    tree.retain(|value: &mut u32| *value == 0 || *value >= 20_000);
+    assert_eq!(rt; tree.shape(), (1001, 3, 1002, 2));
+    tree.retain(|value: &mut u32| *value == 20_001);
     assert_eq!(rt; tree.shape(), (1, 1, 1, 1));
-    assert_eq!(rt; look_up(&tree, 0)?, (None, 1));
-    assert_eq!(rt; look_up(&tree, 1)?, (Some(2), 1));
-    Ok(())
+    assert!(rt; finds(&tree, 0, 0, None, 1));
+    assert!(rt; finds(&tree, 0, 1, Some(20_001), 1));
+    assert!(rt; insert(alloc, &mut tree, 0, 1000, 0, 7) == Ok(()));
+    assert_eq!(rt; tree.shape(), (1000, 2, 1001, 1));
+}
+
+#[test]
+fn keys_with_paths_are_counted(rt: HostRuntime) {
+    let alloc = rt.alloc();
+    let mut tree = Tree::new(alloc);
+    for key in 0..100 {
+        assert!(rt; fills(alloc, &mut tree, key, 2));
+    }
+    assert_eq!(rt; tree.shape(), (100, 200, 200, 100));
+    tree.retain(|value: &mut u32| *value == 0);
+    assert_eq!(rt; tree.shape(), (100, 100, 100, 100));
+    assert_eq!(rt; tree.len(), 100);
 }
