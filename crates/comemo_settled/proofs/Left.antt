@@ -1,5 +1,5 @@
 -- Lemmas on what is left of a tree's entries after each value was shown to a test.
-use Rattle.std.proofs.Common.{◌≡◌, ◌<◌, zero, suc, Bool, cond, List, [], ◌∷◌, inl, inr, sym, subst, IsTrue}
+use Rattle.std.proofs.Common.{Bool, List, [], ◌∷◌, inl, inr, sym, subst, IsTrue}
 use Rattle.std.proofs.lemmas.Bool.{cases_Bool}
 use Rattle.std.proofs.lemmas.List.Elements.{All-cons, All-head, All-tail}
 use Rattle.std.specs.List.{All, Any}

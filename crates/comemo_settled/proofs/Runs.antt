@@ -1,5 +1,5 @@
 -- Lemmas on trees all of whose paths are what runs of one function ask.
-use Rattle.std.proofs.Common.{◌≡◌, ◌<◌, zero, Bool, true, false, List, [], ◌∷◌, ◌++◌, length, get_or, refl, sym, ap, ◌∙◌, inl, inr, arith, IsTrue, subst, None, Some, Option, is_some, Result, Ok, Err, OnOk, OnErr, IfOk, IfErr}
+use Rattle.std.proofs.Common.{◌≡◌, zero, Bool, true, false, List, [], ◌∷◌, ◌++◌, get_or, refl, sym, ap, ◌∙◌, inl, inr, arith, IsTrue, subst, None, Some, Option, is_some, Result, Ok, Err, OnOk, OnErr, IfOk, IfErr}
 use Rattle.std.proofs.lemmas.Bool.{cases_Bool, cases_eq}
 use Rattle.std.proofs.lemmas.List.Elements.{All-cons}
 use Rattle.std.proofs.lemmas.List.Sorted.{All-permutation, Contains-permutation}
@@ -9,7 +9,7 @@ use Rattle.std.specs.declared.alloc.AllocError.{AllocError}
 use Rattle.comemo_base.specs.Sequence.{HasDistinctCalls, held}
 use Rattle.comemo_base.specs.Answers.{Respects, Agrees}
 use Rattle.comemo_base.specs.Tree.{Stored, stored, Parts, IsTree}
-use Rattle.comemo_base.specs.Lookup.{under, IsNext, IsAskedFront, FindsAgreeing}
+use Rattle.comemo_base.specs.Lookup.{under, IsNext, FindsAgreeing}
 use Rattle.comemo_base.specs.Insertion.{Has, AllAmong, LacksNextCall, outside, Exists, Misses, IsStem, IsNewPath, IsReason, Adds}
 use Rattle.comemo_base.specs.declared.insertion.InsertError.{InsertError}
 use Rattle.comemo_base.specs.declared.insertion.InsertError.TheVariants.{AlreadyExists, MissingCall, Memory}

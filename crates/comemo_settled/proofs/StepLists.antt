@@ -1,6 +1,6 @@
 -- Lemmas on lists of steps.
 use Rattle.std.proofs.Common.{◌≡◌, ◌⊎◌, ◌↔◌, inl, inr, Bool, List, [], ◌∷◌, ◌++◌, refl, sym, ap, ◌∙◌, IsTrue, subst, append_assoc, append-nil}
-use Rattle.std.specs.List.{All, Any}
+use Rattle.std.specs.List.{Any}
 use Rattle.std.specs.List.Sorted.{IsPermutation}
 use Rattle.std.proofs.lemmas.List.Elements.{All-head, All-tail}
 use Rattle.std.proofs.lemmas.List.Sorted.{Contains-permutation, IsPermutation-sym}
@@ -8,7 +8,7 @@ use Rattle.std.specs.Cmp.{IsEquivalence}
 use Rattle.comemo_base.specs.Tree.{Stored, stored}
 use Rattle.comemo_base.specs.Lookup.{under}
 use Rattle.comemo_base.proofs.Paths.{joined}
-use Rattle.comemo_base.proofs.Under.{Any-here, Any-later, Any-split, Any-weaker, none-from_nothing, Any-under, Any-from_under}
+use Rattle.comemo_base.proofs.Under.{Any-here, Any-later, Any-split, none-from_nothing, Any-under, Any-from_under}
 use Rattle.comemo_settled.specs.Sets.{HasSamePairs, HasSet, AddsSet}
 use Rattle.comemo_settled.specs.StepLists.{IsStep, AreSteps, InsertsSet, IsInsert, FoundRoom, StoresAllSets, StaysThrough, KeepsSets}
 use Rattle.comemo_settled.specs.declared.steps.TreeOp.{TreeOp}

@@ -1,4 +1,4 @@
-use Rattle.std.proofs.Common.{◌≡◌, ◌∙◌, sym, true, refl, ◌<◌, length}
+use Rattle.std.proofs.Common.{◌≡◌, true, ◌<◌, length}
 use Rattle.std.specs.List.{HoldsAt}
 use Rattle.comemo_base.proofs.Behind.{lookup-past, lookup-without, lookup-behind, other_passes}
 use Rattle.comemo_base.proofs.places.Places.take.Goals as goal

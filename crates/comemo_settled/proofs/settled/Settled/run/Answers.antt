@@ -1,4 +1,4 @@
-use Rattle.std.proofs.Common.{◌≡◌, ◌<◌, suc, ◌∷◌, List, length, ap, arith}
+use Rattle.std.proofs.Common.{◌≡◌, suc, ◌∷◌, List, length, ap, arith}
 use Rattle.std.specs.List.{All}
 use Rattle.comemo_settled.specs.StepLists.{InsertsRun}
 use Rattle.comemo_base.proofs.Absorbed.{nil-from_length}
