@@ -4,4 +4,3 @@ pub mod Alike
 pub mod AlikePairs
 pub mod AlikeAsked
 pub mod Found
-pub mod First

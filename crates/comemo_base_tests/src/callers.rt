@@ -32,29 +32,6 @@ pub fn get_by_table<'a, T>(
     }
 }
 
-/// The value whose path agrees with a table of answers, in which each stored call has its place.
-///
-/// The oracle reads the table there without a test, so it can be asked no other call.
-pub fn get_by_whole_table<'a, T>(
-    tree: &'a PlainTree<u128, u8, u128, T>,
-    key: u128,
-    table: &[u128],
-) -> Option<&'a T>
-    requires { All (λ e. All (λ p. p.0 < length table.now) e.path) (under nat_eq tree.now key) }
-    ensures { FindsAgreeing nat_eq nat_eq (under nat_eq tree.now key)
-        (λ c. slice_index table.now c) (option_copied result) }
-{
-    match tree.get(
-        &key,
-        &mut |call: &u8| -> Result<u128, AllocError>
-            requires { call.now < length table.now }
-        { Ok(table[*call as usize]) },
-    ) {
-        Ok(found) => found,
-        Err(_) => unreachable!(),
-    }
-}
-
 /// The path that agrees with a table of answers, and its value. Where an error comes, such a path is stored,
 /// and there was no memory for its clone.
 pub fn find_by_table<'a, T>(
@@ -208,7 +185,7 @@ pub fn find_by_page<'a>(
 mod tests {
     use super::*;
     use crate::rows::{Tree, stores};
-    use std::test::Fail;
+    use std::alloc::Global;
 
     // Whether a tree finds a path and its value under the key 0 by a table of answers.
     fn finds_path(tree: &Tree, table: &[u128], wanted: &[(u8, u128)], value: char) -> bool {
@@ -227,51 +204,67 @@ mod tests {
         let mut tree = PlainTree::new(alloc);
         assert!(rt; stores(alloc, &mut tree, &[(0, 10), (1, 15)], 'f'));
         assert!(rt; stores(alloc, &mut tree, &[(0, 10), (1, 20)], 's'));
+        assert_eq!(rt; tree.len(), 2);
         assert_eq!(rt; get_by_table(&tree, 0, &[10, 20]).copied(), Some('s'));
         assert_eq!(rt; get_by_table(&tree, 0, &[15, 20]).copied(), None);
         assert_eq!(rt; get_by_table(&tree, 1, &[10, 20]).copied(), None);
         assert!(rt; finds_path(&tree, &[10, 15], &[(0, 10), (1, 15)], 'f'));
     }
 
-    #[test]
-    fn a_whole_table_is_read_at_stored_calls(rt: HostRuntime) -> Result<(), Fail> {
-        let mut tree = PlainTree::new(rt.alloc());
-        let mut sequence = CallSequence::new(rt.alloc());
-        assert!(rt; sequence.insert(1, 15)?);
-        tree.insert(0, sequence, 'f')?;
-        let found = get_by_whole_table(&tree, 0, &[10, 15]);
-        assert_eq!(rt; found.copied(), Some('f'));
-        Ok(())
-    }
+    type Pages = PlainTree<String, (), String, u32>;
 
-    #[test]
-    fn what_was_stored_is_found(rt: HostRuntime) -> Result<(), Fail> {
-        let mut tree = PlainTree::new(rt.alloc());
-        let mut sequence = CallSequence::new(rt.alloc());
-        assert!(rt; sequence.insert(0, 10)?);
-        let found = insert_then_get(&mut tree, 0, sequence, 'f', &[10, 15])?;
-        assert_eq!(rt; found.copied(), Some('f'));
-        Ok(())
-    }
-
-    #[test]
-    fn a_page_finds_what_was_stored_for_its_text(rt: HostRuntime) -> Result<(), Fail> {
-        let alloc = rt.alloc();
+    // Stores a value for a text, under the key `page`.
+    fn store_page(
+        alloc: Global,
+        tree: &mut Pages,
+        letters: &str,
+        value: u32,
+    ) -> Result<(), InsertError> {
         let mut sequence = CallSequence::new(alloc);
-        assert!(rt; sequence.insert((), String::from_str(alloc, "Ada")?)?);
-        let mut tree = PlainTree::new(alloc);
-        tree.insert(String::from_str(alloc, "page")?, sequence, 7)?;
-        let key = String::from_str(alloc, "page")?;
-        let mut page = Page {
-            text: String::from_str(alloc, "Ada")?,
+        let _ = sequence.insert((), String::from_str(alloc, letters)?)?;
+        tree.insert(String::from_str(alloc, "page")?, sequence, value)
+    }
+
+    // Whether a page of a text gets this, under the key `page`.
+    fn gets_page(alloc: Global, tree: &Pages, letters: &str, wanted: Option<u32>) -> bool {
+        let Ok(key) = String::from_str(alloc, "page") else {
+            return false;
         };
-        assert_eq!(rt; get_by_page(&tree, &key, &mut page)?.copied(), Some(7));
-        let (path, value) = find_by_page(&tree, &key, &mut page)?.ok_or("no path is found")?;
-        assert_eq!(rt; path.len(), 1);
-        assert_eq!(rt; path[0].1.as_str(), "Ada");
-        assert_eq!(rt; *value, 7);
-        page.text = String::from_str(alloc, "Bea")?;
-        assert_eq!(rt; get_by_page(&tree, &key, &mut page)?.copied(), None);
-        Ok(())
+        let Ok(text) = String::from_str(alloc, letters) else {
+            return false;
+        };
+        let mut page = Page { text };
+        match get_by_page(tree, &key, &mut page) {
+            Ok(found) => found.copied() == wanted,
+            Err(_) => false,
+        }
+    }
+
+    // Whether a page of a text finds the path of its text, with a value, under the key `page`.
+    fn finds_page(alloc: Global, tree: &Pages, letters: &str, wanted: u32) -> bool {
+        let Ok(key) = String::from_str(alloc, "page") else {
+            return false;
+        };
+        let Ok(text) = String::from_str(alloc, letters) else {
+            return false;
+        };
+        let mut page = Page { text };
+        match find_by_page(tree, &key, &mut page) {
+            Ok(Some((path, value))) => {
+                let is_text = path.len() == 1 && path[0].1.as_str() == letters;
+                is_text && *value == wanted
+            }
+            _ => false,
+        }
+    }
+
+    #[test]
+    fn a_page_finds_what_was_stored_for_its_text(rt: HostRuntime) {
+        let alloc = rt.alloc();
+        let mut tree = PlainTree::new(alloc);
+        assert!(rt; store_page(alloc, &mut tree, "Ada", 7) == Ok(()));
+        assert!(rt; gets_page(alloc, &tree, "Ada", Some(7)));
+        assert!(rt; gets_page(alloc, &tree, "Bea", None));
+        assert!(rt; finds_page(alloc, &tree, "Ada", 7));
     }
 }

@@ -37,63 +37,44 @@ fn the_short_number_is_the_low_half(rt: HostRuntime) {
     }
 }
 
-#[test]
-fn a_short_number_is_written_as_its_bytes(rt: HostRuntime) {
-    for count in 0..8 {
-        let held = begun(count);
-        let mut byte = held;
-        byte.write_u8(0xa1);
-        assert_eq!(rt;
-            byte.finish128(),
-            number_after(held, &[0xa1]),
-            "u8 after {count}"
-        );
-        let mut short = held;
-        short.write_u16(0xa1b2);
-        assert_eq!(rt;
-            short.finish128(),
-            number_after(held, &[0xb2, 0xa1]),
-            "u16 after {count}"
-        );
-        let mut word = held;
-        word.write_u32(0xa1b2_c3d4);
-        let bytes = [0xd4, 0xc3, 0xb2, 0xa1];
-        assert_eq!(rt;
-            word.finish128(),
-            number_after(held, &bytes),
-            "u32 after {count}"
-        );
-    }
+// Whether numbers of 8, 16 and 32 bits are written as their bytes, after so many bytes.
+fn writes_short_numbers(count: u8) -> bool {
+    let held = begun(count);
+    let mut byte = held;
+    byte.write_u8(0xa1);
+    let is_byte = byte.finish128() == number_after(held, &[0xa1]);
+    let mut short = held;
+    short.write_u16(0xa1b2);
+    let is_short = short.finish128() == number_after(held, &[0xb2, 0xa1]);
+    let mut word = held;
+    word.write_u32(0xa1b2_c3d4);
+    let is_word = word.finish128() == number_after(held, &[0xd4, 0xc3, 0xb2, 0xa1]);
+    is_byte && is_short && is_word
+}
+
+// Whether numbers of 64 and 128 bits are written as their bytes, after so many bytes.
+fn writes_long_numbers(count: u8) -> bool {
+    let low: &[u8] = &[0x18, 0x07, 0xf6, 0xe5, 0xd4, 0xc3, 0xb2, 0xa1];
+    let high: &[u8] = &[0x96, 0x85, 0x74, 0x63, 0x52, 0x41, 0x30, 0x29];
+    let held = begun(count);
+    let mut long = held;
+    long.write_u64(0xa1b2_c3d4_e5f6_0718);
+    let is_long = long.finish128() == number_after(held, low);
+    let mut size = held;
+    size.write_usize(0xa1b2_c3d4_e5f6_0718);
+    let is_size = size.finish128() == number_after(held, low);
+    let mut huge = held;
+    huge.write_u128(0x2930_4152_6374_8596_a1b2_c3d4_e5f6_0718);
+    let mut bytes = held;
+    bytes.write(low);
+    let is_huge = huge.finish128() == number_after(bytes, high);
+    is_long && is_size && is_huge
 }
 
 #[test]
-fn a_long_number_is_written_as_its_bytes(rt: HostRuntime) {
-    let low = [0x18, 0x07, 0xf6, 0xe5, 0xd4, 0xc3, 0xb2, 0xa1];
+fn a_number_is_written_as_its_bytes(rt: HostRuntime) {
     for count in 0..8 {
-        let held = begun(count);
-        let mut long = held;
-        long.write_u64(0xa1b2_c3d4_e5f6_0718);
-        assert_eq!(rt;
-            long.finish128(),
-            number_after(held, &low),
-            "u64 after {count}"
-        );
-        let mut size = held;
-        size.write_usize(0xa1b2_c3d4_e5f6_0718);
-        assert_eq!(rt;
-            size.finish128(),
-            number_after(held, &low),
-            "usize after {count}"
-        );
-        let mut huge = held;
-        huge.write_u128(0x2930_4152_6374_8596_a1b2_c3d4_e5f6_0718);
-        let mut bytes = held;
-        bytes.write(&low);
-        let high = [0x96, 0x85, 0x74, 0x63, 0x52, 0x41, 0x30, 0x29];
-        assert_eq!(rt;
-            huge.finish128(),
-            number_after(bytes, &high),
-            "u128 after {count}"
-        );
+        assert!(rt; writes_short_numbers(count), "after {count} bytes");
+        assert!(rt; writes_long_numbers(count), "after {count} bytes");
     }
 }

@@ -59,25 +59,11 @@ pub fn update_and_hash<T: Hash + Tagged, F: FnOnce(&mut T)>(
     (hash(value), hash(&hash_any(item)))
 }
 
-/// Puts another item in the place of a value's, and gives the hash of the value and that of one made anew: both are the
-/// same.
-pub fn replace_and_hash<T: Hash + Tagged + Copy + Drop>(
-    value: &mut Prehashed<T>,
-    item: T,
-) -> (u128, u128)
-    ensures item { value.new ≡ item }
-    ensures number { result.0 ≡ result.1 }
-{
-    value.update(|old| *old = item);
-    (hash(value), hash(&Prehashed::new(item)))
-}
-
 #[cfg(test)]
 mod tests {
     use super::*;
     use comemo_base::SipHasher13;
     use std::hash::Hasher;
-    use std::test::Fail;
 
     // The hash of some bytes, with both keys 0.
     fn number_of(bytes: &[u8]) -> u128 {
@@ -86,69 +72,33 @@ mod tests {
         hasher.finish128()
     }
 
-    #[test]
-    fn a_value_follows_its_item(rt: HostRuntime) -> Result<(), Fail> {
-        let alloc = rt.alloc();
-        let mut value = Prehashed::new(7u32);
-        assert_eq!(rt; format!(in alloc; "{value:?}")?.as_str(), "7");
+    // Whether a value has the item 7, and not another's.
+    fn is_seven(value: Prehashed<u32>, other: Prehashed<u32>) -> bool {
+        let is_item = *value == 7;
+        let is_equal = value == Prehashed::new(7);
+        let is_other = value == other;
+        let is_taken = value.into_inner() == 7;
+        is_item && is_equal && !is_other && is_taken
+    }
+
+    // Whether a value and a clone of it keep their item where the value's own place gets another.
+    fn stays_apart(mut value: Prehashed<u32>) -> bool {
+        let copied = value;
+        let Ok(cloned) = value.clone() else {
+            return false;
+        };
         let old = value.update(|item| {
             let old = *item;
             *item = 8;
             old
         });
-        assert_eq!(rt; old, 7);
-        assert_eq!(rt; format!(in alloc; "{value:?}")?.as_str(), "8");
-        assert_eq!(rt; *value, 8);
-        assert!(rt; value == Prehashed::new(8u32));
-        assert!(rt; value != Prehashed::new(7u32));
-        Ok(())
+        let is_changed = old == 7 && *value == 8;
+        is_changed && is_seven(copied, value) && is_seven(cloned, value)
     }
 
     #[test]
-    fn a_value_feeds_the_bytes_of_its_number(rt: HostRuntime) {
-        let number = number_of(&[3, 0, 0, 0, 0, 0, 0, 0, 8, 0, 0, 0]);
-        assert_eq!(rt; hash_any(&8u32), number);
-        let mut value = Prehashed::new(7u32);
-        value.update(|item| *item = 8);
-        assert_eq!(rt; hash(&value), number_of(&hash_any(&8u32).to_le_bytes()));
-        assert_eq!(rt; hash(&value), number_of(&number.to_le_bytes()));
-        assert_eq!(rt; hash(&Prehashed::from(8u32)), hash(&value));
-    }
-
-    #[test]
-    fn a_number_is_copied_and_cloned(rt: HostRuntime) -> Result<(), Fail> {
-        let mut value = Prehashed::new(7u32);
-        let copied = value;
-        let cloned = value.clone()?;
-        value.update(|item| *item = 8);
-        for other in [copied, cloned] {
-            assert_eq!(rt; *other, 7);
-            assert!(rt; other == Prehashed::new(7u32));
-            assert!(rt; other != value);
-            assert_eq!(rt; other.into_inner(), 7);
-        }
-        Ok(())
-    }
-
-    #[test]
-    fn a_text_comes_out_again(rt: HostRuntime) -> Result<(), Fail> {
-        let alloc = rt.alloc();
-        let mut value = Prehashed::new(String::from_str(alloc, "Ada")?);
-        assert_eq!(rt; value.as_str(), "Ada");
-        assert_eq!(rt; format!(in alloc; "{value:?}")?.as_str(), "\"Ada\"");
-        value.update(|text| text.push_str(" Byron"))?;
-        assert!(rt; value == Prehashed::new(String::from_str(alloc, "Ada Byron")?));
-        assert!(rt; value != Prehashed::new(String::from_str(alloc, "Ada")?));
-        assert_eq!(rt; value.into_inner().as_str(), "Ada Byron");
-        Ok(())
-    }
-
-    #[test]
-    fn the_default_is_made_of_the_default(rt: HostRuntime) {
-        let value: Prehashed<u32> = Prehashed::default();
-        assert_eq!(rt; *value, 0);
-        assert!(rt; value == Prehashed::new(0u32));
-        assert_eq!(rt; take_default::<u64>(), 0);
+    fn a_number_is_copied_and_cloned(rt: HostRuntime) {
+        assert!(rt; stays_apart(Prehashed::new(7)));
     }
 
     #[test]
@@ -159,11 +109,11 @@ mod tests {
         assert!(rt; equals_a_second(7));
         let (from, new) = make_both_ways(-3i16);
         assert!(rt; from == new);
-        assert_eq!(rt; read_and_take(new), (-3, -3));
+        assert!(rt; read_and_take(new) == (-3, -3));
+        assert_eq!(rt; take_default::<u64>(), 0);
         let mut value = Prehashed::new(7u8);
         let number = number_of(&[1, 0, 0, 0, 0, 0, 0, 0, 9]);
         let fed = number_of(&number.to_le_bytes());
-        assert_eq!(rt; update_and_hash(&mut value, |item| *item = 9), (fed, fed));
-        assert_eq!(rt; replace_and_hash(&mut value, 9), (fed, fed));
+        assert!(rt; update_and_hash(&mut value, |item| *item = 9) == (fed, fed));
     }
 }

@@ -1,7 +1,6 @@
-//! Worked examples of sequences and trees: calls are bytes, answers numbers. The rows of `bench rows` have more.
+//! Worked examples of sequences: calls are bytes, answers numbers. The rows of `bench rows` have more, and those of trees.
 use comemo_base::{CallSequence, PlainTree};
-use std::alloc::{AllocError, Global};
-use std::test::Fail;
+use std::alloc::Global;
 
 pub(crate) type Tree = PlainTree<u128, u8, u128, char>;
 
@@ -23,11 +22,14 @@ fn leaves_out(sequence: &mut CallSequence<u8, u128>, call: u8, answer: u128) -> 
 // Whether the remaining pairs of a sequence are these, in this order.
 fn has_pairs(sequence: &CallSequence<u8, u128>, pairs: &[(u8, u128)]) -> bool {
     let mut left = pairs;
-    for pair in sequence.slots().iter().flatten() {
+    for slot in sequence.slots() {
+        let Some((call, answer)) = slot else {
+            continue;
+        };
         let Some((first, rest)) = left.split_first() else {
             return false;
         };
-        if first != pair {
+        if first.0 != *call || first.1 != *answer {
             return false;
         }
         left = rest;
@@ -41,52 +43,6 @@ pub(crate) fn stores(alloc: Global, tree: &mut Tree, pairs: &[(u8, u128)], value
     let is_taken = takes(&mut sequence, pairs);
     let is_stored = tree.insert(0, sequence, value).is_ok();
     is_taken && is_stored
-}
-
-// The answer of a table to a call. One that the table lacks is refused.
-fn answer_in(table: &[(u8, u128)], call: u8) -> Result<u128, AllocError> {
-    for (known, answer) in table {
-        if *known == call {
-            return Ok(*answer);
-        }
-    }
-    Err(AllocError)
-}
-
-// Whether a tree finds a value by the answers of a table.
-fn finds(tree: &Tree, table: &[(u8, u128)], value: char) -> bool {
-    match tree.get(&0, &mut |call: &u8| answer_in(table, *call)) {
-        Ok(Some(found)) => *found == value,
-        _ => false,
-    }
-}
-
-// Whether a tree finds a path and its value by the answers of a table.
-fn finds_path(tree: &Tree, table: &[(u8, u128)], wanted: &[(u8, u128)], value: char) -> bool {
-    match tree.find(&0, &mut |call: &u8| answer_in(table, *call)) {
-        Ok(Some((path, found))) => {
-            let is_wanted = path.as_slice() == wanted;
-            is_wanted && *found == value
-        }
-        _ => false,
-    }
-}
-
-#[test]
-fn a_path_follows_the_stored_ones_and_then_the_sequence(rt: HostRuntime) {
-    let alloc = rt.alloc();
-    let mut tree = PlainTree::new(alloc);
-    let first: &[(u8, u128)] = &[(b'a', 10), (b'b', 15)];
-    let second: &[(u8, u128)] = &[(b'a', 10), (b'c', 15), (b'b', 20)];
-    let third: &[(u8, u128)] = &[(b'a', 15), (b'b', 30), (b'c', 15)];
-    assert!(rt; stores(alloc, &mut tree, first, 'f'));
-    assert!(rt; stores(alloc, &mut tree, second, 's'));
-    assert!(rt; stores(alloc, &mut tree, third, 't'));
-    assert!(rt; finds(&tree, first, 'f'));
-    assert!(rt; finds(&tree, second, 's'));
-    assert!(rt; finds(&tree, third, 't'));
-    let path: &[(u8, u128)] = &[(b'a', 10), (b'b', 20), (b'c', 15)];
-    assert!(rt; finds_path(&tree, second, path, 's'));
 }
 
 #[test]
@@ -110,53 +66,20 @@ fn a_sequence_absorbs_what_it_never_saw(rt: HostRuntime) {
     assert!(rt; leaves_out(&mut left, b'e', 6));
 }
 
-#[test]
-fn entries_and_remaining_pairs_are_counted(rt: HostRuntime) {
-    let alloc = rt.alloc();
-    let mut tree = Tree::new(alloc);
-    assert_eq!(rt; tree.len(), 0);
-    assert!(rt; stores(alloc, &mut tree, &[(b'a', 1)], 'x'));
-    assert_eq!(rt; tree.len(), 1);
-    let mut sequence = CallSequence::new(alloc);
-    assert!(rt; takes(&mut sequence, &[(b'a', 1), (b'b', 2), (b'c', 3)]));
-    assert_eq!(rt; sequence.extract(&b'b'), Some(2));
-    assert!(rt; has_pairs(&sequence, &[(b'a', 1), (b'c', 3)]));
+// Whether a sequence of pairs, of which two have one call, has the first of these alone.
+fn keeps_first_pairs(alloc: Global) -> bool {
+    let given: &[(u8, u128)] = &[(b'a', 1), (b'b', 2), (b'a', 9)];
+    let Ok(mut sequence) = CallSequence::from_pairs(alloc, given.iter().copied()) else {
+        return false;
+    };
+    let first = sequence.next();
+    let second = sequence.next();
+    let third = sequence.next();
+    let is_left_out = leaves_out(&mut sequence, b'a', 5);
+    first == Some((b'a', 1)) && second == Some((b'b', 2)) && third.is_none() && is_left_out
 }
 
 #[test]
-fn the_first_pair_of_a_call_is_taken(rt: HostRuntime) -> Result<(), Fail> {
-    let given = [(b'a', 1), (b'b', 2), (b'a', 9)];
-    let mut sequence: CallSequence<u8, u128> = CallSequence::from_pairs(rt.alloc(), given)?;
-    assert_eq!(rt; sequence.next(), Some((b'a', 1)));
-    assert_eq!(rt; sequence.next(), Some((b'b', 2)));
-    assert_eq!(rt; sequence.next(), None);
-    assert!(rt; !sequence.insert(b'a', 5)?);
-    assert_eq!(rt; sequence.next(), None);
-    Ok(())
-}
-
-#[test]
-fn no_pairs_make_an_empty_sequence(rt: HostRuntime) -> Result<(), Fail> {
-    let alloc = rt.alloc();
-    let none: Vec<(u8, u128)> = Vec::new(alloc);
-    let mut sequence = CallSequence::from_pairs(alloc, none)?;
-    assert_eq!(rt; sequence.next(), None);
-    assert!(rt; sequence.insert(b'a', 5)?);
-    assert_eq!(rt; sequence.next(), Some((b'a', 5)));
-    Ok(())
-}
-
-#[test]
-fn a_sequence_is_made_of_what_an_iterator_gives(rt: HostRuntime) -> Result<(), Fail> {
-    let calls = [b'a', b'b', b'c', b'b'];
-    let pairs = calls
-        .iter()
-        .filter(|call| **call != b'a')
-        .map(|call| (*call, u128::from(*call)));
-    let mut sequence = CallSequence::from_pairs(rt.alloc(), pairs)?;
-    assert_eq!(rt; sequence.next(), Some((98, 98)));
-    assert_eq!(rt; sequence.next(), Some((99, 99)));
-    assert_eq!(rt; sequence.next(), None);
-    assert!(rt; sequence.insert(b'a', 1)?);
-    Ok(())
+fn the_first_pair_of_a_call_is_taken(rt: HostRuntime) {
+    assert!(rt; keeps_first_pairs(rt.alloc()));
 }
