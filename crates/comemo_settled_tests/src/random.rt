@@ -4,7 +4,6 @@ use crate::comparison::compare;
 use crate::sets::{Machine, Pair, PlainSets};
 use comemo_settled::TreeReply;
 use std::alloc::{AllocError, Global};
-use std::test::Fail;
 
 /// What a machine does wrongly.
 #[derive(Clone, Copy, Drop, Debug, PartialEq, Eq)]
@@ -67,9 +66,9 @@ impl Machine for Faulty {
         match self.wrong {
             Wrong::FindsNothing => None,
             Wrong::FindsUnderAnyKey => {
-                let others = [key, 1, 2, 3, 4];
+                let others: &[u64] = &[key, 1, 2, 3, 4];
                 for other in others {
-                    if let Some(value) = self.sets.get(other, table) {
+                    if let Some(value) = self.sets.get(*other, table) {
                         return Some(value);
                     }
                 }
@@ -102,19 +101,18 @@ impl Machine for Faulty {
 }
 
 #[test]
-fn a_hundred_thousand_steps_are_those_of_a_map_of_sets(rt: HostRuntime) -> Result<(), Fail> {
+fn a_hundred_thousand_steps_are_those_of_a_map_of_sets(rt: HostRuntime) {
     let alloc = rt.alloc();
     for seed in 1..6_u64 {
         let first = compare(alloc, PlainSets::new(alloc), seed, 20_000);
-        assert_eq!(rt; first, None);
+        assert!(rt; first.is_none());
     }
-    Ok(())
 }
 
 #[test]
-fn each_fault_of_a_machine_is_found(rt: HostRuntime) -> Result<(), Fail> {
+fn each_fault_of_a_machine_is_found(rt: HostRuntime) {
     let alloc = rt.alloc();
-    for wrong in [
+    let kinds: &[Wrong] = &[
         Wrong::Nothing,
         Wrong::TellsOrdersApart,
         Wrong::ComparesFirstPairs,
@@ -124,10 +122,11 @@ fn each_fault_of_a_machine_is_found(rt: HostRuntime) -> Result<(), Fail> {
         Wrong::KeepsAll,
         Wrong::DropsOneMore,
         Wrong::LeavesValues,
-    ] {
+    ];
+    for kind in kinds {
+        let wrong = *kind;
         let sets = PlainSets::new(alloc);
         let first = compare(alloc, Faulty { sets, wrong }, 1, 5_000);
-        assert_eq!(rt; first.is_none(), wrong == Wrong::Nothing, "{wrong:?}");
+        assert!(rt; first.is_none() == (wrong == Wrong::Nothing), "{wrong:?}");
     }
-    Ok(())
 }

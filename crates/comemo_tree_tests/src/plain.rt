@@ -1,7 +1,7 @@
 //! A tree as a plain list of entries that is searched whole, written apart from the tree that it is compared with.
 //!
-//! A list of pairs is a number, with a digit to the base 32 for each pair, the first pair's lowest: 1, and three times the
-//! call, and the answer. Calls are below 6 and answers below 3. Such a number is moved and compared without any memory.
+//! Calls are below 6 and answers below 3. A list of pairs is a number to the base 32, with a digit for each pair, the first
+//! pair's lowest. A digit is 1 more than three times the call plus the answer.
 use comemo_base::InsertError;
 use std::alloc::Global;
 
@@ -86,7 +86,7 @@ impl Entry {
 }
 
 /// What a look-up came to: the path that was found and its value, and the calls that were asked, as pairs whose answer is 0.
-#[derive(Clone, Copy, Drop, PartialEq, Eq)]
+#[derive(Clone, Copy, Drop)]
 pub struct Found {
     pub value: Option<u32>,
     pub path: u32,
