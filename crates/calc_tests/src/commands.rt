@@ -22,6 +22,7 @@ fn a_line_asks_for_its_command(rt: HostRuntime) {
         ("write a", "Some(Write(\"a\", \"\"))"),
         ("write a ", "Some(Write(\"a\", \"\"))"),
         ("write a b c", "Some(Write(\"a\", \"b c\"))"),
+        ("write a 1 + 2", "Some(Write(\"a\", \"1 + 2\"))"),
         ("write a  b", "Some(Write(\"a\", \" b\"))"),
         ("write a b ", "Some(Write(\"a\", \"b \"))"),
         ("write a\tb c", "Some(Write(\"a\\tb\", \"c\"))"),

@@ -6,8 +6,6 @@ mod commands;
 #[cfg(test)]
 mod evaluation;
 #[cfg(test)]
-mod examples;
-#[cfg(test)]
 mod files;
 #[cfg(test)]
 mod lines;
@@ -15,7 +13,5 @@ mod lines;
 mod scripts;
 #[cfg(test)]
 mod starts;
-#[cfg(test)]
-mod states;
 #[cfg(test)]
 mod texts;

@@ -2,6 +2,7 @@
 use calc_lines::{RunFault, Session, run, start};
 use std::alloc::{AllocError, Global};
 use std::io::{BufReader, Error, ErrorKind, Read, Result as IoResult, Write};
+use std::slice;
 use std::test::Fail;
 
 /// Answers `>LINE` for each line, prints nothing for `quiet`, and has no memory for `large`.
@@ -29,19 +30,6 @@ impl Session for Echo {
             "large" => Err(AllocError),
             _ => format!(in self.alloc; ">{line}\n"),
         }
-    }
-}
-
-/// Gives its bytes, then fails in this way.
-#[derive(Drop)]
-struct Broken<'a>(&'a [u8], ErrorKind);
-
-impl Read for Broken<'_> {
-    fn read(&mut self, buf: &mut [u8]) -> IoResult<usize> {
-        if self.0.is_empty() {
-            return Err(Error::from(self.1));
-        }
-        self.0.read(buf)
     }
 }
 
@@ -114,27 +102,73 @@ impl Write for Slow {
     }
 }
 
-/// Whether a run over these bytes ends well, writes this text, and asks so many lines.
-fn answers(alloc: Global, input: &[u8], want: &str, asked: u8) -> bool {
-    let mut out: Vec<u8> = Vec::new(alloc);
-    let mut echo = Echo::new(alloc);
-    let mut input = input;
-    let is_well = run(alloc, &mut input, &mut out, &mut echo) == Ok(());
-    let is_text = out.as_slice() == want.as_bytes();
-    is_well && is_text && echo.asked == asked
+/// How a run ended, what it wrote, what it left of its input, and how many lines it asked.
+#[derive(Clone, Copy)]
+struct Ran<'a> {
+    ended: Result<(), RunFault>,
+    wrote: &'a str,
+    left: &'a [u8],
+    asked: u8,
 }
 
-/// Whether a run whose input fails in this way after a line and a part of one ends with this fault, and has answered
-/// the line.
-fn breaks(alloc: Global, kind: ErrorKind, fault: RunFault) -> bool {
-    let Ok(mut reader) = BufReader::new(alloc, Broken(b"a\nb", kind)) else {
-        return false;
-    };
-    let mut out: Vec<u8> = Vec::new(alloc);
+/// Whether a run over these bytes, with a writer of this room, ends so.
+fn runs(alloc: Global, input: &[u8], room: usize, fails: bool, want: Ran<'_>) -> bool {
+    let taken = Vec::new(alloc);
+    let mut full = Full { taken, room, fails };
     let mut echo = Echo::new(alloc);
-    let is_fault = run(alloc, &mut reader, &mut out, &mut echo) == Err(fault);
-    let is_text = out.as_slice() == b">a\n".as_slice();
-    is_fault && is_text
+    let mut input = input;
+    let is_ended = run(alloc, &mut input, &mut full, &mut echo) == want.ended;
+    let is_written = full.taken.as_slice() == want.wrote.as_bytes();
+    is_ended && is_written && input == want.left && echo.asked == want.asked
+}
+
+#[test]
+fn answers_each_line(rt: HostRuntime) {
+    let alloc = rt.alloc();
+    let cases: &[(&[u8], &str, u8)] = &[
+        (b"a\n\nb", ">a\n>b\n", 2),
+        (b"a\r\n\nb", ">a\n>b\n", 2),
+        (b"", "", 0),
+        (b"\n\n\r\n\n", "", 0),
+        (b"a\nb", ">a\n>b\n", 2),
+        (b"a\nb\n", ">a\n>b\n", 2),
+        (b"a\r", ">a\r\n", 1),
+        (b"\r", ">\r\n", 1),
+        (b"a\r\r\n", ">a\r\n", 1),
+        (b"a\rb\n", ">a\rb\n", 1),
+        (b"quiet\na\n", ">a\n", 2),
+        (b"a\nlarge\nb\n", ">a\nout of memory\n>b\n", 3),
+    ];
+    for (input, wrote, asked) in cases {
+        let want = Ran {
+            ended: Ok(()),
+            wrote: *wrote,
+            left: b"",
+            asked: *asked,
+        };
+        assert!(rt; runs(alloc, *input, 99, true, want), "for {input:?}");
+    }
+}
+
+#[test]
+fn a_failed_write_or_a_line_that_is_no_text_ends_the_run(rt: HostRuntime) {
+    let alloc = rt.alloc();
+    let cases: &[(&[u8], usize, bool, RunFault, &str)] = &[
+        (b"a\nb\nc\n", 3, true, RunFault::Write, ">a\n"),
+        (b"a\nb\nc\n", 5, true, RunFault::Write, ">a\n>b"),
+        (b"a\nb\nc\n", 3, false, RunFault::Write, ">a\n"),
+        (b"a\nb\n\xff\nc\n", 99, true, RunFault::NotText, ">a\n>b\n"),
+    ];
+    for (input, room, fails, fault, wrote) in cases {
+        let want = Ran {
+            ended: Err(*fault),
+            wrote: *wrote,
+            left: b"c\n",
+            asked: 2,
+        };
+        let is_so = runs(alloc, *input, *room, *fails, want);
+        assert!(rt; is_so, "for {fault:?} at {room}");
+    }
 }
 
 /// Whether a run over an input that fails once in this way ends with this fault, and a second one answers all that
@@ -148,70 +182,19 @@ fn loses_one(alloc: Global, kind: ErrorKind, fault: RunFault) -> bool {
     let Ok(mut reader) = BufReader::new(alloc, torn) else {
         return false;
     };
-    let mut out: Vec<u8> = Vec::new(alloc);
-    let mut echo = Echo::new(alloc);
-    let is_fault = run(alloc, &mut reader, &mut out, &mut echo) == Err(fault);
-    let is_begun = out.as_slice() == b">a\n>b\n".as_slice();
-    let are_three = echo.asked == 3;
-    let is_well = run(alloc, &mut reader, &mut out, &mut echo) == Ok(());
-    let is_whole = out.as_slice() == b">a\n>b\n>st\n>c\n".as_slice();
-    is_fault && is_begun && are_three && is_well && is_whole
-}
-
-/// Whether a run with a writer of this room ends at the second of three lines, with this text written.
-fn fills(alloc: Global, room: usize, fails: bool, want: &str) -> bool {
     let taken = Vec::new(alloc);
-    let mut full = Full { taken, room, fails };
-    let mut echo = Echo::new(alloc);
-    let mut input = b"a\nb\nc\n".as_slice();
-    let is_fault = run(alloc, &mut input, &mut full, &mut echo) == Err(RunFault::Write);
-    let is_text = full.taken.as_slice() == want.as_bytes();
-    let is_left = input == b"c\n".as_slice();
-    is_fault && is_text && is_left && echo.asked == 2
-}
-
-/// Whether a program over such an input and such a writer ends with status 1, and says this on its errors.
-fn says(alloc: Global, input: &[u8], kind: ErrorKind, room: usize, message: &str) -> bool {
-    let Ok(mut reader) = BufReader::new(alloc, Broken(input, kind)) else {
-        return false;
+    let mut full = Full {
+        taken,
+        room: 99,
+        fails: true,
     };
-    let taken = Vec::new(alloc);
-    let fails = true;
-    let mut full = Full { taken, room, fails };
-    let mut errors: Vec<u8> = Vec::new(alloc);
     let mut echo = Echo::new(alloc);
-    let status = start(
-        alloc,
-        "echo",
-        &[],
-        &mut reader,
-        &mut full,
-        &mut errors,
-        &mut echo,
-    );
-    let is_said = errors.as_slice() == message.as_bytes();
-    status == 1 && is_said
-}
-
-#[test]
-fn answers_each_line(rt: HostRuntime) {
-    let alloc = rt.alloc();
-    let cases: &[(&[u8], &str, u8)] = &[
-        (b"a\r\n\nb", ">a\n>b\n", 2),
-        (b"", "", 0),
-        (b"\n\n\r\n\n", "", 0),
-        (b"a\nb", ">a\n>b\n", 2),
-        (b"a\nb\n", ">a\n>b\n", 2),
-        (b"a\r", ">a\r\n", 1),
-        (b"\r", ">\r\n", 1),
-        (b"a\r\r\n", ">a\r\n", 1),
-        (b"a\rb\n", ">a\rb\n", 1),
-        (b"quiet\na\n", ">a\n", 2),
-        (b"a\nlarge\nb\n", ">a\nout of memory\n>b\n", 3),
-    ];
-    for (input, want, asked) in cases {
-        assert!(rt; answers(alloc, *input, *want, *asked), "for {input:?}");
-    }
+    let is_fault = run(alloc, &mut reader, &mut full, &mut echo) == Err(fault);
+    let is_begun = full.taken.as_slice() == b">a\n>b\n".as_slice();
+    let are_three = echo.asked == 3;
+    let is_well = run(alloc, &mut reader, &mut full, &mut echo) == Ok(());
+    let is_whole = full.taken.as_slice() == b">a\n>b\n>st\n>c\n".as_slice();
+    is_fault && is_begun && are_three && is_well && is_whole
 }
 
 #[test]
@@ -223,127 +206,94 @@ fn a_failed_read_ends_the_run_and_loses_one_line(rt: HostRuntime) {
         (ErrorKind::OutOfMemory, RunFault::Memory),
     ];
     for (kind, fault) in cases {
-        assert!(rt; breaks(alloc, *kind, *fault), "for {fault:?}");
         assert!(rt; loses_one(alloc, *kind, *fault), "for {fault:?}");
     }
 }
 
 #[test]
-fn a_line_that_is_no_text_ends_the_run(rt: HostRuntime) -> Result<(), Fail> {
-    let alloc = rt.alloc();
-    let mut out: Vec<u8> = Vec::new(alloc);
-    let mut echo = Echo::new(alloc);
-    let mut input = b"a\nb\n\xff\nc\n".as_slice();
-    assert_eq!(rt;
-        run(alloc, &mut input, &mut out, &mut echo),
-        Err(RunFault::NotText)
-    );
-    assert_eq!(rt; out.as_slice(), b">a\n>b\n".as_slice());
-    assert_eq!(rt; echo.asked, 2);
-    assert_eq!(rt; input, b"c\n".as_slice());
-    Ok(())
-}
-
-#[test]
-fn a_failed_write_ends_the_run(rt: HostRuntime) {
-    let alloc = rt.alloc();
-    let cases: &[(usize, bool, &str)] = &[
-        (3, true, ">a\n"),
-        (5, true, ">a\n>b"),
-        (3, false, ">a\n"),
-    ];
-    for (room, fails, want) in cases {
-        assert!(rt; fills(alloc, *room, *fails, *want), "for {room}");
-    }
-}
-
-#[test]
-fn a_slow_writer_gets_all(rt: HostRuntime) -> Result<(), Fail> {
+fn a_slow_writer_gets_all(rt: HostRuntime) {
     let alloc = rt.alloc();
     let taken = Vec::new(alloc);
     let mut slow = Slow {
         taken,
         is_ready: true,
     };
+    let mut echo = Echo::new(alloc);
     let mut input = b"a\nlarge\n".as_slice();
-    assert_eq!(rt;
-        run(alloc, &mut input, &mut slow, &mut Echo::new(alloc)),
-        Ok(())
-    );
-    assert_eq!(rt; slow.taken.as_slice(), b">a\nout of memory\n".as_slice());
-    Ok(())
+    let is_well = run(alloc, &mut input, &mut slow, &mut echo) == Ok(());
+    let is_whole = slow.taken.as_slice() == b">a\nout of memory\n".as_slice();
+    assert!(rt; is_well && is_whole);
 }
 
-#[test]
-fn starts_and_says_what_failed(rt: HostRuntime) {
-    let alloc = rt.alloc();
-    let cases: &[(&[u8], ErrorKind, usize, &str)] = &[
-        (b"a\n\xff\n", ErrorKind::Other, 9, "echo: not UTF-8\n"),
-        (b"a\n", ErrorKind::Other, 9, "echo: cannot read\n"),
-        (b"a\n", ErrorKind::OutOfMemory, 9, "echo: out of memory\n"),
-        (b"a\n", ErrorKind::Other, 2, "echo: cannot write\n"),
-        (b"", ErrorKind::UnexpectedEof, 9, "echo: cannot read\n"),
-    ];
-    for (input, kind, room, message) in cases {
-        assert!(rt;
-            says(alloc, *input, *kind, *room, *message),
-            "for {message}"
-        );
-    }
-}
-
-#[test]
-fn starts_well_or_refuses_words(rt: HostRuntime) -> Result<(), Fail> {
-    let alloc = rt.alloc();
-    let mut words: Vec<String> = Vec::new(alloc);
-    let cases = [(0, ">a\n", ""), (2, "", "usage: echo\n")];
-    for (status, want, message) in cases {
-        let mut out: Vec<u8> = Vec::new(alloc);
-        let mut errors: Vec<u8> = Vec::new(alloc);
-        let mut echo = Echo::new(alloc);
-        let mut input = b"a\n".as_slice();
-        let given = words.as_slice();
-        let got = start(
-            alloc,
-            "echo",
-            given,
-            &mut input,
-            &mut out,
-            &mut errors,
-            &mut echo,
-        );
-        assert_eq!(rt; got, status);
-        assert_eq!(rt; out.as_slice(), want.as_bytes());
-        assert_eq!(rt; errors.as_slice(), message.as_bytes());
-        words.push(String::from_str(alloc, "a")?)?;
-    }
-    Ok(())
-}
-
-#[test]
-fn a_failure_of_errors_changes_no_status(rt: HostRuntime) -> Result<(), Fail> {
-    let alloc = rt.alloc();
-    let words: Vec<String> = Vec::new(alloc);
+/// Whether a program with these words, over an input that fails in this way if in any, and with writers of this room
+/// for its answers and for its errors, has this status, and wrote these texts.
+fn starts(
+    alloc: Global,
+    words: &[String],
+    (input, fault): (&[u8], Option<ErrorKind>),
+    (room, errors_room): (usize, usize),
+    (want, wrote, said): (u8, &str, &str),
+) -> bool {
+    let torn = Torn {
+        front: input,
+        fault,
+        back: b"",
+    };
+    let Ok(mut reader) = BufReader::new(alloc, torn) else {
+        return false;
+    };
+    let fails = true;
+    let taken = Vec::new(alloc);
+    let mut full = Full { taken, room, fails };
     let taken = Vec::new(alloc);
     let mut errors = Full {
         taken,
-        room: 3,
-        fails: true,
+        room: errors_room,
+        fails,
     };
-    let mut out: Vec<u8> = Vec::new(alloc);
     let mut echo = Echo::new(alloc);
-    let mut input = b"\xff".as_slice();
-    let given = words.as_slice();
-    let got = start(
+    let status = start(
         alloc,
         "echo",
-        given,
-        &mut input,
-        &mut out,
+        words,
+        &mut reader,
+        &mut full,
         &mut errors,
         &mut echo,
     );
-    assert_eq!(rt; got, 1);
-    assert_eq!(rt; errors.taken.as_slice(), b"ech".as_slice());
+    let is_written = full.taken.as_slice() == wrote.as_bytes();
+    let is_said = errors.taken.as_slice() == said.as_bytes();
+    status == want && is_written && is_said
+}
+
+#[test]
+fn starts_and_says_what_failed(rt: HostRuntime) -> Result<(), Fail> {
+    let alloc = rt.alloc();
+    let other = Some(ErrorKind::Other);
+    let memory = Some(ErrorKind::OutOfMemory);
+    let end = Some(ErrorKind::UnexpectedEof);
+    let cases: &[(&[u8], Option<ErrorKind>, usize, usize, u8, &str, &str)] = &[
+        (b"a\n", None, 9, 99, 0, ">a\n", ""),
+        (b"a\n\xff\n", None, 9, 99, 1, ">a\n", "echo: not UTF-8\n"),
+        (b"a\n", other, 9, 99, 1, ">a\n", "echo: cannot read\n"),
+        (b"a\n", memory, 9, 99, 1, ">a\n", "echo: out of memory\n"),
+        (b"a\n", None, 2, 99, 1, ">a", "echo: cannot write\n"),
+        (b"", end, 9, 99, 1, "", "echo: cannot read\n"),
+        // A failure of the errors changes no status.
+        (b"\xff", None, 9, 3, 1, "", "ech"),
+    ];
+    for (input, fault, room, errors_room, status, wrote, said) in cases {
+        let rooms = (*room, *errors_room);
+        let want = (*status, *wrote, *said);
+        let is_so = starts(alloc, &[], (*input, *fault), rooms, want);
+        assert!(rt; is_so, "for {said}");
+    }
+    let word = String::from_str(alloc, "a")?;
+    let words = slice::from_ref(&word);
+    for (errors_room, said) in [(99, "usage: echo\n"), (3, "usa")] {
+        let usage = (2, "", said);
+        let is_so = starts(alloc, words, (b"a\n", None), (9, errors_room), usage);
+        assert!(rt; is_so, "for {said}");
+    }
     Ok(())
 }

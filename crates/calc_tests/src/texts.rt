@@ -1,42 +1,67 @@
 //! Texts that are shared.
 use calc_files::Text;
 use std::alloc::{AllocError, Global};
-use std::test::Fail;
+use std::cmp::Ordering;
 
 /// The text, to be shared.
 fn shared(alloc: Global, text: &str) -> Result<Text, AllocError> {
     Text::new(String::from_str(alloc, text)?)
 }
 
-#[test]
-fn texts_are_told_apart_by_their_bytes(rt: HostRuntime) -> Result<(), Fail> {
-    let alloc = rt.alloc();
-    let text = shared(alloc, "äb")?;
-    let again = shared(alloc, "äb")?;
-    let copy = text.clone()?;
-    assert_eq!(rt; text, again);
-    assert_eq!(rt; text, copy);
-    assert_eq!(rt; comemo::hash(&text), comemo::hash(&again));
-    drop(text);
-    assert_eq!(rt; (copy.as_str(), copy.len()), ("äb", 3));
-    let printed = format!(in alloc; "{copy:?}")?;
-    assert_eq!(rt; printed.as_str(), "\"äb\"");
+/// Whether a clone of a text reads so, with so many bytes, and prints so, after the text is gone.
+fn reads(alloc: Global, text: &str, len: usize, printed: &str) -> bool {
+    let Ok(first) = shared(alloc, text) else {
+        return false;
+    };
+    let Ok(copy) = first.clone() else {
+        return false;
+    };
+    let is_same = first == copy;
+    drop(first);
+    let Ok(shown) = format!(in alloc; "{copy:?}") else {
+        return false;
+    };
+    is_same && copy.as_str() == text && copy.len() == len && shown.as_str() == printed
+}
 
-    let longer = shared(alloc, "äba")?;
-    let later = shared(alloc, "äc")?;
-    assert!(rt; copy < longer);
-    assert!(rt; longer < later);
-    assert!(rt; Text::empty() < copy);
-    Ok(())
+/// Whether two texts are in this order, and have one hash where they are equal.
+fn are_ordered(alloc: Global, left: &str, right: &str, order: Ordering) -> bool {
+    let Ok(left) = shared(alloc, left) else {
+        return false;
+    };
+    let Ok(right) = shared(alloc, right) else {
+        return false;
+    };
+    let is_ordered = left.cmp(&right) == order && left.partial_cmp(&right) == Some(order);
+    let is_equal = order == Ordering::Equal;
+    let has_one_hash = comemo::hash(&left) == comemo::hash(&right);
+    is_ordered && (left == right) == is_equal && has_one_hash == is_equal
 }
 
 #[test]
-fn an_empty_text_that_was_shared_is_the_empty_one(rt: HostRuntime) -> Result<(), Fail> {
+fn texts_are_told_apart_by_their_bytes(rt: HostRuntime) {
     let alloc = rt.alloc();
-    let text = shared(alloc, "")?;
-    assert_eq!(rt; text, Text::empty());
-    assert_eq!(rt; text.clone()?, Text::empty());
-    assert_eq!(rt; comemo::hash(&text), comemo::hash(&Text::empty()));
-    assert_eq!(rt; (Text::empty().as_str(), Text::empty().len()), ("", 0));
+    assert!(rt; reads(alloc, "äb", 3, "\"äb\""));
+    assert!(rt; reads(alloc, "", 0, "\"\""));
+    let cases: &[(&str, &str, Ordering)] = &[
+        ("äb", "äb", Ordering::Equal),
+        ("äb", "äba", Ordering::Less),
+        ("äba", "äc", Ordering::Less),
+        ("", "äb", Ordering::Less),
+        ("", "", Ordering::Equal),
+    ];
+    for (left, right, order) in cases {
+        let is_so = are_ordered(alloc, *left, *right, *order);
+        assert!(rt; is_so, "for {left:?} and {right:?}");
+    }
+}
+
+#[test]
+fn an_empty_text_that_was_shared_is_the_empty_one(rt: HostRuntime) -> Result<(), AllocError> {
+    let empty = Text::empty();
+    let text = shared(rt.alloc(), "")?;
+    let is_alike = text == empty && comemo::hash(&text) == comemo::hash(&empty);
+    let is_empty = empty.as_str().is_empty() && empty.len() == 0;
+    assert!(rt; is_alike && is_empty);
     Ok(())
 }
