@@ -1,11 +1,12 @@
 //! Functions of a spreadsheet: what they give, and which calls were answered from the cache.
 
+use Step::{Kept, Number, Plain, Ranged, Row, Set, Show, Sum, Third, Total};
 use comemo::{
     Both, CacheData, How, MemoOf, MemoOfRecursive, Recorder, Top, Track, called, memoized,
 };
 use comemo_sheet::number::NumberIn;
 use comemo_sheet::plain::{NoNumber, PlainNumber};
-use comemo_sheet::range::{Kept, Range, range_total, ranged};
+use comemo_sheet::range::{Kept as Ranges, Range, range_total, ranged};
 use comemo_sheet::row::RowTotal;
 use comemo_sheet::settings::Settings;
 use comemo_sheet::sheet::{Content, Sheet};
@@ -13,6 +14,7 @@ use comemo_sheet::shown::Shown;
 use comemo_sheet::value::{Value, value_now};
 use std::alloc::{AllocError, Global};
 
+/// Texts of these names.
 fn names(alloc: Global, all: &[&str]) -> Result<Vec<String>, AllocError> {
     let mut names = Vec::new(alloc);
     for name in all {
@@ -65,24 +67,6 @@ fn is_number(
     }
 }
 
-#[test]
-fn a_number_is_kept_while_its_cell_stays(rt: HostRuntime) {
-    let alloc = rt.alloc();
-    let mut sheet = Sheet::new(alloc);
-    let mut cache: CacheData<MemoOf<NumberIn>> = CacheData::new(alloc);
-    let changes: &[(&str, i64, i64, How)] = &[
-        ("A1", -7, -7, How::Stored),
-        ("A2", 1, -7, How::Hit),
-        ("A1", 8, 8, How::Stored),
-        ("A1", -7, -7, How::Hit),
-    ];
-    for (name, number, output, how) in changes {
-        let is_so = is_set(alloc, &mut sheet, *name, *number)
-            && is_number(alloc, &mut cache, &sheet, *output, *how);
-        assert!(rt; is_so, "for {number} in {name}");
-    }
-}
-
 /// Whether the plain number of a cell, or why it has none, is given, and this becomes of the call.
 fn is_plain(
     alloc: Global,
@@ -101,28 +85,6 @@ fn is_plain(
     }
 }
 
-#[test]
-fn a_reason_is_kept_as_a_number_is(rt: HostRuntime) {
-    let alloc = rt.alloc();
-    let mut sheet = Sheet::new(alloc);
-    let is_ready = is_filled(alloc, &mut sheet);
-    assert!(rt; is_ready);
-    let mut cache: CacheData<MemoOf<PlainNumber>> = CacheData::new(alloc);
-    let calls: &[(&str, Result<i64, NoNumber>, How)] = &[
-        ("A1", Ok(1), How::Stored),
-        ("B1", Err(NoNumber::Sum), How::Stored),
-        ("A3", Err(NoNumber::Nothing), How::Stored),
-        ("B1", Err(NoNumber::Sum), How::Hit),
-    ];
-    for (name, number, how) in calls {
-        let is_so = is_plain(alloc, &mut cache, &sheet, *name, *number, *how);
-        assert!(rt; is_so, "for {name}");
-    }
-    let is_so = is_set(alloc, &mut sheet, "A3", 5)
-        && is_plain(alloc, &mut cache, &sheet, "A3", Ok(5), How::Stored);
-    assert!(rt; is_so);
-}
-
 /// Whether the total of a row is given, of which A3 is empty and B1 is no number, and this becomes of the call.
 fn is_total(
     alloc: Global,
@@ -137,25 +99,6 @@ fn is_total(
     match called(alloc, cache, row, &sheet.track(alloc)) {
         Ok(reply) => reply.output == total && reply.how == how,
         Err(_) => false,
-    }
-}
-
-#[test]
-fn a_row_is_added_up(rt: HostRuntime) {
-    let alloc = rt.alloc();
-    let mut sheet = Sheet::new(alloc);
-    let is_ready = is_filled(alloc, &mut sheet);
-    assert!(rt; is_ready);
-    let mut cache: CacheData<MemoOf<RowTotal>> = CacheData::new(alloc);
-    let changes: &[(i64, i64, How)] = &[
-        (1, 3, How::Stored),
-        (1, 3, How::Hit),
-        (10, 12, How::Stored),
-    ];
-    for (first, total, how) in changes {
-        let is_so = is_set(alloc, &mut sheet, "A1", *first)
-            && is_total(alloc, &mut cache, &sheet, *total, *how);
-        assert!(rt; is_so, "for {first}");
     }
 }
 
@@ -182,31 +125,6 @@ fn is_shown(
     }
 }
 
-#[test]
-fn a_width_that_was_not_asked_may_change(rt: HostRuntime) {
-    let alloc = rt.alloc();
-    let mut sheet = Sheet::new(alloc);
-    let is_ready = is_set(alloc, &mut sheet, "A1", -7);
-    assert!(rt; is_ready);
-    let mut cache: CacheData<Shown<CacheData<MemoOf<NumberIn>>>> = CacheData::new(alloc);
-    let mut numbers: CacheData<MemoOf<NumberIn>> = CacheData::new(alloc);
-    let calls: &[(bool, u64, i64, How)] = &[
-        (false, 8, -7, How::Stored),
-        (false, 9, -7, How::Hit),
-        (true, 9, 0, How::Stored),
-    ];
-    for (hides, width, shown, how) in calls {
-        let settings = Settings {
-            hides_negative: *hides,
-            width: *width,
-        };
-        let of = (&sheet, &settings);
-        let is_so = is_shown(alloc, &mut cache, &mut numbers, of, *shown, *how);
-        assert!(rt; is_so, "for {hides} {width}");
-    }
-    assert_eq!(rt; numbers.len(), 1);
-}
-
 /// Whether this is the value of C1, by cells down to the limit 3.
 fn is_third(
     alloc: Global,
@@ -223,45 +141,8 @@ fn is_third(
     }
 }
 
-#[test]
-fn a_value_follows_what_its_cells_refer_to(rt: HostRuntime) {
-    let alloc = rt.alloc();
-    let mut sheet = Sheet::new(alloc);
-    let is_ready = is_filled(alloc, &mut sheet);
-    assert!(rt; is_ready);
-    let mut cache = CacheData::new(alloc);
-    let changes: &[(i64, i64, usize)] = &[
-        // C1 at 3, B1 and A1 at 2, A1 and A2 at 1
-        (1, 4, 5),
-        (1, 4, 5),
-        // all of them again but A2
-        (10, 22, 9),
-    ];
-    for (first, value, len) in changes {
-        let is_so = is_set(alloc, &mut sheet, "A1", *first)
-            && is_third(alloc, &mut cache, &sheet, Some(*value));
-        assert!(rt; is_so, "for {first}");
-        assert_eq!(rt; cache.len(), *len);
-    }
-}
-
-#[test]
-fn a_circle_has_no_value(rt: HostRuntime) {
-    let alloc = rt.alloc();
-    let mut sheet = Sheet::new(alloc);
-    let mut cache = CacheData::new(alloc);
-    let is_so = is_filled(alloc, &mut sheet)
-        && is_sum(alloc, &mut sheet, "A1", &["C1"])
-        && is_third(alloc, &mut cache, &sheet, None);
-    assert!(rt; is_so);
-    // C1 at 3, B1 and A1 at 2, A1, A2 and C1 at 1
-    assert_eq!(rt; cache.len(), 6);
-    let is_so = is_set(alloc, &mut sheet, "A1", 1) && is_third(alloc, &mut cache, &sheet, Some(4));
-    assert!(rt; is_so);
-}
-
 /// Whether this is the value of the cell of a name, by the totals of ranges down to the limit 4.
-fn is_ranged(alloc: Global, kept: &mut Kept, sheet: &Sheet, name: &str, value: i64) -> bool {
+fn is_ranged(alloc: Global, kept: &mut Ranges, sheet: &Sheet, name: &str, value: i64) -> bool {
     let Ok(name) = String::from_str(alloc, name) else {
         return false;
     };
@@ -272,37 +153,10 @@ fn is_ranged(alloc: Global, kept: &mut Kept, sheet: &Sheet, name: &str, value: i
     }
 }
 
-#[test]
-fn two_functions_call_one_another(rt: HostRuntime) {
-    let alloc = rt.alloc();
-    let mut sheet = Sheet::new(alloc);
-    let is_ready = is_filled(alloc, &mut sheet) && is_sum(alloc, &mut sheet, "B2", &["A1", "A2"]);
-    assert!(rt; is_ready);
-    let mut kept = (CacheData::new(alloc), CacheData::new(alloc));
-    let calls: &[(&str, i64, usize, usize)] = &[
-        // C1 at 4, B1 and A1 at 3, A1 and A2 at 2; their ranges at 3 and 2
-        ("C1", 4, 5, 2),
-        // B1, A1 and A2 at 4 and 3; the range at 3
-        ("B1", 3, 7, 3),
-        // B2 refers to the same range, which is kept
-        ("B2", 3, 8, 3),
-        ("C1", 4, 8, 3),
-    ];
-    for (name, value, cells, ranges) in calls {
-        let is_so = is_ranged(alloc, &mut kept, &sheet, *name, *value);
-        assert!(rt; is_so, "for {name}");
-        assert_eq!(rt; kept.0.len(), *cells);
-        assert_eq!(rt; kept.1.len(), *ranges);
-    }
-    let is_so = is_set(alloc, &mut sheet, "A1", 10)
-        && is_ranged(alloc, &mut kept, &sheet, "C1", 22);
-    assert!(rt; is_so);
-}
-
 /// Whether this is the total of the range of these cells, down to the limit 4.
 fn is_range_total(
     alloc: Global,
-    kept: &mut Kept,
+    kept: &mut Ranges,
     sheet: &Sheet,
     cells: &[&str],
     total: Option<i64>,
@@ -317,14 +171,214 @@ fn is_range_total(
     }
 }
 
+/// A sheet, and what is kept of its functions.
+#[derive(Drop)]
+struct Desk {
+    sheet: Sheet,
+    numbers: CacheData<MemoOf<NumberIn>>,
+    plain: CacheData<MemoOf<PlainNumber>>,
+    rows: CacheData<MemoOf<RowTotal>>,
+    shown: CacheData<Shown<CacheData<MemoOf<NumberIn>>>>,
+    values: CacheData<MemoOfRecursive<Value>>,
+    ranges: Ranges,
+}
+
+impl Desk {
+    /// An empty sheet, of which nothing is kept.
+    fn new(alloc: Global) -> Desk {
+        Desk {
+            sheet: Sheet::new(alloc),
+            numbers: CacheData::new(alloc),
+            plain: CacheData::new(alloc),
+            rows: CacheData::new(alloc),
+            shown: CacheData::new(alloc),
+            values: CacheData::new(alloc),
+            ranges: (CacheData::new(alloc), CacheData::new(alloc)),
+        }
+    }
+}
+
+/// A change of the sheet, or a call with what it is to give and what is to become of it.
+#[derive(Clone, Copy)]
+enum Step<'a> {
+    /// A number goes into the cell of a name.
+    Set(&'a str, i64),
+    /// The sum of cells goes into the cell of a name.
+    Sum(&'a str, &'a [&'a str]),
+    /// The number of A1.
+    Number(i64, How),
+    /// The plain number of the cell of a name.
+    Plain(&'a str, Result<i64, NoNumber>, How),
+    /// The total of the row.
+    Row(i64, How),
+    /// The number of A1, as it is shown where negative ones are hidden or not, at this width.
+    Show(bool, u64, i64, How),
+    /// So many numbers are kept.
+    Kept(usize),
+    /// The value of C1, with so many values kept then.
+    Third(Option<i64>, usize),
+    /// The value of the cell of a name by ranges, with so many values and totals kept then.
+    Ranged(&'a str, i64, usize, usize),
+    /// The total of the range of these cells.
+    Total(&'a [&'a str], Option<i64>),
+}
+
+/// Whether a step is done, and comes to what it is to.
+fn is_done(alloc: Global, desk: &mut Desk, step: Step<'_>) -> bool {
+    let sheet = &mut desk.sheet;
+    match step {
+        Set(name, number) => is_set(alloc, sheet, name, number),
+        Sum(name, of) => is_sum(alloc, sheet, name, of),
+        Number(number, how) => is_number(alloc, &mut desk.numbers, sheet, number, how),
+        Plain(name, number, how) => is_plain(alloc, &mut desk.plain, sheet, name, number, how),
+        Row(total, how) => is_total(alloc, &mut desk.rows, sheet, total, how),
+        Show(hides_negative, width, shown, how) => {
+            let settings = Settings {
+                hides_negative,
+                width,
+            };
+            let numbers = &mut desk.numbers;
+            let of = (&*sheet, &settings);
+            is_shown(alloc, &mut desk.shown, numbers, of, shown, how)
+        }
+        Kept(numbers) => desk.numbers.len() == numbers,
+        Third(value, len) => {
+            is_third(alloc, &mut desk.values, sheet, value) && desk.values.len() == len
+        }
+        Ranged(name, value, cells, ranges) => {
+            is_ranged(alloc, &mut desk.ranges, sheet, name, value)
+                && desk.ranges.0.len() == cells
+                && desk.ranges.1.len() == ranges
+        }
+        Total(cells, total) => is_range_total(alloc, &mut desk.ranges, sheet, cells, total),
+    }
+}
+
+/// The place of the first of these steps that is not done; 0 also where the sheet was to be filled first and was not.
+fn first_undone_on(
+    alloc: Global,
+    desk: &mut Desk,
+    fills: bool,
+    steps: &[Step<'_>],
+) -> Option<usize> {
+    if fills && !is_filled(alloc, &mut desk.sheet) {
+        return Some(0);
+    }
+    for (place, step) in steps.iter().enumerate() {
+        if !is_done(alloc, desk, *step) {
+            return Some(place);
+        }
+    }
+    None
+}
+
+/// The same on a new sheet.
+fn first_undone(alloc: Global, fills: bool, steps: &[Step<'_>]) -> Option<usize> {
+    let mut desk = Desk::new(alloc);
+    first_undone_on(alloc, &mut desk, fills, steps)
+}
+
+#[test]
+fn a_number_is_kept_while_its_cell_stays(rt: HostRuntime) {
+    let steps: &[Step<'_>] = &[
+        Set("A1", -7),
+        Number(-7, How::Stored),
+        Set("A2", 1),
+        Number(-7, How::Hit),
+        Set("A1", 8),
+        Number(8, How::Stored),
+        Set("A1", -7),
+        Number(-7, How::Hit),
+    ];
+    assert_eq!(rt; first_undone(rt.alloc(), false, steps), None);
+}
+
+#[test]
+fn a_reason_is_kept_as_a_number_is(rt: HostRuntime) {
+    let steps: &[Step<'_>] = &[
+        Plain("A1", Ok(1), How::Stored),
+        Plain("B1", Err(NoNumber::Sum), How::Stored),
+        Plain("A3", Err(NoNumber::Nothing), How::Stored),
+        Plain("B1", Err(NoNumber::Sum), How::Hit),
+        Set("A3", 5),
+        Plain("A3", Ok(5), How::Stored),
+    ];
+    assert_eq!(rt; first_undone(rt.alloc(), true, steps), None);
+}
+
+#[test]
+fn a_row_is_added_up(rt: HostRuntime) {
+    let steps: &[Step<'_>] = &[
+        Row(3, How::Stored),
+        Row(3, How::Hit),
+        Set("A1", 10),
+        Row(12, How::Stored),
+    ];
+    assert_eq!(rt; first_undone(rt.alloc(), true, steps), None);
+}
+
+#[test]
+fn a_width_that_was_not_asked_may_change(rt: HostRuntime) {
+    let steps: &[Step<'_>] = &[
+        Set("A1", -7),
+        Show(false, 8, -7, How::Stored),
+        Show(false, 9, -7, How::Hit),
+        Show(true, 9, 0, How::Stored),
+        Kept(1),
+    ];
+    assert_eq!(rt; first_undone(rt.alloc(), false, steps), None);
+}
+
+#[test]
+fn a_value_follows_what_its_cells_refer_to(rt: HostRuntime) {
+    let steps: &[Step<'_>] = &[
+        // C1 at 3, B1 and A1 at 2, A1 and A2 at 1
+        Third(Some(4), 5),
+        Third(Some(4), 5),
+        Set("A1", 10),
+        // all of them again but A2
+        Third(Some(22), 9),
+    ];
+    assert_eq!(rt; first_undone(rt.alloc(), true, steps), None);
+}
+
+#[test]
+fn a_circle_has_no_value(rt: HostRuntime) {
+    let steps: &[Step<'_>] = &[
+        Sum("A1", &["C1"]),
+        // C1 at 3, B1 and A1 at 2, A1, A2 and C1 at 1
+        Third(None, 6),
+        Set("A1", 1),
+        // all of them again but A2 and C1 at 1
+        Third(Some(4), 10),
+    ];
+    assert_eq!(rt; first_undone(rt.alloc(), true, steps), None);
+}
+
+#[test]
+fn two_functions_call_one_another(rt: HostRuntime) {
+    let steps: &[Step<'_>] = &[
+        Sum("B2", &["A1", "A2"]),
+        // C1 at 4, B1 and A1 at 3, A1 and A2 at 2; their ranges at 3 and 2
+        Ranged("C1", 4, 5, 2),
+        // B1, A1 and A2 at 4 and 3; the range at 3
+        Ranged("B1", 3, 7, 3),
+        // B2 refers to the same range, which is kept
+        Ranged("B2", 3, 8, 3),
+        Ranged("C1", 4, 8, 3),
+        Set("A1", 10),
+        // C1 at 4, B1 and A1 at 3, A1 at 2; their ranges at 3 and 2
+        Ranged("C1", 22, 12, 5),
+    ];
+    assert_eq!(rt; first_undone(rt.alloc(), true, steps), None);
+}
+
 #[test]
 fn a_range_in_a_circle_has_no_total(rt: HostRuntime) {
-    let alloc = rt.alloc();
-    let mut sheet = Sheet::new(alloc);
-    let mut kept = (CacheData::new(alloc), CacheData::new(alloc));
-    let is_so = is_filled(alloc, &mut sheet)
-        && is_sum(alloc, &mut sheet, "A1", &["C1"])
-        && is_range_total(alloc, &mut kept, &sheet, &["A1", "A2"], None)
-        && is_range_total(alloc, &mut kept, &sheet, &["A2", "A3"], Some(2));
-    assert!(rt; is_so);
+    let steps: &[Step<'_>] = &[
+        Sum("A1", &["C1"]),
+        Total(&["A1", "A2"], None),
+        Total(&["A2", "A3"], Some(2)),
+    ];
+    assert_eq!(rt; first_undone(rt.alloc(), true, steps), None);
 }

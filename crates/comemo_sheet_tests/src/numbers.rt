@@ -1,36 +1,45 @@
 //! A function that calls itself: each number is kept once, and each call after that is answered from the cache.
 
-use comemo::{Cache, CacheData, MemoOfRecursive, Recorder, Track};
+use comemo::{Cache, CacheData, Hold, MemoOfRecursive, Recorder, Track};
 use comemo_sheet::fibonacci::{Fib, numbered};
-use std::test::Fail;
+use std::alloc::Global;
 
-#[test]
-fn each_number_is_kept_once(rt: HostRuntime) -> Result<(), Fail> {
-    let alloc = rt.alloc();
-    let mut cache: CacheData<MemoOfRecursive<Fib>> = CacheData::new(alloc);
+/// Whether this is the number at a place.
+fn is_number<H: Hold<MemoOfRecursive<Fib>>>(
+    alloc: Global,
+    cache: &mut H,
+    place: u64,
+    number: u64,
+) -> bool {
     let mut recorder = Recorder::new(alloc, ().track(alloc));
-    let number = numbered(&mut cache, 90, &mut recorder)?;
-    assert_eq!(rt; number, 2880067194370816120);
-    // those at 0 and 1 are not kept
-    assert_eq!(rt; cache.len(), 89);
-    let number = numbered(&mut cache, 50, &mut recorder)?;
-    assert_eq!(rt; number, 12586269025);
-    assert_eq!(rt; cache.len(), 89);
-    // 19740274219868223167 less 2 to the 64th
-    let number = numbered(&mut cache, 94, &mut recorder)?;
-    assert_eq!(rt; number, 1293530146158671551);
-    assert_eq!(rt; cache.len(), 93);
-    Ok(())
+    match numbered(cache, place, &mut recorder) {
+        Ok(found) => found == number,
+        Err(_) => false,
+    }
 }
 
 #[test]
-fn a_shared_cache_keeps_them_too(rt: HostRuntime) -> Result<(), Fail> {
+fn each_number_is_kept_once(rt: HostRuntime) {
+    let alloc = rt.alloc();
+    let mut cache: CacheData<MemoOfRecursive<Fib>> = CacheData::new(alloc);
+    let numbers: &[(u64, u64, usize)] = &[
+        // those at 0 and 1 are not kept
+        (90, 2880067194370816120, 89),
+        (50, 12586269025, 89),
+        // 19740274219868223167 less 2 to the 64th
+        (94, 1293530146158671551, 93),
+    ];
+    for (place, number, len) in numbers {
+        assert!(rt; is_number(alloc, &mut cache, *place, *number), "at {place}");
+        assert!(rt; cache.len() == *len, "at {place}");
+    }
+}
+
+#[test]
+fn a_shared_cache_keeps_them_too(rt: HostRuntime) {
     let alloc = rt.alloc();
     let cache: Cache<MemoOfRecursive<Fib>> = Cache::new(alloc);
-    let mut recorder = Recorder::new(alloc, ().track(alloc));
     for _ in 0..2 {
-        let number = numbered(&mut cache.hold(&rt), 90, &mut recorder)?;
-        assert_eq!(rt; number, 2880067194370816120);
+        assert!(rt; is_number(alloc, &mut cache.hold(&rt), 90, 2880067194370816120));
     }
-    Ok(())
 }
