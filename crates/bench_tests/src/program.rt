@@ -1,11 +1,10 @@
 //! What the program of the rows prints, and its status.
 
 use bench_rows::{Broken, Outcome, run_rows, start};
-use std::alloc::Global;
+use std::alloc::{AllocError, Global};
 use std::io::{Error, ErrorKind, Result as IoResult, Write};
 use std::rt::Clock;
 use std::sync::Wait;
-use std::test::Fail;
 use std::thread::Threads;
 
 /// Takes as many bytes as it has room for, then fails.
@@ -31,88 +30,85 @@ impl Write for Full {
     }
 }
 
-/// Whether the program, called with these words, has this status, prints this, and says that of what it was called with.
+/// The words, each as a text of its own.
+fn owned(alloc: Global, words: &[&str]) -> Result<Vec<String>, AllocError> {
+    let mut owned = Vec::new(alloc);
+    for word in words {
+        owned.push(String::from_str(alloc, *word)?)?;
+    }
+    Ok(owned)
+}
+
+/// Whether the program, called with these words and with so much room for what it prints and for what it says, has this
+/// status, prints this, and says that of what it was called with.
 fn runs<R: Threads + Wait + Clock + Sync>(
     rt: &R,
     alloc: Global,
     words: &[&str],
+    room: usize,
     status: u8,
-    printed: &str,
-    said: &str,
+    (printed, said): (&str, &str),
 ) -> bool {
-    let mut owned: Vec<String> = Vec::new(alloc);
-    for word in words {
-        let Ok(word) = String::from_str(alloc, *word) else {
-            return false;
-        };
-        if owned.push(word).is_err() {
-            return false;
-        }
-    }
-    let mut writer: Vec<u8> = Vec::new(alloc);
-    let mut errors: Vec<u8> = Vec::new(alloc);
-    let is_status = start(rt, alloc, owned.as_slice(), &mut writer, &mut errors) == status;
-    let is_printed = writer.as_slice() == printed.as_bytes();
-    let is_said = errors.as_slice() == said.as_bytes();
+    let Ok(words) = owned(alloc, words) else {
+        return false;
+    };
+    let taken = Vec::new(alloc);
+    let mut writer = Full { taken, room };
+    let taken = Vec::new(alloc);
+    let mut errors = Full { taken, room };
+    let is_status = start(rt, alloc, words.as_slice(), &mut writer, &mut errors) == status;
+    let is_printed = writer.taken.as_slice() == printed.as_bytes();
+    let is_said = errors.taken.as_slice() == said.as_bytes();
     is_status && is_printed && is_said
 }
 
-#[test]
-fn the_rows_hold(rt: HostRuntime) {
-    assert!(rt; runs(&rt, rt.alloc(), &["rows"], 0, "rows ok\n", ""));
+/// Whether the first row that fails is named, of which this became, and no other.
+fn names_the_first(alloc: Global, wrong: Result<bool, Broken>) -> bool {
+    let mut rows = Outcome::new();
+    rows.row("1", Ok(true));
+    rows.row("13", wrong);
+    rows.row("14", Ok(false));
+    rows.row("16", Err(Broken));
+    rows.row("17", Ok(true));
+    let mut printed: Vec<u8> = Vec::new(alloc);
+    let status = rows.report(&mut printed);
+    status == 1 && printed.as_slice() == b"row 13 failed\n".as_slice()
 }
 
 #[test]
-fn the_first_row_that_fails_is_named(rt: HostRuntime) -> Result<(), Fail> {
+fn the_first_row_that_fails_is_named(rt: HostRuntime) {
     let alloc = rt.alloc();
-    for wrong in [Ok(false), Err(Broken)] {
-        let mut rows = Outcome::new();
-        rows.row("1", Ok(true));
-        rows.row("13", wrong);
-        rows.row("14", Ok(false));
-        rows.row("16", Err(Broken));
-        rows.row("17", Ok(true));
-        let mut printed: Vec<u8> = Vec::new(alloc);
-        assert_eq!(rt; rows.report(&mut printed), 1);
-        assert_eq!(rt; printed.as_slice(), b"row 13 failed\n".as_slice());
-    }
-    Ok(())
+    assert!(rt; names_the_first(alloc, Ok(false)));
+    assert!(rt; names_the_first(alloc, Err(Broken)));
 }
 
 #[test]
-fn a_row_that_fails_after_the_others_is_named(rt: HostRuntime) -> Result<(), Fail> {
+fn a_row_that_fails_after_the_others_is_named(rt: HostRuntime) {
     let alloc = rt.alloc();
     let mut rows = run_rows(&rt, alloc);
     rows.row("26", Ok(false));
     let mut printed: Vec<u8> = Vec::new(alloc);
-    assert_eq!(rt; rows.report(&mut printed), 1);
-    assert_eq!(rt; printed.as_slice(), b"row 26 failed\n".as_slice());
-    Ok(())
+    let status = rows.report(&mut printed);
+    let is_named = printed.as_slice() == b"row 26 failed\n".as_slice();
+    assert!(rt; status == 1 && is_named);
 }
 
 #[test]
-fn a_cache_and_a_plain_list_answer_alike(rt: HostRuntime) {
-    let calls: &[&[&str]] = &[
-        &["fuzz", "1", "10000"],
-        &["fuzz", "2", "10000"],
-        &["fuzz", "18446744073709551615", "0010"],
-        &["fuzz", "0", "0"],
+fn fuzz_and_threads_end_well(rt: HostRuntime) {
+    let calls: &[(&[&str], &str)] = &[
+        // A cache and a plain list answer alike.
+        (&["fuzz", "1", "10000"], "fuzz ok\n"),
+        (&["fuzz", "2", "10000"], "fuzz ok\n"),
+        (&["fuzz", "18446744073709551615", "0010"], "fuzz ok\n"),
+        (&["fuzz", "0", "0"], "fuzz ok\n"),
+        // Workers are right.
+        (&["threads", "1", "0"], "threads ok\n"),
+        (&["threads", "8", "1000"], "threads ok\n"),
+        (&["threads", "16", "2000"], "threads ok\n"),
+        (&["threads", "016", "1"], "threads ok\n"),
     ];
-    for call in calls {
-        assert!(rt; runs(&rt, rt.alloc(), *call, 0, "fuzz ok\n", ""));
-    }
-}
-
-#[test]
-fn workers_are_told_to_be_right(rt: HostRuntime) {
-    let calls: &[&[&str]] = &[
-        &["threads", "1", "0"],
-        &["threads", "8", "1000"],
-        &["threads", "16", "2000"],
-        &["threads", "016", "1"],
-    ];
-    for call in calls {
-        assert!(rt; runs(&rt, rt.alloc(), *call, 0, "threads ok\n", ""));
+    for (call, printed) in calls {
+        assert!(rt; runs(&rt, rt.alloc(), *call, 99, 0, (*printed, "")));
     }
 }
 
@@ -144,24 +140,13 @@ fn other_words_are_told_how_to_call(rt: HostRuntime) {
         &["threads", "1", "2", "3"],
     ];
     for call in calls {
-        assert!(rt; runs(&rt, rt.alloc(), *call, 2, "", USAGE));
+        assert!(rt; runs(&rt, rt.alloc(), *call, 99, 2, ("", USAGE)));
     }
 }
 
 #[test]
-fn a_failure_to_write_changes_no_status(rt: HostRuntime) -> Result<(), Fail> {
+fn a_failure_to_write_changes_no_status(rt: HostRuntime) {
     let alloc = rt.alloc();
-    let mut words = vec![in alloc; String::from_str(alloc, "rows")?]?;
-    for (wanted, printed, said) in [(0, "row", ""), (2, "", "usa")] {
-        let [mut writer, mut errors] = [Vec::new(alloc), Vec::new(alloc)].map(|taken| Full {
-            taken,
-            room: 3,
-        });
-        let status = start(&rt, alloc, words.as_slice(), &mut writer, &mut errors);
-        assert_eq!(rt; status, wanted);
-        assert_eq!(rt; writer.taken.as_slice(), printed.as_bytes());
-        assert_eq!(rt; errors.taken.as_slice(), said.as_bytes());
-        words.push(String::from_str(alloc, "rows")?)?;
-    }
-    Ok(())
+    assert!(rt; runs(&rt, alloc, &["rows"], 3, 0, ("row", "")));
+    assert!(rt; runs(&rt, alloc, &["rows", "rows"], 3, 2, ("", "usa")));
 }

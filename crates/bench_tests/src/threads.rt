@@ -11,24 +11,23 @@ use comemo::{
     register_evictor,
 };
 use comemo_guide::double::Double;
-use std::alloc::Global;
+use std::alloc::{AllocError, Global};
 use std::sync::{Arc, Mutex, RwLock, Wait};
 use std::test::Fail;
 use std::thread::join;
 
 #[test]
-fn a_holder_that_neither_looks_nor_stores_is_found(rt: HostRuntime) -> Result<(), Fail> {
+fn a_holder_that_neither_looks_nor_stores_is_found(rt: HostRuntime) {
     let alloc = rt.alloc();
     for dead in [Step::Look, Step::Store] {
         let cache: Cache<MemoOf<Double>> = Cache::new(alloc);
-        let [left, right] = [cache.hold(&rt), cache.hold(&rt)].map(|held| Dead {
-            alloc,
-            held,
-            dead,
-        });
-        assert_eq!(rt; two_runs_of_one_key(&rt, alloc, left, right), Ok(false));
+        let held = cache.hold(&rt);
+        let left = Dead { alloc, held, dead };
+        let held = cache.hold(&rt);
+        let right = Dead { alloc, held, dead };
+        let met = two_runs_of_one_key(&rt, alloc, left, right);
+        assert!(rt; matches!(met, Ok(false)));
     }
-    Ok(())
 }
 
 #[test]
@@ -54,15 +53,14 @@ impl Evict for Idle {
 }
 
 #[test]
-fn an_evictor_that_evicts_nothing_is_found(rt: HostRuntime) -> Result<(), Fail> {
+fn an_evictor_that_evicts_nothing_is_found(rt: HostRuntime) {
     let alloc = rt.alloc();
     let cache: Cache<MemoOf<Null>> = Cache::new(alloc);
-    let held = &mut cache.hold(&rt);
-    assert_eq!(rt; evictions_reach_a_cache(alloc, held, &Idle), Ok(false));
+    let reached = evictions_reach_a_cache(alloc, &mut cache.hold(&rt), &Idle);
+    assert!(rt; matches!(reached, Ok(false)));
     let cache: Cache<MemoOf<Double>> = Cache::new(alloc);
-    let held = &mut cache.hold(&rt);
-    assert_eq!(rt; evictions_reach_all_keys(alloc, held, &Idle), Ok(false));
-    Ok(())
+    let reached = evictions_reach_all_keys(alloc, &mut cache.hold(&rt), &Idle);
+    assert!(rt; matches!(reached, Ok(false)));
 }
 
 #[test]
@@ -70,29 +68,41 @@ fn an_eviction_reaches_all_keys(rt: HostRuntime) -> Result<(), Fail> {
     let alloc = rt.alloc();
     let cache: Arc<Cache<MemoOf<Double>>, Global> = Arc::new(alloc, Cache::new(alloc))?;
     let evictor = Evictor::new(Arc::try_clone(&cache)?, rt.clone()?);
-    let held = &mut cache.hold(&rt);
-    assert_eq!(rt; evictions_reach_all_keys(alloc, held, &evictor), Ok(true));
+    let reached = evictions_reach_all_keys(alloc, &mut cache.hold(&rt), &evictor);
+    assert!(rt; matches!(reached, Ok(true)));
     Ok(())
 }
 
-#[test]
-fn each_share_finds_what_another_kept(rt: HostRuntime) -> Result<(), Fail> {
-    let alloc = rt.alloc();
-    let cache: Cache<MemoOf<Double>> = Cache::new(alloc);
+/// Whether the double of 7 is given, and this becomes of the call.
+fn doubles_seven<H: Hold<MemoOf<Double>>>(alloc: Global, held: &mut H, how: How) -> bool {
     let nothing = ();
     let view = nothing.track(alloc);
-    for share in 0..9_u32 {
-        let held = &mut cache.hold(&rt);
-        let reply = memoized(alloc, held, &mut (), 7, &view, &mut Top::new(), true)?;
-        let how = if share == 0 { How::Stored } else { How::Hit };
-        assert_eq!(rt; (reply.output, reply.how), (14, how));
+    match memoized(alloc, held, &mut (), 7, &view, &mut Top::new(), true) {
+        Ok(reply) => reply.output == 14 && reply.how == how,
+        Err(_) => false,
+    }
+}
+
+/// The age of the entry that has the double of 7.
+fn age_of_seven<H: Hold<MemoOf<Double>>>(cache: &mut H) -> Option<usize> {
+    match cache.look(&7, &mut Hashed(7)) {
+        Ok(Some(found)) => Some(found.age),
+        _ => None,
+    }
+}
+
+#[test]
+fn each_share_finds_what_another_kept(rt: HostRuntime) {
+    let alloc = rt.alloc();
+    let cache: Cache<MemoOf<Double>> = Cache::new(alloc);
+    assert!(rt; doubles_seven(alloc, &mut cache.hold(&rt), How::Stored));
+    for _ in 1..9_u32 {
+        assert!(rt; doubles_seven(alloc, &mut cache.hold(&rt), How::Hit));
     }
     cache.evict(&rt, 0);
     for _ in 0..9_u32 {
-        let found = cache.hold(&rt).look(&7, &mut Hashed(7))?;
-        assert!(rt; found.is_none());
+        assert!(rt; age_of_seven(&mut cache.hold(&rt)).is_none());
     }
-    Ok(())
 }
 
 #[test]
@@ -105,10 +115,8 @@ fn a_holder_that_does_not_touch_is_found(rt: HostRuntime) -> Result<(), Fail> {
         held: cache.hold(&rt),
         dead: Step::Touch,
     };
-    assert_eq!(rt;
-        evictions_reach_a_cache(alloc, &mut held, &evictor),
-        Ok(false)
-    );
+    let reached = evictions_reach_a_cache(alloc, &mut held, &evictor);
+    assert!(rt; matches!(reached, Ok(false)));
     Ok(())
 }
 
@@ -128,62 +136,61 @@ impl<M: Memo, R: Wait + Drop> Evict for Numbered<M, R> {
     }
 }
 
+impl<M: Memo, R: Wait + Drop + Clone> Numbered<M, R> {
+    /// An evictor of this cache with this number.
+    fn new(
+        rt: &R,
+        cache: &Arc<Cache<M>, Global>,
+        number: u32,
+        list: &Arc<Mutex<Vec<u32>>, Global>,
+    ) -> Result<Self, AllocError> {
+        Ok(Numbered {
+            evictor: Evictor::new(Arc::try_clone(cache)?, rt.clone()?),
+            number,
+            list: Arc::try_clone(list)?,
+            rt: rt.clone()?,
+        })
+    }
+}
+
+/// Whether the output that is nothing is given, and this becomes of the call.
+fn gives_nothing<H: Hold<MemoOf<Null>>>(alloc: Global, held: &mut H, how: How) -> bool {
+    let nothing = ();
+    let view = nothing.track(alloc);
+    match memoized(alloc, held, &mut (), (), &view, &mut Top::new(), true) {
+        Ok(reply) => reply.output == 0 && reply.how == how,
+        Err(_) => false,
+    }
+}
+
 #[test]
 fn registered_evictors_evict_in_order(rt: HostRuntime) -> Result<(), Fail> {
     let alloc = rt.alloc();
+    let list: Arc<Mutex<Vec<u32>>, Global> = Arc::new(alloc, Mutex::new(Vec::new(alloc)))?;
     let doubles: Arc<Cache<MemoOf<Double>>, Global> = Arc::new(alloc, Cache::new(alloc))?;
     let nulls: Arc<Cache<MemoOf<Null>>, Global> = Arc::new(alloc, Cache::new(alloc))?;
-    let list: Arc<Mutex<Vec<u32>>, Global> = Arc::new(alloc, Mutex::new(Vec::new(alloc)))?;
     let mut evictors: Vec<Box<dyn Evict>> = Vec::new(alloc);
-    let first = Numbered {
-        evictor: Evictor::new(Arc::try_clone(&doubles)?, rt.clone()?),
-        number: 1,
-        list: Arc::try_clone(&list)?,
-        rt: rt.clone()?,
-    };
+    let first = Numbered::new(&rt, &doubles, 1, &list)?;
     register_evictor(&mut evictors, Box::new(alloc, first)?)?;
-    let second = Numbered {
-        evictor: Evictor::new(Arc::try_clone(&nulls)?, rt.clone()?),
-        number: 2,
-        list: Arc::try_clone(&list)?,
-        rt: rt.clone()?,
-    };
+    let second = Numbered::new(&rt, &nulls, 2, &list)?;
     register_evictor(&mut evictors, Box::new(alloc, second)?)?;
-    let nothing = ();
-    let view = nothing.track(alloc);
     for how in [How::Stored, How::Hit, How::Stored] {
         if how == How::Stored {
             evict(evictors.as_slice(), 0);
         }
-        let held = &mut doubles.hold(&rt);
-        let reply = memoized(alloc, held, &mut (), 7, &view, &mut Top::new(), true)?;
-        assert_eq!(rt; (reply.output, reply.how), (14, how));
-        let held = &mut nulls.hold(&rt);
-        let reply = memoized(alloc, held, &mut (), (), &view, &mut Top::new(), true)?;
-        assert_eq!(rt; (reply.output, reply.how), (0, how));
+        assert!(rt; doubles_seven(alloc, &mut doubles.hold(&rt), how));
+        assert!(rt; gives_nothing(alloc, &mut nulls.hold(&rt), how));
     }
-    assert_eq!(rt; list.lock(&rt).as_slice(), [1, 2, 1, 2].as_slice());
+    assert!(rt; list.lock(&rt).as_slice() == [1, 2, 1, 2].as_slice());
     Ok(())
 }
 
-/// The age of the entry that has the double of 7.
-fn age_of_seven<H: Hold<MemoOf<Double>>>(cache: &mut H) -> Option<usize> {
-    match cache.look(&7, &mut Hashed(7)) {
-        Ok(Some(found)) => Some(found.age),
-        _ => None,
-    }
-}
-
 #[test]
-fn an_eviction_that_overtakes_a_hit_comes_before_or_after_its_touch(
-    rt: HostRuntime,
-) -> Result<(), Fail> {
+fn an_eviction_that_overtakes_a_hit_comes_before_or_after_its_touch(rt: HostRuntime) {
     let alloc = rt.alloc();
     let cache: Cache<MemoOf<Double>> = Cache::new(alloc);
-    let nothing = ();
-    let view = nothing.track(alloc);
     let held = &mut cache.hold(&rt);
-    memoized(alloc, held, &mut (), 7, &view, &mut Top::new(), true)?;
+    assert!(rt; doubles_seven(alloc, held, How::Stored));
     let overtaken = &mut Overtaken {
         cache: &cache,
         held: cache.hold(&rt),
@@ -192,9 +199,7 @@ fn an_eviction_that_overtakes_a_hit_comes_before_or_after_its_touch(
     };
     // Of age 0 it was as good as touched before the eviction; of age 1 it is touched after the next one.
     for age in [1, 0] {
-        let reply = memoized(alloc, overtaken, &mut (), 7, &view, &mut Top::new(), true)?;
-        assert_eq!(rt; (reply.output, reply.how), (14, How::Hit));
-        assert_eq!(rt; age_of_seven(held), Some(age));
+        assert!(rt; doubles_seven(alloc, overtaken, How::Hit));
+        assert!(rt; age_of_seven(held) == Some(age));
     }
-    Ok(())
 }
