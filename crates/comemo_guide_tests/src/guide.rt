@@ -1,5 +1,7 @@
 //! The functions at work: which calls ran, and which were answered from the cache. The rows of `bench_rows` have those
 //! that are neither here nor in `writing`.
+//!
+//! Some helpers say how many of some calls, from the first on, are as said.
 
 use comemo::{CacheData, Caches, Function, How, MemoOf, Top, Track, memoized};
 use comemo_guide::both_pass::BothPass;
@@ -7,7 +9,7 @@ use comemo_guide::numbers::{DoubleFlat, Flat};
 use comemo_guide::orders::{Both, Either, Exceeds, Turn};
 use comemo_guide::passes::Passes;
 use comemo_guide::region::{Region, Warmest};
-use comemo_guide::report::{Kept, Report};
+use comemo_guide::report::Report;
 use comemo_guide::several::{IsWarmer, Lead};
 use comemo_guide::warmth::Warmth;
 use comemo_samples::Town;
@@ -20,10 +22,11 @@ fn town((people, degrees): Of) -> Town {
     Town { people, degrees }
 }
 
-/// Whether a call of a town, of a function that needs nothing, gives this output, and this becomes of it.
-fn gives<O: Copy + PartialEq, F: Function<Of = Town, Needs = (), Out = O>>(
+/// Whether a call of a town gives this output, and this becomes of it. It is enabled unless it is said not to be.
+fn gives<O: Copy + PartialEq, F: Function<Of = Town, Out = O>>(
     alloc: Global,
     cache: &mut CacheData<MemoOf<F>>,
+    needs: &mut F::Needs,
     key: F::Key,
     of: Of,
     output: O,
@@ -31,90 +34,85 @@ fn gives<O: Copy + PartialEq, F: Function<Of = Town, Needs = (), Out = O>>(
 ) -> bool {
     let town = town(of);
     let view = town.track(alloc);
-    match memoized(alloc, cache, &mut (), key, &view, &mut Top::new(), true) {
+    let enabled = how != How::Disabled;
+    match memoized(alloc, cache, needs, key, &view, &mut Top::new(), enabled) {
         Ok(reply) => reply.output == output && reply.how == how,
         Err(_) => false,
     }
+}
+
+/// How many calls give the degrees of a town, each with the number of entries that are kept then.
+fn degrees(alloc: Global, calls: &[(Of, How, usize)]) -> usize {
+    let mut cache: CacheData<MemoOf<Warmth>> = CacheData::new(alloc);
+    let mut held: usize = 0;
+    for (of, how, len) in calls {
+        let is_so = gives(alloc, &mut cache, &mut (), (), *of, of.1, *how);
+        if !is_so || cache.len() != *len {
+            break;
+        }
+        held = held.wrapping_add(1);
+    }
+    held
 }
 
 #[test]
 fn only_what_was_asked_counts(rt: HostRuntime) {
-    let alloc = rt.alloc();
-    let mut cache: CacheData<MemoOf<Warmth>> = CacheData::new(alloc);
-    let calls: &[(u64, u64, How)] = &[
-        (900, 21, How::Stored),
-        (7000, 21, How::Hit),
-        (7000, 4, How::Stored),
+    let calls: &[(Of, How, usize)] = &[
+        // what isn't enabled runs and keeps nothing
+        ((900, 21), How::Disabled, 0),
+        ((900, 21), How::Disabled, 0),
+        // as at the head of `comemo_guide`
+        ((900, 21), How::Stored, 1),
+        ((7000, 21), How::Hit, 1),
+        ((7000, 4), How::Stored, 2),
     ];
-    for (people, degrees, how) in calls {
-        let is_so = gives(alloc, &mut cache, (), (*people, *degrees), *degrees, *how);
-        assert!(rt; is_so, "for {people} {degrees}");
-    }
+    assert_eq!(rt; degrees(rt.alloc(), calls), 5);
 }
 
-#[test]
-fn a_number_is_kept_with_both_answers(rt: HostRuntime) {
-    let alloc = rt.alloc();
-    let mut cache: CacheData<MemoOf<Passes>> = CacheData::new(alloc);
-    let calls: &[(u64, u64, bool, How)] = &[
-        (900, 21, true, How::Stored),
-        (900, 21, true, How::Hit),
-        (900, 4, true, How::Stored),
-        (90, 4, false, How::Stored),
-        (900, 21, true, How::Hit),
-    ];
-    for (people, degrees, passes, how) in calls {
-        let is_so = gives(alloc, &mut cache, 500, (*people, *degrees), *passes, *how);
-        assert!(rt; is_so, "for {people} {degrees}");
-    }
-}
-
-#[test]
-fn what_a_helper_asked_counts_for_its_caller(rt: HostRuntime) {
-    let alloc = rt.alloc();
-    let mut cache: CacheData<MemoOf<BothPass>> = CacheData::new(alloc);
-    let calls: &[(u64, u64, bool, How)] = &[
-        (900, 21, true, How::Stored),
-        (900, 21, true, How::Hit),
-        (900, 4, false, How::Stored),
-        (9, 21, false, How::Stored),
-    ];
-    for (people, degrees, pass, how) in calls {
-        let is_so = gives(alloc, &mut cache, 20, (*people, *degrees), *pass, *how);
-        assert!(rt; is_so, "for {people} {degrees}");
-    }
-}
-
-#[test]
-fn a_question_that_was_not_asked_may_change(rt: HostRuntime) {
-    let alloc = rt.alloc();
-    let mut cache: CacheData<MemoOf<Exceeds>> = CacheData::new(alloc);
-    let calls: &[(u64, u64, bool, How)] = &[
-        (900, 21, true, How::Stored),
-        (900, 4, true, How::Hit),
-        (90, 4, false, How::Stored),
-    ];
-    for (people, degrees, exceeds, how) in calls {
-        let is_so = gives(alloc, &mut cache, 500, (*people, *degrees), *exceeds, *how);
-        assert!(rt; is_so, "for {people} {degrees}");
-    }
-}
-
-/// Whether a report on a town, by the limit 500 and the number 7, gives this output, and this becomes of the call.
-fn reports(
+/// How many calls of a function of a town and a number are so.
+fn answers<F: Function<Key = u64, Of = Town, Needs = (), Out = bool>>(
     alloc: Global,
-    cache: &mut CacheData<MemoOf<Report>>,
-    kept: &mut Kept,
-    of: Of,
-    output: u64,
-    how: How,
-) -> bool {
-    let town = town(of);
-    let view = town.track(alloc);
-    match memoized(alloc, cache, kept, (500, 7), &view, &mut Top::new(), true) {
-        Ok(reply) => reply.output == output && reply.how == how,
-        Err(_) => false,
+    number: u64,
+    calls: &[(Of, bool, How)],
+) -> usize {
+    let mut cache: CacheData<MemoOf<F>> = CacheData::new(alloc);
+    let mut held: usize = 0;
+    for (of, output, how) in calls {
+        if !gives(alloc, &mut cache, &mut (), number, *of, *output, *how) {
+            break;
+        }
+        held = held.wrapping_add(1);
     }
+    held
+}
+
+#[test]
+fn what_was_asked_alone_counts(rt: HostRuntime) {
+    let alloc = rt.alloc();
+    // A number is kept with both answers.
+    let passes: &[(Of, bool, How)] = &[
+        ((900, 21), true, How::Stored),
+        ((900, 21), true, How::Hit),
+        ((900, 4), true, How::Stored),
+        ((90, 4), false, How::Stored),
+        ((900, 21), true, How::Hit),
+    ];
+    assert_eq!(rt; answers::<Passes>(alloc, 500, passes), 5);
+    // What a helper asked counts for its caller.
+    let both_pass: &[(Of, bool, How)] = &[
+        ((900, 21), true, How::Stored),
+        ((900, 21), true, How::Hit),
+        ((900, 4), false, How::Stored),
+        ((9, 21), false, How::Stored),
+    ];
+    assert_eq!(rt; answers::<BothPass>(alloc, 20, both_pass), 4);
+    // A question that was not asked may change.
+    let exceeds: &[(Of, bool, How)] = &[
+        ((900, 21), true, How::Stored),
+        ((900, 4), true, How::Hit),
+        ((90, 4), false, How::Stored),
+    ];
+    assert_eq!(rt; answers::<Exceeds>(alloc, 500, exceeds), 3);
 }
 
 #[test]
@@ -130,114 +128,77 @@ fn what_a_called_function_asked_counts_for_its_caller(rt: HostRuntime) {
         ((90, 4), 7, How::Stored, 3, 2),
     ];
     for (of, output, how, limits, warmths) in calls {
-        let is_so = reports(alloc, &mut cache, &mut kept, *of, *output, *how);
+        let is_so = gives(alloc, &mut cache, &mut kept, (500, 7), *of, *output, *how);
         assert!(rt; is_so, "for {of:?}");
         assert_eq!(rt; kept.0.len(), *limits);
         assert_eq!(rt; kept.1.len(), *warmths);
     }
-}
-
-#[test]
-fn caches_of_one_function_are_evicted_together(rt: HostRuntime) {
-    let alloc = rt.alloc();
-    let mut cache: CacheData<MemoOf<Report>> = CacheData::new(alloc);
-    let mut kept = (CacheData::new(alloc), CacheData::new(alloc));
-    let is_so = reports(alloc, &mut cache, &mut kept, (900, 21), 21, How::Stored);
-    assert!(rt; is_so);
+    // The caches of the called functions are evicted together.
     kept.evict_all(1);
-    assert_eq!(rt; (kept.0.len(), kept.1.len()), (1, 1));
+    assert_eq!(rt; (kept.0.len(), kept.1.len()), (3, 2));
     kept.evict_all(1);
     assert_eq!(rt; (kept.0.len(), kept.1.len()), (0, 0));
-    assert_eq!(rt; cache.len(), 1);
+    assert_eq!(rt; cache.len(), 3);
 }
 
-/// Whether a call that is not enabled gives the degrees of a town.
-fn is_disabled(alloc: Global, cache: &mut CacheData<MemoOf<Warmth>>, of: Of) -> bool {
-    let town = town(of);
-    let view = town.track(alloc);
-    match memoized(alloc, cache, &mut (), (), &view, &mut Top::new(), false) {
-        Ok(reply) => reply.output == of.1 && reply.how == How::Disabled,
-        Err(_) => false,
-    }
-}
-
-#[test]
-fn a_call_that_is_not_enabled_runs_and_keeps_nothing(rt: HostRuntime) {
-    let alloc = rt.alloc();
-    let mut cache: CacheData<MemoOf<Warmth>> = CacheData::new(alloc);
-    for _ in 0..2 {
-        let is_so = is_disabled(alloc, &mut cache, (900, 21));
-        assert!(rt; is_so);
-    }
-    assert_eq!(rt; cache.len(), 0);
-}
-
-/// Whether the double of a number is given, and this becomes of the call.
-fn doubles(alloc: Global, cache: &mut CacheData<MemoOf<DoubleFlat>>, n: u32, how: How) -> bool {
+/// How many calls double a number.
+fn doubles(alloc: Global, calls: &[(u32, How)]) -> usize {
+    let mut cache: CacheData<MemoOf<DoubleFlat>> = CacheData::new(alloc);
     let view = ().track(alloc);
-    match memoized(alloc, cache, &mut (), Flat(n), &view, &mut Top::new(), true) {
-        Ok(reply) => reply.output == n.wrapping_mul(2) && reply.how == how,
-        Err(_) => false,
+    let mut held: usize = 0;
+    for (n, how) in calls {
+        let sink = &mut Top::new();
+        let is_so = match memoized(alloc, &mut cache, &mut (), Flat(*n), &view, sink, true) {
+            Ok(reply) => reply.output == n.wrapping_mul(2) && reply.how == *how,
+            Err(_) => false,
+        };
+        if !is_so {
+            break;
+        }
+        held = held.wrapping_add(1);
     }
+    held
 }
 
 #[test]
 fn keys_of_one_hash_are_told_apart(rt: HostRuntime) {
-    let alloc = rt.alloc();
-    let mut cache: CacheData<MemoOf<DoubleFlat>> = CacheData::new(alloc);
     let calls: &[(u32, How)] = &[(2, How::Stored), (3, How::Stored), (2, How::Hit)];
-    for (n, how) in calls {
-        let is_so = doubles(alloc, &mut cache, *n, *how);
-        assert!(rt; is_so, "for {n}");
-    }
+    assert_eq!(rt; doubles(rt.alloc(), calls), 3);
 }
 
-/// Whether a call that asks in this order gives this output, and this becomes of it.
-fn gives_in_turn<O: Copy + PartialEq, F: Function<Key = (), Of = Town, Needs = Turn, Out = O>>(
+/// How many calls of a function that asks in this order are so, each with the number of entries that are kept then.
+fn in_turn<O: Copy + PartialEq, F: Function<Key = (), Of = Town, Needs = Turn, Out = O>>(
     alloc: Global,
-    cache: &mut CacheData<MemoOf<F>>,
-    mut turn: Turn,
-    of: Of,
-    output: O,
-    how: How,
-) -> bool {
-    let town = town(of);
-    let view = town.track(alloc);
-    match memoized(alloc, cache, &mut turn, (), &view, &mut Top::new(), true) {
-        Ok(reply) => reply.output == output && reply.how == how,
-        Err(_) => false,
+    calls: &[(Turn, Of, O, How, usize)],
+) -> usize {
+    let mut cache: CacheData<MemoOf<F>> = CacheData::new(alloc);
+    let mut held: usize = 0;
+    for (turn, of, output, how, len) in calls {
+        let mut turn = *turn;
+        let is_so = gives(alloc, &mut cache, &mut turn, (), *of, *output, *how);
+        if !is_so || cache.len() != *len {
+            break;
+        }
+        held = held.wrapping_add(1);
     }
+    held
 }
 
 #[test]
-fn a_run_that_lacks_a_stored_question_is_not_kept(rt: HostRuntime) {
+fn the_order_of_questions_may_change_but_none_may_be_lacking(rt: HostRuntime) {
     let alloc = rt.alloc();
-    let mut cache: CacheData<MemoOf<Either>> = CacheData::new(alloc);
-    let calls: &[(Turn, Of, u64, How)] = &[
-        (Turn::People, (0, 7), 0, How::Stored),
-        (Turn::Degrees, (1, 7), 7, How::MissingCall),
+    let either: &[(Turn, Of, u64, How, usize)] = &[
+        (Turn::People, (0, 7), 0, How::Stored, 1),
+        (Turn::Degrees, (1, 7), 7, How::MissingCall, 1),
     ];
-    for (turn, of, output, how) in calls {
-        let is_so = gives_in_turn(alloc, &mut cache, *turn, *of, *output, *how);
-        assert!(rt; is_so, "for {of:?}");
-    }
-    assert_eq!(rt; cache.len(), 1);
-}
-
-#[test]
-fn the_order_of_questions_may_change(rt: HostRuntime) {
-    let alloc = rt.alloc();
-    let mut cache: CacheData<MemoOf<Both>> = CacheData::new(alloc);
-    let calls: &[(Turn, Of, How)] = &[
-        (Turn::People, (0, 7), How::Stored),
-        (Turn::Degrees, (0, 7), How::Hit),
-        (Turn::Degrees, (1, 7), How::Stored),
-        (Turn::Degrees, (1, 7), How::Hit),
+    assert_eq!(rt; in_turn::<u64, Either>(alloc, either), 2);
+    let both: &[(Turn, Of, Of, How, usize)] = &[
+        (Turn::People, (0, 7), (0, 7), How::Stored, 1),
+        (Turn::Degrees, (0, 7), (0, 7), How::Hit, 1),
+        (Turn::Degrees, (1, 7), (1, 7), How::Stored, 2),
+        (Turn::Degrees, (1, 7), (1, 7), How::Hit, 2),
     ];
-    for (turn, of, how) in calls {
-        let is_so = gives_in_turn(alloc, &mut cache, *turn, *of, *of, *how);
-        assert!(rt; is_so, "for {of:?}");
-    }
+    assert_eq!(rt; in_turn::<Of, Both>(alloc, both), 4);
 }
 
 /// Whether it is said so which of two towns is warmer, and this becomes of the call.

@@ -5,60 +5,80 @@ use comemo_guide::adding::{Adds, AddsTwice};
 use comemo_guide::tally::Tally;
 use comemo_samples::{Counter, Town};
 use std::alloc::Global;
-use std::test::Fail;
+
+/// Whether a call that adds a number gives the next one, and this becomes of the call.
+fn adds(
+    alloc: Global,
+    cache: &mut CacheData<MemoOfMut<Adds>>,
+    number: u64,
+    counter: &mut Counter,
+    how: How,
+) -> bool {
+    match memoized_mut(
+        alloc,
+        cache,
+        &mut (),
+        number,
+        counter,
+        &mut Top::new(),
+        true,
+    ) {
+        Ok(reply) => reply.output == number.wrapping_add(1) && reply.how == how,
+        Err(_) => false,
+    }
+}
 
 #[test]
-fn a_hit_adds_again(rt: HostRuntime) -> Result<(), Fail> {
+fn a_hit_adds_again(rt: HostRuntime) {
     let alloc = rt.alloc();
     let mut cache: CacheData<MemoOfMut<Adds>> = CacheData::new(alloc);
     let mut counter = Counter { number: 0 };
-    let calls = [
+    let calls: &[(u64, How, u64)] = &[
         (5, How::Stored, 6),
         (5, How::Hit, 12),
         (2, How::Stored, 15),
         (5, How::Hit, 21),
     ];
     for (number, how, sum) in calls {
-        let reply = memoized_mut(
-            alloc,
-            &mut cache,
-            &mut (),
-            number,
-            &mut counter,
-            &mut Top::new(),
-            true,
-        )?;
-        assert_eq!(rt; (reply.output, reply.how), (number + 1, how));
-        assert_eq!(rt; counter.number, sum);
+        let is_so = adds(alloc, &mut cache, *number, &mut counter, *how);
+        assert!(rt; is_so, "for {number} {how:?}");
+        assert_eq!(rt; counter.number, *sum);
     }
-    Ok(())
+}
+
+/// Whether a call that adds a number and the next one gives the one behind that, and this becomes of the call.
+fn adds_twice(
+    alloc: Global,
+    cache: &mut CacheData<MemoOfMut<AddsTwice>>,
+    kept: &mut CacheData<MemoOfMut<Adds>>,
+    number: u64,
+    counter: &mut Counter,
+    how: How,
+) -> bool {
+    match memoized_mut(alloc, cache, kept, number, counter, &mut Top::new(), true) {
+        Ok(reply) => reply.output == number.wrapping_add(2) && reply.how == how,
+        Err(_) => false,
+    }
 }
 
 #[test]
-fn what_was_added_within_is_added_again(rt: HostRuntime) -> Result<(), Fail> {
+fn what_was_added_within_is_added_again(rt: HostRuntime) {
     let alloc = rt.alloc();
     let mut cache: CacheData<MemoOfMut<AddsTwice>> = CacheData::new(alloc);
     let mut kept: CacheData<MemoOfMut<Adds>> = CacheData::new(alloc);
     let mut counter = Counter { number: 0 };
-    for (number, how, sum, inner) in [
+    // How many entries the called function keeps then stands last.
+    let calls: &[(u64, How, u64, usize)] = &[
         (5, How::Stored, 13, 2),
         (5, How::Hit, 26, 2),
         (6, How::Stored, 41, 3),
-    ] {
-        let reply = memoized_mut(
-            alloc,
-            &mut cache,
-            &mut kept,
-            number,
-            &mut counter,
-            &mut Top::new(),
-            true,
-        )?;
-        assert_eq!(rt; (reply.output, reply.how), (number + 2, how));
-        assert_eq!(rt; counter.number, sum);
-        assert_eq!(rt; kept.len(), inner);
+    ];
+    for (number, how, sum, inner) in calls {
+        let is_so = adds_twice(alloc, &mut cache, &mut kept, *number, &mut counter, *how);
+        assert!(rt; is_so, "for {number} {how:?}");
+        assert_eq!(rt; counter.number, *sum);
+        assert_eq!(rt; kept.len(), *inner);
     }
-    Ok(())
 }
 
 /// Whether a tally of a town gives its degrees, and this becomes of the call, and the counter has this number then.
