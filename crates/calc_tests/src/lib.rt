@@ -6,6 +6,8 @@ mod commands;
 #[cfg(test)]
 mod evaluation;
 #[cfg(test)]
+mod examples;
+#[cfg(test)]
 mod files;
 #[cfg(test)]
 mod lines;
