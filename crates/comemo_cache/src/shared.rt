@@ -176,6 +176,61 @@ impl<M: Memo> Lane<M> {
     }
 }
 
+/// The lanes of all parts, one part after the other.
+#[derive(Drop)]
+struct Lanes<M: Memo> {
+    rows: [[Lane<M>; ROW]; ROWS],
+}
+
+impl<M: Memo> Lanes<M> {
+    /// Those of parts without entries. It takes no memory.
+    fn new() -> Self {
+        Lanes {
+            rows: [
+                Lane::row(),
+                Lane::row(),
+                Lane::row(),
+                Lane::row(),
+                Lane::row(),
+                Lane::row(),
+                Lane::row(),
+                Lane::row(),
+                Lane::row(),
+                Lane::row(),
+                Lane::row(),
+                Lane::row(),
+                Lane::row(),
+                Lane::row(),
+                Lane::row(),
+                Lane::row(),
+                Lane::row(),
+                Lane::row(),
+                Lane::row(),
+                Lane::row(),
+                Lane::row(),
+                Lane::row(),
+                Lane::row(),
+                Lane::row(),
+                Lane::row(),
+                Lane::row(),
+                Lane::row(),
+                Lane::row(),
+                Lane::row(),
+                Lane::row(),
+                Lane::row(),
+                Lane::row(),
+            ],
+        }
+    }
+
+    /// All of them as one slice.
+    fn all(&self) -> &[Lane<M>]
+        ensures { length result.now ≡ 256 }
+    {
+        self.rows.as_flattened()
+    }
+}
+
 /// All lanes of a part, held to write: no look-up is on its way then.
 #[derive(Drop)]
 struct Alone<'a, M: Memo> {
@@ -238,7 +293,7 @@ impl<M: Memo> Alone<'_, M> {
 #[derive(Drop)]
 pub struct Cache<M: Memo> {
     alloc: Global,
-    lanes: [[Lane<M>; ROW]; ROWS],
+    lanes: Lanes<M>,
     // How many shares were made, so that they take the lanes by turns.
     shares: AtomicU64,
 }
@@ -250,40 +305,7 @@ impl<M: Memo> Cache<M> {
     pub fn new(alloc: Global) -> Self {
         Cache {
             alloc,
-            lanes: [
-                Lane::row(),
-                Lane::row(),
-                Lane::row(),
-                Lane::row(),
-                Lane::row(),
-                Lane::row(),
-                Lane::row(),
-                Lane::row(),
-                Lane::row(),
-                Lane::row(),
-                Lane::row(),
-                Lane::row(),
-                Lane::row(),
-                Lane::row(),
-                Lane::row(),
-                Lane::row(),
-                Lane::row(),
-                Lane::row(),
-                Lane::row(),
-                Lane::row(),
-                Lane::row(),
-                Lane::row(),
-                Lane::row(),
-                Lane::row(),
-                Lane::row(),
-                Lane::row(),
-                Lane::row(),
-                Lane::row(),
-                Lane::row(),
-                Lane::row(),
-                Lane::row(),
-                Lane::row(),
-            ],
+            lanes: Lanes::new(),
             shares: AtomicU64::new(0),
         }
     }
@@ -305,7 +327,7 @@ impl<M: Memo> Cache<M> {
     ///
     /// comemo's `Cache::evict`.
     pub fn evict<R: Wait>(&self, rt: &R, max_age: usize) {
-        evict_parts(rt, self.lanes.as_flattened(), max_age);
+        evict_parts(rt, self.lanes.all(), max_age);
     }
 
     /// The lanes of the part that has the entries under a key. The key is hashed as a map does it, once more than the map
@@ -316,7 +338,7 @@ impl<M: Memo> Cache<M> {
         let mut hasher = FoldHasher::default();
         key.hash(&mut hasher);
         let first = (hasher.finish() >> 58) as usize * LANES;
-        &self.lanes.as_flattened()[first..first + LANES]
+        &self.lanes.all()[first..first + LANES]
     }
 }
 
