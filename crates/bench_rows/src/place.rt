@@ -19,11 +19,17 @@ pub(crate) enum PlaceCall {
 impl Call for PlaceCall {
     ghost is_write = { λ _. false };
 
+    ghost touches = { λ _ _. false };
+
     ghost same_kind = { λ x y h. refl };
 
     ghost clones = { λ x y h. Prim.search rules };
 
     fn is_mutable(&self) -> bool {
+        false
+    }
+
+    fn touches(&self, _read: &PlaceCall) -> bool {
         false
     }
 }

@@ -3,7 +3,7 @@
 use crate::broken::Broken;
 use bench_workers::{
     Null, branches_are_absorbed_in_order, evictions_reach_a_cache, two_runs_of_one_key,
-    two_runs_that_ask_other_questions, workers_beside_evictions,
+    two_runs_that_ask_in_turned_order, two_runs_that_ask_other_questions, workers_beside_evictions,
 };
 use comemo::{Cache, Evict, Memo, MemoOf};
 use comemo_guide::double::Double;
@@ -28,6 +28,14 @@ pub(crate) fn other_questions<R: Threads + Wait + Clock + Sync>(
     alloc: Global,
 ) -> Result<bool, Broken> {
     Ok(two_runs_that_ask_other_questions(rt, alloc)?)
+}
+
+/// Whether of two runs that are open at once and ask the same questions in other orders one is stored, and the other exists.
+pub(crate) fn turned_orders<R: Threads + Wait + Clock + Sync>(
+    rt: &R,
+    alloc: Global,
+) -> Result<bool, Broken> {
+    Ok(two_runs_that_ask_in_turned_order(rt, alloc)?)
 }
 
 /// Whether sixteen workers get right outputs beside a thread that evicts their cache.

@@ -20,12 +20,18 @@ pub struct Numbered {
 impl Call for Numbered {
     ghost is_write = { λ call. call.writes };
 
+    ghost touches = { λ _ _. false };
+
     ghost same_kind = { λ x y h. Prim.search rules };
 
     ghost clones = { λ x y h. Prim.search rules };
 
     fn is_mutable(&self) -> bool {
         self.writes
+    }
+
+    fn touches(&self, _read: &Numbered) -> bool {
+        false
     }
 }
 

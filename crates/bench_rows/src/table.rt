@@ -20,7 +20,7 @@ use crate::sessions::{
 use crate::settled::no_run_is_lost;
 use crate::sharing::{
     a_shared_cache_stores_one_of_two, branches_and_evictions, evictions_beside_workers,
-    other_questions,
+    other_questions, turned_orders,
 };
 use crate::streams::what_was_answered_was_written;
 use crate::texts::{functions_are_kept, two_kinds_of_questions};
@@ -81,5 +81,6 @@ pub fn run_rows<R: Threads + Wait + Clock + Sync>(rt: &R, alloc: Global) -> Outc
     rows.row("R13", evictions_beside_workers(rt, alloc));
     rows.row("R14", keys_of_one_hash_are_kept_apart(alloc));
     rows.row("R14", what_is_said_to_be_kept_is_found(alloc));
+    rows.row("R14", turned_orders(rt, alloc));
     rows
 }

@@ -3,7 +3,8 @@ ghost use Rattle.std.specs.Prelude.{◌≡◌, Option, None, true, false, IfErr,
 ghost use Rattle.std.specs.List.{All};
 ghost use Rattle.comemo.specs.Lookup.{under};
 ghost use Rattle.comemo.specs.Insertion.{IsReason};
-ghost use Rattle.comemo.specs.Meaning.{exactly, run};
+ghost use Rattle.comemo_base.specs.declared.insertion.InsertError.TheVariants.{MissingCall};
+ghost use Rattle.comemo.specs.Meaning.{IsNamed, IsNamedRun, exactly, run};
 ghost use Rattle.comemo.specs.Cache.{Entries, Stands};
 ghost use Rattle.comemo.specs.Storing.{Stores};
 ghost use Rattle.comemo.specs.Held.{Held, Leads, Stays};
@@ -63,6 +64,7 @@ impl<M: Memo, R: Wait> Hold<M> for Dead<'_, M, R> {
         requires written { All (λ c. M.Call.is_write c ≡ true) writes.items }
         requires stands { Stands ⟦<M as Meant>⟧.meaning
             (run key (Q.pairs reads) output writes.items) }
+        requires settled { IsNamedRun ⟦<M as Meant>⟧.meaning key (Q.pairs reads) }
         ensures stored { let none : Option (Entries M.Key M.Call M.Answer M.Out) = None in
             OnOk result (Leads none none (λ es es'.
             Stores (exactly ⟦<M as Meant>⟧.meaning) es
@@ -70,6 +72,8 @@ impl<M: Memo, R: Wait> Hold<M> for Dead<'_, M, R> {
         ensures reason { let none : Option (Entries M.Key M.Call M.Answer M.Out) = None in
             IfErr result (λ error. Held none (λ es.
             IsReason M.Call.eq M.Answer.eq (under M.Key.eq es key) (Q.pairs reads) error)) }
+        ensures named { IfErr result (λ error. error ≡ MissingCall
+            → ¬ IsNamed ⟦<M as Meant>⟧.meaning) }
         ensures err { let none : Option (Entries M.Key M.Call M.Answer M.Out) = None in
             OnErr result (Stays none none) }
     {

@@ -15,6 +15,7 @@ mod doubling;
 mod empties;
 mod gate;
 mod nulls;
+mod orders;
 mod workers;
 
 pub use branches::branches_are_absorbed_in_order;
@@ -22,4 +23,5 @@ pub use doubling::{doubled, evictions_reach_all_keys, two_runs_of_one_key};
 pub use empties::two_runs_that_ask_other_questions;
 pub use gate::{Gate, Meeting, Open, TURNS};
 pub use nulls::{Null, evictions_reach_a_cache};
+pub use orders::two_runs_that_ask_in_turned_order;
 pub use workers::{threads, workers_beside_evictions};

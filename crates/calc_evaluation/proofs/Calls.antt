@@ -13,7 +13,7 @@ use Rattle.calc_scripts.specs.declared.outcome.Outcome.{Outcome}
 use Rattle.calc_files.specs.declared.files.Files.{Files}
 use Rattle.calc_files.specs.Files.{JoinedCall, JoinedAnswer, answers_of}
 use Rattle.calc_files.specs.Joined.{with_files}
-use Rattle.calc_evaluation.specs.Evaluations.{At, ComesTo, Outcomes, evaluating}
+use Rattle.calc_evaluation.specs.Evaluations.{At, Comes, Outcomes, evaluating}
 use Rattle.calc_evaluation.specs.Calls.{Missed, RunEnded, moves, EvalReply}
 use Rattle.calc_evaluation.proofs.Evaluations.{script_given}
 use Rattle.calc_files.proofs.FileCalls.{key_bytes}
@@ -76,9 +76,10 @@ led_by_reply files {script = script} {es = es} {es' = es'} {reply = reply} is =
             agrees = replied.agrees;
             stands = λ m r a.
                 let stands = replied.stands m r a in
-                (stands.0, λ n second. subst (λ script. ComesTo n script reply.output) (key_bytes is.key came.own.0 came.has_key) (stands.1 n second));
+                (stands.0, subst (λ script. Comes m script reply.output) (key_bytes is.key came.own.0 came.has_key) stands.1);
             reply = reply.how;
             enabled = λ same. let off : true ≡ false = came.disabled.0 same in cc;
+            early = came.early;
             ends = came.ends;
           } in
           is_run missed (is.calls (λ same. subst (λ h. Ends evaluating is.mid (record ran { key = came.own }) h es') same came.ends)) ended

@@ -1,5 +1,5 @@
 -- What a part of a script comes to where it calls another one, and what a run of a script learnt.
-use Rattle.std.proofs.Common.{◌≡◌, ◌≤◌, true, IsTrue, ℕ, List, [], ◌++◌, Result, Ok, Err, IsErrAnd, ◌∙◌, ◌↔◌, ◌≢◌, String, string_bytes, refl, sym, ap, subst, append-nil}
+use Rattle.std.proofs.Common.{◌≡◌, ◌≤◌, true, false, IsTrue, ℕ, List, [], ◌++◌, Result, Ok, Err, IsErrAnd, ◌∙◌, ◌↔◌, ◌≢◌, String, string_bytes, refl, sym, ap, subst, append-nil}
 use Rattle.std.specs.Bool.{⊤}
 use Rattle.std.specs.Global.{Global}
 use Rattle.comemo.specs.Answers.{Respects, Agrees}
@@ -14,17 +14,18 @@ use Rattle.calc_scripts.specs.Parts.{IsEval}
 use Rattle.calc_scripts.proofs.Meanings.{means_map, deep_map, deep_is_too_deep}
 use Rattle.calc_scripts.specs.declared.outcome.Outcome.{Outcome}
 use Rattle.calc_files.specs.declared.files.Files.{Files}
-use Rattle.calc_files.specs.Files.{JoinedCall, JoinedAnswer, OnFiles, Reads, with_key, text_at, answers_of}
+use Rattle.comemo.specs.Multi.{second_call, second_answer}
+use Rattle.calc_files.specs.Files.{JoinedCall, JoinedAnswer, Reads, with_key, text_at, answers_of}
 use Rattle.calc_evaluation.specs.declared.evaluation.EvalFault.{EvalFault}
 use Rattle.calc_evaluation.specs.declared.evaluation.EvalFault.TheVariants.{TooDeep, Memory}
-use Rattle.calc_evaluation.specs.Evaluations.{At, ComesTo, PartComesTo, IsOutcome, Outcomes, evaluating}
+use Rattle.calc_evaluation.specs.Evaluations.{At, Comes, ComesTo, PartComes, IsOutcome, Outcomes, evaluating}
 use Rattle.calc_files.specs.Joined.{FilesFit}
 use Rattle.calc_files.specs.declared.files.FileCall.{FileCall}
 use Rattle.calc_files.specs.declared.files.FileCall.TheVariants.{Read}
 use Rattle.calc_files.proofs.WhatReadsTell.{files_respect}
-use Rattle.calc_files.specs.Joined.{same_call, same_answer, same_key, with_files}
+use Rattle.calc_files.specs.Joined.{same_call, same_answer, same_key, touches, with_files}
 use Rattle.calc_files.proofs.FileCalls.{key_bytes}
-use Rattle.calc_files.proofs.JoinedCalls.{tests}
+use Rattle.calc_files.proofs.JoinedCalls.{tests, still_early, was_early}
 
 -- what was learnt before is still known, and what is learnt in the end is this
 pub learns_on : {s t u : Recording JoinedCall JoinedAnswer} {P Q R : (JoinedCall → JoinedAnswer) → Type 0} → Learns same_call same_answer s t P → Learns same_call same_answer t u Q → ((m : JoinedCall → JoinedAnswer) → P m → Q m → R m) → Learns same_call same_answer s u R
@@ -38,15 +39,15 @@ pub learns_more : {s t : Recording JoinedCall JoinedAnswer} {P Q : (JoinedCall �
 learns_more learns more = record { before = learns.before; told = λ m f. more m (learns.told m f) }
 
 -- what was learnt holds of the files that fit
-pub of_files : (files : Files) {s t : Recording JoinedCall JoinedAnswer} {P : (FileCall → List ℕ) → Type 0} → Learns same_call same_answer s t (OnFiles P) → FilesFit files t → P (answers_of files)
-of_files files learns fits = learns.told (with_key (answers_of files)) fits (answers_of files) (λ c. refl)
+pub of_files : (files : Files) {s t : Recording JoinedCall JoinedAnswer} {P : (JoinedCall → JoinedAnswer) → Type 0} → Learns same_call same_answer s t P → FilesFit files t → P (with_key (answers_of files))
+of_files files learns fits = learns.told (with_key (answers_of files)) fits
 
 -- nothing was recorded, and P holds whatever is answered
 pub learns_nothing : (s : Recording JoinedCall JoinedAnswer) {P : (JoinedCall → JoinedAnswer) → Type 0} → ((m : JoinedCall → JoinedAnswer) → P m) → Learns same_call same_answer s s P
 learns_nothing s p = record { before = λ m f. f; told = λ m f. p m }
 
 -- what a call of a script gave a recording
-module _ (files : Files) {t u : Recording JoinedCall JoinedAnswer} {key : String Global} {es mid es' : Outcomes} {reply : Reply Outcome} (replied : IsReply evaluating (with_files key files) es mid (Took same_call t u) reply es') where
+module _ (files : Files) {t u : Recording JoinedCall JoinedAnswer} {key : String Global} {es mid es' : Outcomes} {reply : Reply Outcome} (replied : IsReply evaluating (with_files key files) es mid (Took same_call touches t u) reply es') where
   given : Agrees same_answer (with_key (answers_of files)) replied.gives.given
   given = (replied.gives.agreeing (with_key (answers_of files)) (files_respect files)).1 replied.agrees
 
@@ -54,11 +55,11 @@ module _ (files : Files) {t u : Recording JoinedCall JoinedAnswer} {key : String
   ran agrees = told_pairs (keyed_calls tests) (keyed_answers tests) (with_key (answers_of files)) (files_respect files) t u replied.gives.given replied.writes agrees given replied.gives.are_sent
 
   pub fits_call : FilesFit files t → FilesFit files u
-  fits_call fits = record { whole = replied.gives.are_sent.whole ∙ fits.whole; respects = fits.respects; agrees = (ran fits.agrees).agrees }
+  fits_call fits = record { whole = replied.gives.are_sent.whole ∙ fits.whole; early = still_early replied.gives.given replied.writes replied.gives.are_sent fits.early; respects = fits.respects; agrees = (ran fits.agrees).agrees }
 
-  pub learns_call : FilesFit files t → Learns same_call same_answer t u (OnFiles (λ n. ComesTo n (string_bytes key) reply.output))
+  pub learns_call : FilesFit files t → Learns same_call same_answer t u (λ m. Comes m (string_bytes key) reply.output)
   learns_call fits = record {
-    before = λ m f. record { whole = sym replied.gives.are_sent.whole ∙ f.whole; respects = f.respects; agrees = (ran fits.agrees).before m f.respects f.agrees };
+    before = λ m f. record { whole = sym replied.gives.are_sent.whole ∙ f.whole; early = was_early replied.gives.given replied.writes replied.gives.are_sent f.early; respects = f.respects; agrees = (ran fits.agrees).before m f.respects f.agrees };
     told = λ m f. (replied.stands m f.respects ((replied.gives.agreeing m f.respects).0 ((ran fits.agrees).told m f.respects f.agrees))).1;
   }
 
@@ -70,18 +71,18 @@ module _ (files : Files) {t u : Recording JoinedCall JoinedAnswer} {key : String
 -- what a call gave its sink stands for what it gave its caller
 pub script_given : {sent : List (JoinedCall × JoinedAnswer) → List JoinedCall → Type 0} (files : Files) {key : String Global} {script : List ℕ} {es mid es' : Outcomes} {reply : Reply Outcome} → string_bytes key ≡ script → IsReply evaluating (with_files key files) es mid sent reply es' → ComesTo (answers_of files) script reply.output
 script_given files {reply = reply} same replied =
-    subst (λ script. ComesTo (answers_of files) script reply.output) same ((replied.stands (with_key (answers_of files)) (files_respect files) replied.agrees).1 (answers_of files) (λ c. refl))
+    subst (λ script. ComesTo (answers_of files) script reply.output) same (replied.stands (with_key (answers_of files)) (files_respect files) replied.agrees).1
 
 -- a part that calls a script comes to what that script comes to
-pub part_called : (key : String Global) (text : List ℕ) {part path : List ℕ} {own : String Global} {outcome : Outcome} → IsEval part path → string_bytes own ≡ path → string_bytes key ≡ text → (m : JoinedCall → JoinedAnswer) → OnFiles (λ n. n (Read own) ≡ text) m → OnFiles (λ n. ComesTo n (string_bytes key) outcome) m → OnFiles (λ n. PartComesTo n part outcome) m
-part_called key text {own = own} {outcome = outcome} is named same m told comes n second =
-    is_eval is (own, named, told n second) (subst (λ script. ComesTo n script outcome) same (comes n second))
+pub part_called : (key : String Global) (text : List ℕ) {part path : List ℕ} {own : String Global} {outcome : Outcome} → IsEval part path → string_bytes own ≡ path → string_bytes key ≡ text → (m : JoinedCall → JoinedAnswer) → m (second_call (Read own)) ≡ second_answer text → Comes m (string_bytes key) outcome → PartComes m part outcome
+part_called key text {own = own} {outcome = outcome} is named same m told comes =
+    is_eval is (own, named, told) (subst (λ script. Comes m script outcome) same comes)
 
 -- what was learnt of a script, which is the run's key, stands where the run is finished
-pub run_stands : (script : List ℕ) (s t : Recording JoinedCall JoinedAnswer) (key : String Global) (own : String Global × ⊤) (outcome : Outcome) → string_bytes key ≡ script → IsTrue (same_key (key, tt) own) → s.writes ≡ [] → t.writes ≡ s.writes → Learns same_call same_answer s t (OnFiles (λ n. ComesTo n script outcome)) → t.whole ≡ true → (m : JoinedCall → JoinedAnswer) → Respects same_call same_answer m → Agrees same_answer m t.pairs → IsOutcome own m outcome t.writes
-run_stands script s t key own outcome same has none writes learns whole m respects agrees = (
+pub run_stands : (script : List ℕ) (s t : Recording JoinedCall JoinedAnswer) (key : String Global) (own : String Global × ⊤) (outcome : Outcome) → string_bytes key ≡ script → IsTrue (same_key (key, tt) own) → s.writes ≡ [] → t.writes ≡ s.writes → Learns same_call same_answer s t (λ m. Comes m script outcome) → t.whole ≡ true → t.late ≡ false → (m : JoinedCall → JoinedAnswer) → Respects same_call same_answer m → Agrees same_answer m t.pairs → IsOutcome own m outcome t.writes
+run_stands script s t key own outcome same has none writes learns whole early m respects agrees = (
   writes ∙ none,
-  λ n second. subst (λ script. ComesTo n script outcome) (sym same ∙ key_bytes key own.0 has) (learns.told m (record { whole = whole; respects = respects; agrees = agrees }) n second),
+  subst (λ script. Comes m script outcome) (sym same ∙ key_bytes key own.0 has) (learns.told m (record { whole = whole; early = early; respects = respects; agrees = agrees })),
 )
 
 abbrev fault_or : {A : Type 0} → EvalFault → Result A EvalFault → EvalFault
@@ -93,9 +94,12 @@ pub handed_on : {A : Type 0} (r : Result A EvalFault) (f g : EvalFault) → IsEr
 handed_on (Ok x) f g h e = absurd h
 handed_on (Err x) f g h e = sym h ∙ ap (fault_or f) e
 
+pub text_is : {a b : List ℕ} → (let x : JoinedAnswer = second_answer a in x) ≡ second_answer b → a ≡ b
+text_is e = cc
+
 -- what is answered when a path is read is the text there
 pub reads : (files : Files) (path text : List ℕ) → At (answers_of files) path text → Reads (text_at files) path text
-reads files path text (own, named, gives) = subst (λ p. text_at files p ≡ text) named gives
+reads files path text (own, named, gives) = subst (λ p. text_at files p ≡ text) named (text_is gives)
 
 -- what goes deeper than the limit is too deep for it
 pub too_deep : (files : Files) {script : List ℕ} {limit : ℕ} → Deep (At (answers_of files)) script limit → IsTooDeep (Reads (text_at files)) script limit

@@ -1,3 +1,4 @@
 pub mod Evaluations
+pub mod Asking
 pub mod Calls
 pub mod TooDeep

@@ -5,6 +5,7 @@ use Rattle.comemo.specs.Answers.{Agrees}
 use Rattle.comemo.specs.Meaning.{Run}
 use Rattle.comemo.specs.Cache.{Stands, HasNone, Touches}
 use Rattle.comemo.specs.Called.{IsReply, CameByHit}
+use Rattle.comemo.specs.Runs.{IsRun}
 use Rattle.comemo.specs.Finish.{Ends}
 use Rattle.comemo.specs.declared.pending.How.{How}
 use Rattle.comemo.specs.declared.pending.How.TheVariants as how
@@ -13,8 +14,8 @@ use Rattle.calc_scripts.specs.Calls.{Moves, RunLeads}
 use Rattle.calc_scripts.specs.declared.outcome.Outcome.{Outcome}
 use Rattle.calc_files.specs.declared.files.Files.{Files}
 use Rattle.calc_files.specs.Files.{JoinedCall, JoinedAnswer, answers_of, with_key}
-use Rattle.calc_files.specs.Joined.{same_answer, same_key, with_files}
-use Rattle.calc_evaluation.specs.Evaluations.{At, ComesTo, Outcomes, evaluating}
+use Rattle.calc_files.specs.Joined.{same_call, same_answer, same_key, with_files}
+use Rattle.calc_evaluation.specs.Evaluations.{At, ComesTo, ScriptAsks, Outcomes, evaluating}
 
 module _ (files : Files) (script : List ℕ) where
   -- an entry of es under the script agrees with the files, its outcome is what the script comes to, and it was touched
@@ -47,6 +48,7 @@ module _ (files : Files) (script : List ℕ) where
     pub stands : Stands evaluating ran
     pub reply : How
     pub enabled : reply ≢ how.Disabled
+    pub early : reply ≢ how.Late
     pub ends : Ends evaluating es ran reply es'
 
 -- what a call of a script does to the entries, at these files; one that is refused, as a hit that is too deep, only touches
@@ -54,10 +56,12 @@ abbrev pub moves : Files → Moves Outcomes
 moves files = record { hit = HitLed files; missed = Missed files; ended = RunEnded files; refused = OnlyTouches files }
 
 -- the reply to a call of a script: by an entry of es that agrees with the files; or none of them did, the scripts that the run
--- called, one after the other, led from es to mid, and the run ended at mid, after which the entries are es'
+-- called, one after the other, led from es to mid, and the run ended at mid, after which the entries are es'. The reads that it
+-- rests on are what the script asks for
 pub record EvalReply (files : Files) (script : List ℕ) (es : Outcomes) (sent : List (JoinedCall × JoinedAnswer) → List JoinedCall → Type 0) (reply : Reply Outcome) (es' : Outcomes) : Type 0 where
   pub key : String Global
   pub names : string_bytes key ≡ script
   pub mid : Outcomes
   pub calls : reply.how ≢ how.Hit → RunLeads (At (answers_of files)) (moves files) script es mid
   pub is_reply : IsReply evaluating (with_files key files) es mid sent reply es'
+  pub settled : IsRun same_call same_answer (ScriptAsks script) is_reply.pairs

@@ -1,38 +1,70 @@
--- What a script comes to, by what its files answer.
-use Rattle.std.specs.Prelude.{◌≡◌, ⊤, ℕ, List, String, string_bytes}
+-- What a script comes to and what it asks for, by what its files answer.
+use Rattle.std.specs.Prelude.{◌≡◌, ⊤, ℕ, List, ◌++◌, ℤ, String, string_bytes}
 use Rattle.std.specs.Global.{Global}
 use Rattle.comemo.specs.Cache.{Entries}
-use Rattle.comemo.specs.Meaning.{Meaning, reading}
+use Rattle.comemo.specs.Meaning.{Meaning, names, reading}
+use Rattle.comemo.specs.Multi.{second_call, second_answer, OnCall}
+use Rattle.comemo.specs.Settling.{Settles, nothing_left}
+use Rattle.calc_scripts.specs.Asked.{Asks, AsksIn, PartAsks}
 use Rattle.calc_scripts.specs.Meaning.{Means, PartMeans, Deep}
 use Rattle.calc_scripts.specs.Parts.{IsEval}
 use Rattle.calc_scripts.specs.declared.outcome.Outcome.{Outcome}
-use Rattle.calc_files.specs.Files.{JoinedCall, JoinedAnswer, OnFiles}
-use Rattle.calc_files.specs.Joined.{joined}
+use Rattle.calc_files.specs.Files.{JoinedCall, JoinedAnswer, with_key}
+use Rattle.calc_files.specs.Joined.{joined, same_call, same_answer}
 use Rattle.calc_files.specs.declared.files.FileCall.{FileCall}
 use Rattle.calc_files.specs.declared.files.FileCall.TheVariants.{Read}
 
--- the text at a path is what is answered when that path is read
-abbrev pub At : (FileCall → List ℕ) → List ℕ → List ℕ → Type 0
-At m path text = (own : String Global) × (string_bytes own ≡ path) × (m (Read own) ≡ text)
+-- the text at a path is what a key joined with files answers when that path is read
+abbrev pub In : (JoinedCall → JoinedAnswer) → List ℕ → List ℕ → Type 0
+In m path text = (own : String Global) × (string_bytes own ≡ path) × (m (second_call (Read own)) ≡ second_answer text)
 
--- the script comes to this
+-- so it is where files answer this
+abbrev pub At : (FileCall → List ℕ) → List ℕ → List ℕ → Type 0
+At m = In (with_key m)
+
+-- the script comes to this, at these answers
+abbrev pub Comes : (JoinedCall → JoinedAnswer) → List ℕ → Outcome → Type 0
+Comes m script outcome = Means (In m) script outcome.value outcome.height
+
+-- so it does where files answer this
 abbrev pub ComesTo : (FileCall → List ℕ) → List ℕ → Outcome → Type 0
-ComesTo m script outcome = Means (At m) script outcome.value outcome.height
+ComesTo m = Comes (with_key m)
 
 -- a part of a script comes to this
-abbrev pub PartComesTo : (FileCall → List ℕ) → List ℕ → Outcome → Type 0
-PartComesTo m part outcome = PartMeans (At m) part outcome.value outcome.height
+abbrev pub PartComes : (JoinedCall → JoinedAnswer) → List ℕ → Outcome → Type 0
+PartComes m part outcome = PartMeans (In m) part outcome.value outcome.height
+
+-- the call reads a path of which P holds
+abbrev pub OnFile : (List ℕ → Type 0) → FileCall → Type 0
+OnFile P (Read own) = P (string_bytes own)
+
+abbrev pub OnRead : (List ℕ → Type 0) → JoinedCall → Type 0
+OnRead P c = OnCall (λ _. ⊥) (OnFile P) c
+
+-- at these answers the call is asked by a script, by a part of one, and by these parts after parts with this sum
+abbrev pub ScriptAsks : List ℕ → (JoinedCall → JoinedAnswer) → JoinedCall → Type 0
+ScriptAsks script m c = OnRead (Asks (In m) script) c
+
+abbrev pub APartAsks : List ℕ → (JoinedCall → JoinedAnswer) → JoinedCall → Type 0
+APartAsks part m c = OnRead (PartAsks (In m) part) c
+
+abbrev pub LeftAsk : List (List ℕ) → ℤ → (JoinedCall → JoinedAnswer) → JoinedCall → Type 0
+LeftAsk parts sum m c = OnRead (AsksIn (In m) parts sum) c
+
+-- what a call at this key asks: the script's reads
+abbrev pub EvalAsks : String Global × ⊤ → (JoinedCall → JoinedAnswer) → JoinedCall → Type 0
+EvalAsks key = ScriptAsks (string_bytes key.0)
 
 -- the part calls a script that goes deeper than the limit
 abbrev pub CallsDeep : (FileCall → List ℕ) → List ℕ → ℕ → Type 0
 CallsDeep m part limit = (path text : List ℕ) × IsEval part path × At m path text × Deep (At m) text limit
 
--- what the memoized function means: there are no writes, and the script comes to the outcome, at the files' answers alone
+-- what the memoized function means: there are no writes, and the script comes to the outcome
 abbrev pub IsOutcome : String Global × ⊤ → (JoinedCall → JoinedAnswer) → Outcome → List JoinedCall → Type 0
-IsOutcome = reading (λ key answers outcome. OnFiles (λ m. ComesTo m (string_bytes key.0) outcome) answers)
+IsOutcome = reading (λ key m outcome. Comes m (string_bytes key.0) outcome)
 
 abbrev pub evaluating : Meaning (String Global × ⊤) JoinedCall JoinedAnswer Outcome
-evaluating = joined IsOutcome
+evaluating = record (joined IsOutcome) { naming = names EvalAsks }
 
 -- what a cache of outcomes keeps
 abbrev pub Outcomes : Type 0

@@ -12,9 +12,11 @@ ghost use Rattle.comemo.specs.MeaningLaws.{none_alike};
 ghost use Rattle.calc_scripts.specs.Kinds.{IsPart};
 ghost use Rattle.calc_scripts.specs.Meaning.{Deep, IsTooDeep};
 ghost use Rattle.calc_scripts.specs.Calls.{CallLeads, CallFails, PartLeads, PartFails, RunLeads, RunFails};
-ghost use Rattle.calc_files.specs.Joined.{same_call, same_answer, with_files};
-ghost use Rattle.calc_files.specs.Files.{OnFiles, Reads, text_at, answers_of, with_key};
-ghost use Rattle.calc_evaluation.specs.Evaluations.{At, ComesTo, PartComesTo, CallsDeep, IsOutcome, evaluating};
+ghost use Rattle.calc_files.specs.Joined.{same_call, same_answer, touches, with_files};
+ghost use Rattle.calc_files.specs.Files.{Reads, text_at, answers_of, with_key};
+ghost use Rattle.comemo.specs.Meaning.{names};
+ghost use Rattle.comemo.specs.Settling.{Settles, nothing_left};
+ghost use Rattle.calc_evaluation.specs.Evaluations.{At, Comes, ComesTo, PartComes, CallsDeep, IsOutcome, EvalAsks, ScriptAsks, APartAsks, evaluating};
 ghost use Rattle.calc_files.specs.Joined.{FilesFit};
 ghost use Rattle.calc_evaluation.specs.Calls.{moves, EvalReply, OnlyTouches};
 
@@ -42,9 +44,11 @@ impl Memo for Eval {
 
     ghost def = { IsOutcome };
 
+    ghost naming = { names EvalAsks };
+
     ghost laws = { record {
-      outputs = λ key m a b writes r c h. (h.0, λ part q. Prim.search (rules, h.1 part q));
-      keys = λ j k m output writes r e h. (h.0, λ part q. Prim.search (rules, h.1 part q));
+      outputs = λ key m a b writes r c h. (h.0, Prim.search (rules, h.1));
+      keys = λ j k m output writes r e h. (h.0, Prim.search (rules, h.1));
       writes = λ key m output V W r same h. (none_alike _ V W same h.0, h.1);
       key_clones = Prim.search rules;
       answer_clones = Prim.search rules;
@@ -108,7 +112,8 @@ fn begin_script<S: Sink<Call = JoinedCall, Answer = JoinedAnswer>>(
 /// What the script comes to that was begun so: `evaluate` for any sink, and for the recording of a run around it. It is
 /// written once as a macro, since a function can't call itself for another sink.
 macro_rules! evaluate_script {
-    ($alloc:ident, $cache:ident, $files:ident, $script:ident, $limit:ident, $sink:ident) => {
+    ($alloc:ident, $cache:ident, $files:ident, $script:ident, $limit:ident, $sink:ident) => {{
+        $cache.is_settled();
         match begin_script($alloc, $cache, $files, $script, $limit, $sink) {
             Ok(Begun::Hit(output)) => Ok(Reply {
                 output,
@@ -128,7 +133,7 @@ macro_rules! evaluate_script {
             }
             Err(fault) => Err(fault),
         }
-    };
+    }};
 }
 
 /// What one part of a script comes to, with the scripts that it calls under a limit.
@@ -147,7 +152,10 @@ fn evaluate_part(
     ensures writes { OnOk result (recording.new.writes ≡ recording.old.writes) }
     ensures learns { (bytes : List ℕ) → IsPart bytes part.entry → IfOk result (λ outcome.
         Learns same_call same_answer recording.old recording.new
-        (OnFiles (λ n. PartComesTo n bytes outcome))) }
+        (λ m. PartComes m bytes outcome)) }
+    ensures asks { (bytes : List ℕ) → IsPart bytes part.entry → OnOk result
+        (Settles same_call same_answer (APartAsks bytes) nothing_left
+        recording.old.pairs recording.new.pairs) }
     ensures led { (bytes : List ℕ) → IsPart bytes part.entry → OnOk result
         (PartLeads (At (answers_of files.now)) (moves files.now) bytes cache.old cache.new) }
     ensures failed { (bytes : List ℕ) → IsPart bytes part.entry → OnErr result
@@ -191,7 +199,10 @@ fn run_script(
     ensures writes { OnOk result (recording.new.writes ≡ recording.old.writes) }
     ensures learns { IfOk result (λ outcome.
         Learns same_call same_answer recording.old recording.new
-        (OnFiles (λ n. ComesTo n script.now outcome))) }
+        (λ m. Comes m script.now outcome)) }
+    ensures asks { OnOk result
+        (Settles same_call same_answer (ScriptAsks script.now) nothing_left
+        recording.old.pairs recording.new.pairs) }
     ensures led { OnOk result (RunLeads (At (answers_of files.now)) (moves files.now)
         script.now cache.old cache.new) }
     ensures failed { OnErr result (RunFails (At (answers_of files.now)) (moves files.now)
@@ -223,7 +234,7 @@ fn evaluate_within(
     ensures outcome { IfOk result (λ reply. ComesTo (answers_of files.now) script.now reply.output
         × (reply.output.height ≤ limit)) }
     ensures reply { IfOk result (λ reply. EvalReply files.now script.now cache.old
-        (Took same_call recording.old recording.new) reply cache.new) }
+        (Took same_call touches recording.old recording.new) reply cache.new) }
     ensures led { OnOk result (CallLeads (At (answers_of files.now)) (moves files.now)
         script.now cache.old cache.new) }
     ensures failed { OnErr result (CallFails (At (answers_of files.now)) (moves files.now)

@@ -4,9 +4,9 @@ use Rattle.std.specs.Global.{Global}
 use Rattle.std.specs.contracts.prelude.UnitPartialEq.TheImpl as unit
 use Rattle.comemo_track.specs.contracts.multi.MultiCallPartialEq.TheImpl as multi_call
 use Rattle.comemo_track.specs.contracts.multi.MultiAnswerPartialEq.TheImpl as multi_answer
-use Rattle.comemo.specs.Meaning.{Meaning, Invocation, invocation}
+use Rattle.comemo.specs.Meaning.{Meaning, unnamed, Invocation, invocation}
 use Rattle.comemo.specs.Function.{Fits}
-use Rattle.comemo.specs.Multi.{by_part}
+use Rattle.comemo.specs.Multi.{by_part, part_touches}
 use Rattle.comemo.specs.Recording.{Recording}
 use Rattle.calc_files.specs.declared.files.Files.{Files}
 use Rattle.calc_files.specs.contracts.files.FileCall as file_call
@@ -25,14 +25,18 @@ same_answer = (multi_answer.ghosts denote.Builtin.unit text.the_row unit.ghosts 
 abbrev pub same_key : String Global × ⊤ → String Global × ⊤ → Bool
 same_key a b = string_eq a.0 b.0 && true
 
--- what a function of a text and the files means, where it means this and its outputs are plain values; no call is a write
+-- whether a call touches a read: none does
+abbrev pub touches : JoinedCall → JoinedCall → Bool
+touches = part_touches (λ _ _. false) (λ _ _. false)
+
+-- what a function of a text and the files means, where it means this and its outputs are plain values; no call is a write, and it names no asked calls
 abbrev pub joined : {O : Type 0} → (String Global × ⊤ → (JoinedCall → JoinedAnswer) → O → List JoinedCall → Type 0) → Meaning (String Global × ⊤) JoinedCall JoinedAnswer O
-joined def = record { same_call = same_call; same_answer = same_answer; same_key = same_key; is_write = by_part (λ _. false) (λ _. false); is_clone = λ a b. b ≡ a; def = def }
+joined def = record { same_call = same_call; same_answer = same_answer; same_key = same_key; is_write = by_part (λ _. false) (λ _. false); is_clone = λ a b. b ≡ a; def = def; naming = unnamed }
 
 -- its call at a text and these files
 abbrev pub with_files : String Global → Files → Invocation (String Global × ⊤) JoinedCall JoinedAnswer
 with_files key files = invocation (key, tt) (with_key (answers_of files)) true
 
--- what is recorded is whole, and agrees with the files
+-- what is recorded is whole and not late, and agrees with the files
 abbrev pub FilesFit : Files → Recording JoinedCall JoinedAnswer → Type 0
 FilesFit files recording = Fits same_call same_answer recording (with_key (answers_of files))

@@ -1,4 +1,5 @@
 pub mod Files
 pub mod Joined
+pub mod Order
 pub mod Size
 pub mod SizeLaws

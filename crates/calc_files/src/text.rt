@@ -1,8 +1,8 @@
 //! A text that is shared, not copied.
 ghost use Rattle.std.specs.Prelude.{◌≡◌, [], length, bytes_eq, string_bytes, IfOk, refl, Some};
-ghost use Rattle.std.specs.Ordering.{nat_cmp};
 ghost use Rattle.std.specs.Hash as fed;
-ghost use Rattle.std.specs.Cmp.Lexicographic.{slice_cmp, nat_list_eq_equiv, nat_list_cmp_total, texts_ties, texts_po};
+ghost use Rattle.std.specs.Cmp.Lexicographic.{nat_list_eq_equiv};
+ghost use Rattle.calc_files.specs.Order.{digest, by_number, by_number_total, by_number_ties, by_number_po};
 ghost use Rattle.std.specs.Cmp.{partial_equiv_from_equiv};
 ghost use Rattle.std.specs.Cmp.Rules.{hashing};
 ghost use Rattle.std.proofs.Common.{rules};
@@ -11,11 +11,14 @@ use std::alloc::AllocError;
 use std::cmp::Ordering;
 use std::fmt;
 use std::fmt::{Debug, Formatter, Write};
-use std::hash::{Hash, Hasher};
+use std::hash::{FoldHasher, Hash, Hasher};
 use std::marker::Model;
 use std::sync::ArcStr;
 
 /// A text whose clones share its bytes. A contract sees the bytes, and by them texts are compared and hashed.
+///
+/// Its number is kept beside them, and texts are ordered by their numbers first, and only those of one number by their
+/// bytes: so a search among many texts reads the bytes of few, which lie elsewhere.
 ///
 /// A clone copies no byte and takes no memory, and is refused only where the count of clones is full. The bytes are let
 /// go with the last of them.
@@ -23,6 +26,8 @@ use std::sync::ArcStr;
 pub struct Text {
     // The bytes, where there are any: the empty text may go without.
     shared: Option<ArcStr>,
+    // The number of the bytes.
+    number: u64,
 }
 
 impl Model for Text {
@@ -32,6 +37,20 @@ impl Model for Text {
     ghost Value = { List ℕ };
 
     ghost view = { λ t. unwrap_or (option_map arc_str_bytes t.shared) [] };
+
+    ghost use Rattle.std.specs.Prelude.{◌≡◌};
+    ghost use Rattle.calc_files.specs.Order.{digest};
+
+    ghost invariant = { λ t. t.number ≡ digest (unwrap_or (option_map arc_str_bytes t.shared) []) };
+}
+
+/// The number of a text: what std's map makes of its bytes.
+fn number_of(text: &str) -> u64
+    ensures { result ≡ digest text.now }
+{
+    let mut hasher = FoldHasher::default();
+    hasher.write(text.as_bytes());
+    hasher.finish()
 }
 
 impl Text {
@@ -39,7 +58,10 @@ impl Text {
     pub fn empty() -> Self
         ensures { result ≡ [] }
     {
-        Text { shared: None }
+        Text {
+            shared: None,
+            number: number_of(""),
+        }
     }
 
     /// The text of a `String`, to be shared.
@@ -49,9 +71,11 @@ impl Text {
     pub fn new(text: String) -> Result<Self, AllocError>
         ensures { IfOk result (λ shared. shared ≡ string_bytes text) }
     {
+        let number = number_of(text.as_str());
         let shared = ArcStr::from_string(text)?;
         Ok(Text {
             shared: Some(shared),
+            number,
         })
     }
 
@@ -79,6 +103,7 @@ impl Clone for Text {
     fn clone(&self) -> Result<Self, AllocError> {
         Ok(Text {
             shared: self.shared.clone()?,
+            number: self.number,
         })
     }
 }
@@ -89,7 +114,7 @@ impl PartialEq for Text {
     ghost laws = { partial_equiv_from_equiv nat_list_eq_equiv };
 
     fn eq(&self, other: &Self) -> bool {
-        self.as_str() == other.as_str()
+        self.number == other.number && self.as_str() == other.as_str()
     }
 }
 
@@ -98,9 +123,9 @@ impl Eq for Text {
 }
 
 impl PartialOrd for Text {
-    ghost partial_cmp = { λ x y. Some (slice_cmp nat_cmp x y) };
+    ghost partial_cmp = { λ x y. Some (by_number x y) };
 
-    ghost laws = { texts_po };
+    ghost laws = { by_number_po };
 
     fn partial_cmp(&self, other: &Self) -> Option<Ordering> {
         Some(self.cmp(other))
@@ -108,16 +133,19 @@ impl PartialOrd for Text {
 }
 
 impl Ord for Text {
-    ghost cmp = { slice_cmp nat_cmp };
+    ghost cmp = { by_number };
 
-    ghost total = { nat_list_cmp_total };
+    ghost total = { by_number_total };
 
     ghost matches_partial_cmp = { λ x y. refl };
 
-    ghost matches_eq = { texts_ties };
+    ghost matches_eq = { by_number_ties };
 
     fn cmp(&self, other: &Self) -> Ordering {
-        self.as_str().cmp(other.as_str())
+        match self.number.cmp(&other.number) {
+            Ordering::Equal => self.as_str().cmp(other.as_str()),
+            unequal => unequal,
+        }
     }
 }
 

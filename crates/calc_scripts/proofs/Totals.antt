@@ -4,8 +4,10 @@ use Rattle.std.proofs.lemmas.Int.{to_z-of_z}
 use Rattle.calc_scripts.specs.Parts.{parts, IsEval, IsNumber}
 use Rattle.calc_scripts.specs.declared.outcome.CalcFault.{CalcFault}
 use Rattle.calc_scripts.specs.Meaning.{Value, Means, means, PartMeans, is_number, Takes, ends, adds, overflows, fails, Deep, below, DeepIn, here, later}
+use Rattle.calc_scripts.specs.Asked.{AsksIn}
 use Rattle.calc_scripts.specs.Taken.{Taken}
 use Rattle.calc_scripts.specs.Totals.{IsAdded, value_at}
+use Rattle.calc_scripts.proofs.Asking.{asks_on}
 
 module _ (At : List ℕ → List ℕ → Type 0) where
   -- a part that is a number, as an `i32` holds it
@@ -35,22 +37,23 @@ module _ (At : List ℕ → List ℕ → Type 0) where
   deep_on {ps = ps} {v = Ok n} {limit = limit} old new m (fits, sum) d = later m fits (subst (λ s. DeepIn At ps s limit) sum d)
   deep_on {v = Err fault} old new m never d = absurd never
 
-  -- in a script, these parts are left after this was taken: what they give, the script gives
+  -- in a script, these parts are left after this was taken: what they give, the script gives, and what they ask for, it does
   pub record Leaves (script : List ℕ) (ps : List (List ℕ)) (taken : Taken) : Type 0 where
     pub gives : {v : Value} {e : ℕ} → Takes At ps taken.sum taken.height v e → Takes At (parts script) (pos 0) 0 v e
     pub goes_deep : {limit : ℕ} → DeepIn At ps taken.sum limit → DeepIn At (parts script) (pos 0) limit
+    pub reaches : {path : List ℕ} → AsksIn At ps taken.sum path → AsksIn At (parts script) (pos 0) path
 
   -- before the first part
   pub leaves_all : {script : List ℕ} {ps : List (List ℕ)} {taken : Taken} → ps ≡ parts script → taken ≡ record { sum = pos 0; height = 0 } → Leaves script ps taken
   leaves_all {script = script} {ps = ps} all none =
-      subst (Leaves script ps) (sym none) (subst (λ qs. Leaves script qs (record { sum = pos 0; height = 0 })) (sym all) (record { gives = λ t. t; goes_deep = λ d. d }))
+      subst (Leaves script ps) (sym none) (subst (λ qs. Leaves script qs (record { sum = pos 0; height = 0 })) (sym all) (record { gives = λ t. t; goes_deep = λ d. d; reaches = λ a. a }))
 
   -- after one more part
   pub leaves_rest : {script p : List ℕ} {qs ps : List (List ℕ)} {v : Value} {g : ℕ} {old new : Taken} → Leaves script qs old → qs ≡ p ∷ ps
       → PartMeans At p v g → IsAdded old.sum v new.sum (Ok tt) → new.height ≡ max old.height g → Leaves script ps new
   leaves_rest {script = script} {old = old} {new = new} leaves cut m sum height =
       let l = subst (λ qs. Leaves script qs old) cut leaves in
-      record { gives = λ t. l.gives (takes_on old new m sum height t); goes_deep = λ d. l.goes_deep (deep_on old new m sum d) }
+      record { gives = λ t. l.gives (takes_on old new m sum height t); goes_deep = λ d. l.goes_deep (deep_on old new m sum d); reaches = λ a. l.reaches (asks_on At m sum a) }
 
   -- the script, where no part is left
   pub means_at_end : {script : List ℕ} {qs : List (List ℕ)} {taken : Taken} {v : Value} {h : ℕ} → Leaves script qs taken → qs ≡ []

@@ -1,3 +1,4 @@
+pub mod Asked
 pub mod Calls
 pub mod Kinds
 pub mod Meaning

@@ -1,3 +1,4 @@
 pub mod Refusals
 pub mod EachAnswer
 pub mod Lines
+pub mod Recalling

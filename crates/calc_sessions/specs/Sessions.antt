@@ -29,6 +29,7 @@ in_cache how.AlreadyExists = true
 in_cache how.MissingCall = false
 in_cache how.NotStored = false
 in_cache how.Disabled = false
+in_cache how.Late = false
 
 -- what a request is answered at the texts before it, and the texts after it
 pub data Answers : Texts → Request → Answer → Texts → Type 0 where
@@ -44,11 +45,6 @@ pub data Answers : Texts → Request → Answer → Texts → Type 0 where
   evicted : {before after : Texts} {max_age : ℕ} → Same before after → Answers before (evict max_age) answer.Evicted after
   -- there was no memory for what was asked, a write among it, and nothing was done
   no_memory : {before after : Texts} {request : Request} → Same before after → Answers before request answer.Memory after
-
--- what a list of requests is answered, one after the other
-pub data AnswersEach : Texts → List Request → List Answer → Texts → Type 0 where
-  none_asked : {texts : Texts} → AnswersEach texts [] [] texts
-  one_asked : {before mid after : Texts} {request : Request} {reply : Answer} {requests : List Request} {replies : List Answer} → Answers before request reply mid → AnswersEach mid requests replies after → AnswersEach before (request ∷ requests) (reply ∷ replies) after
 
 -- what a line prints at the texts before it, and the texts after it
 pub data Prints : Texts → List ℕ → List ℕ → Texts → Type 0 where

@@ -3,6 +3,7 @@ ghost use Rattle.std.specs.Prelude.{◌≡◌, ℕ, List, []};
 ghost use Rattle.calc_commands.specs.Requests.{request_of, eval as eval_of, size as size_of, evict as evict_of};
 ghost use Rattle.comemo.specs.Cache.{Evicts};
 ghost use Rattle.calc_sessions.specs.Sessions.{in_cache, texts_in, Answers};
+ghost use Rattle.calc_sessions.specs.Remembered.{Past, Knows, Recalls, RecallsOf, remembered, remembered_of};
 
 use calc_commands::{Answer, Command};
 use calc_evaluation::{Eval, EvalFault, evaluate};
@@ -57,6 +58,10 @@ impl State {
         ensures evicts { (max_age : ℕ) → request_of command ≡ evict_of max_age
             → Evicts max_age self.old.evaluated self.new.evaluated
             × Evicts max_age self.old.sizes self.new.sizes }
+        ensures recalls { (past : List Past) → Knows past self.old.evaluated
+            → Recalls past (texts_in self.old) (request_of command) result
+            × Knows (remembered past (texts_in self.old) (request_of command) result)
+            self.new.evaluated }
     {
         match command {
             Command::Write(path, text) => match self.files.write(path, text) {
@@ -75,8 +80,14 @@ impl State {
 
     /// The value of a script.
     fn value_of(&mut self, script: &str) -> Answer
-        ensures { Answers (texts_in self.old) (eval_of script.now) result (texts_in self.new) }
+        ensures answer { Answers (texts_in self.old) (eval_of script.now) result
+            (texts_in self.new) }
+        ensures recalls { (past : List Past) → Knows past self.old.evaluated
+            → RecallsOf past (texts_in self.old) script.now result
+            × Knows (remembered_of past (texts_in self.old) script.now result)
+            self.new.evaluated }
     {
+        self.evaluated.is_settled();
         let view = self.files.track(self.alloc);
         let cache = &mut self.evaluated;
         match evaluate(
@@ -99,7 +110,8 @@ impl State {
 
     /// The size of the file at a path.
     fn size_at(&mut self, path: &str) -> Answer
-        ensures { Answers (texts_in self.old) (size_of path.now) result (texts_in self.new) }
+        ensures answer { Answers (texts_in self.old) (size_of path.now) result (texts_in self.new) }
+        ensures evaluated { self.new.evaluated ≡ self.old.evaluated }
     {
         let view = self.files.track(self.alloc);
         match size(self.alloc, &mut self.sizes, &view, path, &mut Top::new()) {

@@ -114,7 +114,7 @@ module _ {K C R O : Type 0} (M : Meaning K C R O) where
   none_before keys {es} {mid} {es'} {key} {again} {m} {sent} {reply} is stored_it same_key = HasNone-alike M keys es key again same_key m true true ((stored_run es mid es' (invocation key m true) sent reply is stored_it).none refl)
 
 -- answers that agree with a fresh recording of a reply agree with the pairs that it rests on
-pub agrees_again : {K C R O : Type 0} {M : Meaning K C R O} → IsEquivalence M.same_call → IsEquivalence M.same_answer → {es mid es' : Entries K C R O} {call : Invocation K C R} {reply : Reply O} (s t : Recording C R) → Respects M.same_call M.same_answer call.answers → s.pairs ≡ [] → (is : IsReply M call es mid (Took M.same_call s t) reply es') → (m : C → R) → Respects M.same_call M.same_answer m → Agrees M.same_answer m t.pairs → Agrees M.same_answer m is.pairs
+pub agrees_again : {K C R O : Type 0} {touches : C → C → Bool} {M : Meaning K C R O} → IsEquivalence M.same_call → IsEquivalence M.same_answer → {es mid es' : Entries K C R O} {call : Invocation K C R} {reply : Reply O} (s t : Recording C R) → Respects M.same_call M.same_answer call.answers → s.pairs ≡ [] → (is : IsReply M call es mid (Took M.same_call touches s t) reply es') → (m : C → R) → Respects M.same_call M.same_answer m → Agrees M.same_answer m t.pairs → Agrees M.same_answer m is.pairs
 agrees_again calls answers {call = call} s t respects fresh is m r a =
     let told = told_pairs calls answers call.answers respects s t is.gives.given is.writes (rw fresh tt) ((is.gives.agreeing call.answers respects).1 is.agrees) is.gives.are_sent in
     (is.gives.agreeing m r).0 (told.told m r a)

@@ -6,16 +6,19 @@ use Rattle.comemo_base.specs.Answers.{Respects, Agrees}
 use Rattle.comemo_track.specs.Recording.{Recording}
 use Rattle.comemo.specs.Begin.{PendingRun, came_to, HasToRun, IsHit, IsRun, IsBrokenOff, IsStopped}
 use Rattle.comemo.specs.Begun.{OnFault}
-use Rattle.comemo_cache.specs.Meaning.{Meaning, Invocation, invocation, run}
+use Rattle.comemo_track.specs.Sending.{TookAs}
+use Rattle.std.proofs.lemmas.Bool.{cases_Bool}
+use Rattle.comemo_cache.specs.Meaning.{Meaning, Invocation, invocation, Run, run}
 use Rattle.comemo_cache.specs.Cache.{Entries, Stands, Touches}
-use Rattle.comemo.specs.Called.{IsReply, RanAs}
+use Rattle.comemo.specs.Called.{IsReply, IsReplyMut, RanAs}
 use Rattle.comemo.specs.Finish.{Ends, Finished, BreaksOffRun, BrokeOff}
+use Rattle.comemo.specs.declared.pending.How.{How}
 use Rattle.comemo.specs.declared.pending.How.TheVariants as how
 use Rattle.comemo.specs.declared.pending.Fault.{Fault}
 use Rattle.comemo.specs.declared.pending.Fault.TheVariants as fault
 use Rattle.comemo.specs.declared.pending.Reply.{Reply}
 use Rattle.comemo_base.proofs.Paths.{Agrees-same, IsSamePath-turned}
-use Rattle.comemo.proofs.Endings.{gives_itself}
+use Rattle.comemo.proofs.Endings.{gives_itself, gives_early, gives_late}
 
 -- the pending run after it recorded this
 abbrev pub recorded : {K C R : Type 0} → PendingRun K C R → Recording C R → PendingRun K C R
@@ -80,6 +83,14 @@ write_handed (Err g) f e w P Q q = subst (λ x. OnFault x P Q) (sym (e ∙ w)) q
 pub finished_itself : {K C R O : Type 0} {M : Meaning K C R O} {es es' : Entries K C R O} {pending : PendingRun K C R} {sent : List (C × R) → List C → Type 0} {output : O} {reply : Reply O} → Finished M es pending sent output reply es' → Finished M es pending sent reply.output reply es'
 finished_itself {M = M} {es} {es'} {pending} {sent} {output} {reply} done = subst (λ o. Finished M es pending sent o reply es') (sym done.same) done
 
+-- a run that isn't late sent what it recorded to the sink
+pub finished_early : {K C R O : Type 0} {M : Meaning K C R O} {es es' : Entries K C R O} {pending : PendingRun K C R} {S : Type 0} (took : S → S → List (C × R) → List C → Type 0) (lates : S → S → Type 0) {i j : S} {output : O} {reply : Reply O} → pending.recording.late ≡ false → Finished M es pending (TookAs took lates pending.recording.late i j) output reply es' → Finished M es pending (took i j) output reply es'
+finished_early {pending = pending} took lates early done = record { whole = done.whole; same = done.same; ends = done.ends; late = done.late; disabled = done.disabled; gives = gives_early took lates pending.recording.late early done.gives }
+
+-- a run that is late left the entries
+ended_late : {K C R O : Type 0} (M : Meaning K C R O) (es es' : Entries K C R O) (ran : Run K C R O) {h : How} → h ≡ how.Late → Ends M es ran h es' → es' ≡ es
+ended_late M es es' ran e ends = subst (λ x. Ends M es ran x es') e ends
+
 module _ {K C R O : Type 0} {M : Meaning K C R O} {es : Entries K C R O} {call : Invocation K C R} where
   -- a run that began, however it is seen
   pub run_seen : {seen begun : PendingRun K C R} → seen ≡ begun → IsRun M es call begun → IsRun M es call seen
@@ -100,30 +111,45 @@ module _ {K C R O : Type 0} {M : Meaning K C R O} {es : Entries K C R O} {call :
   pub stands_at_call : {begun : PendingRun K C R} → IsRun M es call begun → (pairs : List (C × R)) (output : O) (writes : List C) → Stands M (run begun.key pairs output writes) → Stands M (run call.key pairs output writes)
   stands_at_call is pairs output writes stands = λ n r a. is.right n output writes r (stands n r a)
 
-  -- a run that was finished, of which the answers agree with what it recorded, is replied so
-  pub reply_by_run : {begun : PendingRun K C R} {t : Recording C R} → IsRun M es call begun → Agrees M.same_answer call.answers t.pairs → {mid es' : Entries K C R O} {sent : List (C × R) → List C → Type 0} {output : O} {reply : Reply O} → Stands M (came_to (recorded begun t) output) → Finished M mid (recorded begun t) sent output reply es' → IsReply M call es mid sent reply es'
-  reply_by_run {begun = begun} {t = t} is agrees {mid = mid} {es' = es'} {output = output} {reply = reply} stands done = record {
-    pairs = t.pairs;
-    writes = t.writes;
-    agrees = agrees;
-    stands = subst (λ o. Stands M (run call.key t.pairs o t.writes)) (sym done.same) (stands_at_call is t.pairs output t.writes stands);
-    gives = done.gives;
-    came = inr (record {
-      none = is.none;
-      own = begun.key;
-      has_key = is.has_key;
-      ends = subst (λ o. Ends M mid (run begun.key t.pairs o t.writes) reply.how es') (sym done.same) done.ends;
-      disabled = rw (← is.is_enabled) done.disabled;
-    });
-  }
+  module _ {S : Type 0} (took : S → S → List (C × R) → List C → Type 0) (lates : S → S → Type 0) {i j : S} where
+    -- a run that was finished, which isn't late and of which the answers agree with what it recorded, is replied so
+    pub reply_by_run : {begun : PendingRun K C R} {t : Recording C R} → IsRun M es call begun → t.late ≡ false → Agrees M.same_answer call.answers t.pairs → {mid es' : Entries K C R O} {output : O} {reply : Reply O} → Stands M (came_to (recorded begun t) output) → Finished M mid (recorded begun t) (TookAs took lates t.late i j) output reply es' → IsReply M call es mid (took i j) reply es'
+    reply_by_run {begun = begun} {t = t} is early agrees {mid = mid} {es' = es'} {output = output} {reply = reply} stands done = record {
+      pairs = t.pairs;
+      writes = t.writes;
+      agrees = agrees;
+      stands = subst (λ o. Stands M (run call.key t.pairs o t.writes)) (sym done.same) (stands_at_call is t.pairs output t.writes stands);
+      gives = gives_early took lates t.late early done.gives;
+      came = inr (record {
+        none = is.none;
+        own = begun.key;
+        has_key = is.has_key;
+        ends = subst (λ o. Ends M mid (run begun.key t.pairs o t.writes) reply.how es') (sym done.same) done.ends;
+        disabled = (λ d. sym is.is_enabled ∙ (done.disabled.0 d).0, λ d. done.disabled.1 (is.is_enabled ∙ d, early));
+        early = λ l. let no : false ≡ true = sym early ∙ done.late.0 l in cc;
+      });
+    }
 
   -- a run under a key of its own that is equal to the call's, replied so
   pub reply_by_own_run : {own : K} → HasToRun M es call own → {mid es' : Entries K C R O} {sent : List (C × R) → List C → Type 0} {reply : Reply O} → RanAs M (invocation own call.answers call.enabled) mid sent reply es' → IsReply M call es mid sent reply es'
-  unfolding reply_by_run
-  reply_by_own_run {own} has {reply = reply} ran =
-      let begun : PendingRun K C R = record { key = own; enabled = call.enabled; recording = record { pairs = []; writes = []; whole = true; room = 0 } } in
-      let is : IsRun M es call begun = record { has_key = has.has_key; right = has.right; is_enabled = refl; pairs = refl; writes = refl; whole = refl; none = has.none } in
-      reply_by_run {begun = begun} {t = ran.recording} is ran.agrees (subst (λ ws. Stands M (run own ran.recording.pairs reply.output ws)) (sym ran.no_writes) ran.stands) ran.finished
+  reply_by_own_run {own} has {mid = mid} {es' = es'} {reply = reply} ran =
+      let t = ran.recording in
+      let stands : Stands M (run own t.pairs reply.output t.writes) = subst (λ ws. Stands M (run own t.pairs reply.output ws)) (sym ran.no_writes) ran.stands in
+      record {
+        pairs = t.pairs;
+        writes = t.writes;
+        agrees = ran.agrees;
+        stands = λ n r a. has.right n reply.output t.writes r (stands n r a);
+        gives = ran.finished.gives;
+        came = inr (record {
+          none = has.none;
+          own = own;
+          has_key = has.has_key;
+          ends = ran.finished.ends;
+          disabled = (λ d. (ran.finished.disabled.0 d).0, λ d. ran.finished.disabled.1 (d, ran.early));
+          early = λ l. let no : false ≡ true = sym ran.early ∙ ran.finished.late.0 l in cc;
+        });
+      }
 
   -- the writes that a reply rests on were done too, and led to whatever is the same
   also_done : {mid es' : Entries K C R O} {sent : List (C × R) → List C → Type 0} {reply : Reply O} {V : Type 0} (did : V → V → List C → Type 0) (i j k : V) → k ≡ j → (is : IsReply M call es mid sent reply es') → did i j is.writes → IsReply M call es mid (λ P W. sent P W × did i k W) reply es'
@@ -141,10 +167,24 @@ module _ {K C R O : Type 0} {M : Meaning K C R O} {es : Entries K C R O} {call :
   unfolding reply_by_hit
   reply_by_done_hit calls answers mid es' hit touched did i j k e d = also_done did i j k e (reply_by_hit calls answers mid es' hit touched) d
 
-  -- a run of which the writes were done too
-  pub reply_by_done_run : {begun : PendingRun K C R} (t : Recording C R) → IsRun M es call begun → Agrees M.same_answer call.answers t.pairs → {mid es' : Entries K C R O} {sent : List (C × R) → List C → Type 0} {output : O} {reply : Reply O} → Stands M (came_to (recorded begun t) output) → Finished M mid (recorded begun t) sent output reply es' → {V : Type 0} (did : V → V → List C → Type 0) (i j k : V) → k ≡ j → did i j t.writes → IsReply M call es mid (λ P W. sent P W × did i k W) reply es'
+  -- a run of which the writes were done too, and which is late or not
+  pub reply_by_done_run : {begun : PendingRun K C R} (t : Recording C R) (touches : C → C → Bool) → (t.late ≡ true → ((c d : C) → touches c d ≡ false) → ⊥) → IsRun M es call begun → (t.late ≡ false → Agrees M.same_answer call.answers t.pairs) → {mid es' : Entries K C R O} {S : Type 0} (took : S → S → List (C × R) → List C → Type 0) (lates : S → S → Type 0) {a b : S} {output : O} {reply : Reply O} → (t.late ≡ false → Stands M (came_to (recorded begun t) output)) → Finished M mid (recorded begun t) (TookAs took lates t.late a b) output reply es' → {V : Type 0} (did : V → V → List C → Type 0) (i j k : V) → k ≡ j → did i j t.writes → IsReplyMut M call touches es mid (λ late P W. TookAs took lates late a b P W × did i k W) reply es'
   unfolding reply_by_run
-  reply_by_done_run t is agrees stands done did i j k e d = also_done did i j k e (reply_by_run {t = t} is agrees stands done) d
+  reply_by_done_run {begun} t touches touching is agrees {mid = mid} {es' = es'} took lates {a = a} {b = b} {output = output} {reply = reply} stands done did i j k e d =
+      elim (cases_Bool t.late) [
+        | inl late ↦
+            let gives = gives_late took lates t.late late done.gives in
+            inr (record {
+              pairs = t.pairs;
+              writes = t.writes;
+              is_late = done.late.1 late;
+              touching = touching late;
+              none = is.none;
+              gives = record { given = gives.given; alike = gives.alike; agreeing = gives.agreeing; are_sent = (gives.are_sent, subst (λ v. did i v t.writes) (sym e) d) };
+              same = ended_late M mid es' (run begun.key t.pairs output t.writes) (done.late.1 late) done.ends;
+            })
+        | inr early ↦ inl (also_done did i j k e (reply_by_run took lates {t = t} is early (agrees early) (stands early) done) d)
+      ]
 
   -- what went to a sink so went there otherwise
   pub resent : {mid es' : Entries K C R O} {sent sends : List (C × R) → List C → Type 0} {reply : Reply O} → ((P : List (C × R)) (W : List C) → sent P W → sends P W) → IsReply M call es mid sent reply es' → IsReply M call es mid sends reply es'

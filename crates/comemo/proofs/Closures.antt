@@ -1,5 +1,5 @@
 -- What `begin`, a closure's run and `finish` say together.
-use Rattle.std.proofs.Common.{◌≡◌, ◌↔◌, ◌⊎◌, inl, inr, Bool, true, false, List, [], Result, Ok, Err, IfOk, IfErr, OnErr, refl, sym, ap, subst}
+use Rattle.std.proofs.Common.{◌≡◌, ◌∙◌, ◌↔◌, ◌⊎◌, inl, inr, Bool, true, false, List, [], Result, Ok, Err, IfOk, IfErr, OnErr, refl, sym, ap, subst}
 use Rattle.std.specs.Borrow.{MutBor}
 use Rattle.comemo_track.specs.Recording.{Recording}
 use Rattle.comemo_cache.specs.Meaning.{Meaning, Invocation, run}
@@ -56,13 +56,13 @@ at_some_pairs broken (inr (touched, is)) reads = absurd (never_refused is reads)
 module _ {K C R O : Type 0} {M : Meaning K C R O} {es : Entries K C R O} {call : Invocation K C R} {begun : PendingRun K C R} (is : IsRun M es call begun) where
   module _ {I P : Type 0} (did : I → I → List C → Type 0) (recording : P → Recording C R) (post : MutBor I → MutBor P → Result O Fault → MutBor I → MutBor P → Type 0) (input : I) (t : Recording C R) where
     -- a run of a closure, by what it was handed and what it left
-    pub ran_from : {i j : MutBor I} {p q : MutBor P} (r : Result O Fault) → did input i.now [] → (recording p.now).pairs ≡ [] → (recording p.now).writes ≡ [] → (recording p.now).whole ≡ true → post i p r j q → t ≡ recording q.now → Ran M es call did recording post input r t
-    ran_from {i = i} {j = j} {p = p} {q = q} r unchanged pairs writes whole gave left = record { i = i; p = p; starts = record { none = is.none; unchanged = unchanged; pairs = pairs; writes = writes; whole = whole }; j = j; q = q; gave = gave; left = sym left }
+    pub ran_from : {i j : MutBor I} {p q : MutBor P} (r : Result O Fault) → did input i.now [] → (recording p.now).pairs ≡ [] → (recording p.now).writes ≡ [] → (recording p.now).whole ≡ true → (recording p.now).late ≡ false → post i p r j q → t ≡ recording q.now → Ran M es call did recording post input r t
+    ran_from {i = i} {j = j} {p = p} {q = q} r unchanged pairs writes whole early gave left = record { i = i; p = p; starts = record { none = is.none; unchanged = unchanged; pairs = pairs; writes = writes; whole = whole; early = early }; j = j; q = q; gave = gave; left = sym left }
 
     -- so it ran, and left the input so
-    pub ran_to : (left : I) {i j : MutBor I} {p q : MutBor P} (r : Result O Fault) → did input i.now [] → (recording p.now).pairs ≡ [] → (recording p.now).writes ≡ [] → (recording p.now).whole ≡ true → post i p r j q → t ≡ recording q.now → j.now ≡ left → RanTo M es call did recording post input left r t
+    pub ran_to : (left : I) {i j : MutBor I} {p q : MutBor P} (r : Result O Fault) → did input i.now [] → (recording p.now).pairs ≡ [] → (recording p.now).writes ≡ [] → (recording p.now).whole ≡ true → (recording p.now).late ≡ false → post i p r j q → t ≡ recording q.now → j.now ≡ left → RanTo M es call did recording post input left r t
     unfolding ran_from
-    ran_to left {i = i} {j = j} {p = p} {q = q} r unchanged pairs writes whole gave rest ends = record { ran = ran_from {i = i} {j = j} {p = p} {q = q} r unchanged pairs writes whole gave rest; ends = ends }
+    ran_to left {i = i} {j = j} {p = p} {q = q} r unchanged pairs writes whole early gave rest ends = record { ran = ran_from {i = i} {j = j} {p = p} {q = q} r unchanged pairs writes whole early gave rest; ends = ends }
 
     -- why a call failed whose run ended so
     pub failed : (left : I) (S : Type 0) (ran : Result O Fault) → RanTo M es call did recording post input left ran t → (r : Result (Reply O) Fault) → IfOk ran (λ _. (r ≡ Err fault.Incomplete) ↔ (t.whole ≡ false)) → IfOk ran (λ _. IfErr r (λ f. f ≡ fault.Write → ⊥)) → IfErr ran (λ f. (r ≡ Err f) × S) → IfErr r (λ f. IsFault M es call did recording post input left f)
@@ -78,16 +78,17 @@ module _ {K C R O : Type 0} {M : Meaning K C R O} {es : Entries K C R O} {call :
     left_broken left broken after spoils es' (Ok output) has true e (Err g) given_up spoiled b = inl (b.0, inr (inr (output, t, has, e, b.1)))
 
     -- what a call gave whose run was finished
-    pub ended : (left : I) {sent : List (C × R) → List C → Type 0} {output : O} {reply : Reply O} {mid es' : Entries K C R O} → RanTo M es call did recording post input left (Ok output) t → Stands M (came_to (recorded begun t) output) → Finished M mid (recorded begun t) sent output reply es' → Ended M mid call (RanTo M es call did recording post input left) sent reply.output reply.how es'
-    ended left {output = output} {reply = reply} {mid = mid} {es' = es'} ran stands done = record {
+    pub ended : (left : I) (sent : Bool → List (C × R) → List C → Type 0) {output : O} {reply : Reply O} {mid es' : Entries K C R O} → RanTo M es call did recording post input left (Ok output) t → (t.late ≡ false → Stands M (came_to (recorded begun t) output)) → Finished M mid (recorded begun t) (sent t.late) output reply es' → Ended M mid call (RanTo M es call did recording post input left) sent reply.output reply.how es'
+    ended left sent {output = output} {reply = reply} {mid = mid} {es' = es'} ran stands done = record {
       recording = t;
       has_run = subst (λ x. RanTo M es call did recording post input left (Ok x) t) (sym done.same) ran;
       whole = done.whole;
       own = begun.key;
       has_key = is.has_key;
-      stands = subst (λ o. Stands M (run call.key t.pairs o t.writes)) (sym done.same) (stands_at_call is t.pairs output t.writes stands);
+      stands = λ early. subst (λ o. Stands M (run call.key t.pairs o t.writes)) (sym done.same) (stands_at_call is t.pairs output t.writes (stands early));
       ends = subst (λ x. Ends M mid (run begun.key t.pairs x t.writes) reply.how es') (sym done.same) done.ends;
-      disabled = rw (← is.is_enabled) done.disabled;
+      late = done.late;
+      disabled = (λ d. (sym is.is_enabled ∙ (done.disabled.0 d).0, (done.disabled.0 d).1), λ d. done.disabled.1 (is.is_enabled ∙ d.0, d.1));
       gives = done.gives;
     }
 

@@ -1,8 +1,9 @@
 -- How a run ends, where a clone of its output is kept.
-use Rattle.std.proofs.Common.{Bool, List, [], ◌∷◌, sym, subst}
+use Rattle.std.proofs.Common.{◌≡◌, Bool, true, false, List, [], ◌∷◌, sym, subst}
 use Rattle.std.specs.Cmp.{IsEquivalence}
 use Rattle.comemo_base.specs.Tree.{IsSamePath}
 use Rattle.comemo_base.proofs.Paths.{Agrees-same, IsSamePath-turned}
+use Rattle.comemo_track.specs.Sending.{TookAs}
 use Rattle.comemo_cache.specs.Meaning.{Meaning, run, exactly, SameWrites}
 use Rattle.comemo_cache.specs.Cache.{Entries}
 use Rattle.comemo.specs.Finish.{Ends, Gives, BreaksOffRun}
@@ -39,3 +40,19 @@ module _ {K C R O : Type 0} (M : Meaning K C R O) (calls : IsEquivalence M.same_
   Ends-cloned how.MissingCall es' e = e
   Ends-cloned how.NotStored es' e = e
   Ends-cloned how.Disabled es' e = e
+  Ends-cloned how.Late es' e = e
+
+module _ {K C R O : Type 0} {M : Meaning K C R O} {S : Type 0} (took : S → S → List (C × R) → List C → Type 0) (lates : S → S → Type 0) {s t : S} {pairs : List (C × R)} {writes : List C} where
+  -- what went to a sink that was not marked late, and what went to one where nothing was late
+  pub gives_as_early : (b : Bool) → b ≡ false → Gives M (took s t) pairs writes → Gives M (TookAs took lates b s t) pairs writes
+  gives_as_early false e g = g
+  gives_as_early true e g = let no : true ≡ false = e in cc
+
+  pub gives_early : (b : Bool) → b ≡ false → Gives M (TookAs took lates b s t) pairs writes → Gives M (took s t) pairs writes
+  gives_early false e g = g
+  gives_early true e g = let no : true ≡ false = e in cc
+
+  -- what went to one that was marked late
+  pub gives_late : (b : Bool) → b ≡ true → Gives M (TookAs took lates b s t) pairs writes → Gives M (TookAs took lates true s t) pairs writes
+  gives_late true e g = g
+  gives_late false e g = let no : false ≡ true = e in cc

@@ -31,6 +31,7 @@ pub grows_by_ends : {K C R O : Type 0} (M : Meaning K C R O) (es : Entries K C R
 grows_by_ends M es ran how.Hit es' e = absurd e
 grows_by_ends M es ran how.Stored es' e = (stored e.2.adds.own e.2.adds.path e.2.kept ∷ [], IsPermutation-map young _ _ e.2.adds.entries)
 grows_by_ends M es ran how.AlreadyExists es' e = grows_not es es' e.1
-grows_by_ends M es ran how.MissingCall es' e = grows_not es es' e.1
+grows_by_ends M es ran how.MissingCall es' e = grows_not es es' e.2
 grows_by_ends M es ran how.NotStored es' e = grows_not es es' e
 grows_by_ends M es ran how.Disabled es' e = grows_not es es' e
+grows_by_ends M es ran how.Late es' e = grows_not es es' e

@@ -1,6 +1,7 @@
 pub mod Endings
 pub mod PartsAsked
 pub mod Recorders
+pub mod Settled
 pub mod RecordersMut
 pub mod Calls
 pub mod Closures
@@ -8,6 +9,7 @@ pub mod Growing
 pub mod JoinedHits
 pub mod ThroughMaps
 pub mod Again
+pub mod Keeping
 pub mod Recursions
 pub mod RecursionsMut
 pub mod Texts
@@ -20,6 +22,8 @@ pub use Rattle.comemo_cache.proofs.Holding
 pub use Rattle.comemo_cache.proofs.Touching
 pub use Rattle.comemo_cache.proofs.Aging
 pub use Rattle.comemo_cache.proofs.Stepping
+pub use Rattle.comemo_cache.proofs.Named
+pub use Rattle.comemo_settled.proofs.Settling
 pub use Rattle.comemo_base.proofs.Paths
 pub use Rattle.comemo_base.proofs.Under
 pub use Rattle.comemo_track.proofs.Telling

@@ -12,7 +12,9 @@ use Rattle.comemo.specs.Recursive.{TellsOwn, FinishedAs}
 use Rattle.comemo.specs.declared.pending.Fault.{Fault}
 use Rattle.comemo.specs.declared.pending.Fault.TheVariants as fault
 use Rattle.comemo.specs.declared.pending.Reply.{Reply}
-use Rattle.comemo.proofs.Recorders.{still_agrees, fitted, fits_taken}
+use Rattle.comemo_track.specs.Sending.{TookAs}
+use Rattle.comemo.proofs.Endings.{gives_early}
+use Rattle.comemo.proofs.Recorders.{still_agrees, fitted, fits_taken, stays_early}
 
 module _ {V C R X : Type 0} {fits : Recording C R → (C → R) → Type 0} {s t : Recorded V C R} where
   -- a call of a function that calls itself is a call
@@ -53,10 +55,10 @@ module _ {V C R : Type 0} {fits : Recording C R → (C → R) → Type 0} {X Y :
 pub own_now : {V C R X : Type 0} {eq : C → C → Bool} {same : R → R → Bool} {s t seen : Recorded V C R} {P : X → (C → R) → Type 0} (r : Result X Fault) (answers : V → C → R) → ((v : V) → Respects eq same (answers v)) → s.recording.whole ≡ true → seen ≡ t → IsRecorded same (answers seen.value) seen.recording → TellsOwn (Fits eq same) s t r P → IfOk r (λ x. P x (answers s.value))
 own_now {eq = eq} {same = same} {s = s} {t = t} {P = P} (Ok x) answers alike w is kept a =
     let agrees : IsRecorded same (answers t.value) t.recording = subst (λ u. IsRecorded same (answers u.value) u.recording) is kept in
-    subst (λ v. P x (answers v)) a.same_value (a.told (answers t.value) (record { whole = a.whole ∙ w; respects = alike t.value; agrees = agrees.agrees (a.whole ∙ w) }))
+    subst (λ v. P x (answers v)) a.same_value (a.told (answers t.value) (record { whole = a.whole ∙ w; early = agrees.early; respects = alike t.value; agrees = agrees.agrees (a.whole ∙ w) }))
 own_now (Err f) answers alike w is kept a = tt
 
-module _ {K C R O : Type 0} (M : Meaning K C R O) (calls : IsEquivalence M.same_call) (answers : IsEquivalence M.same_answer) (m : C → R) (respects : Respects M.same_call M.same_answer m) {V : Type 0} {s t : Recorded V C R} (before : s.recording.whole ≡ true → Agrees M.same_answer m s.recording.pairs) (pairs : List (C × R)) (writes : List C) (agrees : Agrees M.same_answer m pairs) (gives : Gives M (Took M.same_call s.recording t.recording) pairs writes) where
+module _ {K C R O : Type 0} (M : Meaning K C R O) (calls : IsEquivalence M.same_call) (answers : IsEquivalence M.same_answer) (m : C → R) (respects : Respects M.same_call M.same_answer m) {V : Type 0} {touches : C → C → Bool} {s t : Recorded V C R} (before : s.recording.whole ≡ true → Agrees M.same_answer m s.recording.pairs) (pairs : List (C × R)) (writes : List C) (agrees : Agrees M.same_answer m pairs) (gives : Gives M (Took M.same_call touches s.recording t.recording) pairs writes) where
   -- a call that rests on pairs with which the present answers agree, and which went to the recorder, tells what is right by these
   pub own_given : {X : Type 0} (output : X) {P : X → (C → R) → Type 0} → t.value ≡ s.value → ((n : C → R) → Respects M.same_call M.same_answer n → Agrees M.same_answer n pairs → P output n) → TellsOwn (Fits M.same_call M.same_answer) s t (Ok output) P
   own_given output value right =
@@ -74,10 +76,11 @@ pub same_recorder : {V C R : Type 0} (v : V) {s t : Recording C R} {u : Recorded
 same_recorder v e is = rw e is
 
 -- a recorder that took what the present answers agree with, and no writes, keeps what it kept
-pub given_keeps : {K C R O : Type 0} (M : Meaning K C R O) → IsEquivalence M.same_call → IsEquivalence M.same_answer → (m : C → R) → Respects M.same_call M.same_answer m → (s t : Recording C R) → IsRecorded M.same_answer m s → (pairs : List (C × R)) (writes : List C) → Agrees M.same_answer m pairs → writes ≡ [] → Gives M (Took M.same_call s t) pairs writes → IsRecorded M.same_answer m t
+pub given_keeps : {K C R O : Type 0} {touches : C → C → Bool} (M : Meaning K C R O) → IsEquivalence M.same_call → IsEquivalence M.same_answer → (m : C → R) → Respects M.same_call M.same_answer m → (s t : Recording C R) → IsRecorded M.same_answer m s → (pairs : List (C × R)) (writes : List C) → Agrees M.same_answer m pairs → writes ≡ [] → Gives M (Took M.same_call touches s t) pairs writes → IsRecorded M.same_answer m t
 given_keeps M calls answers m respects s t before pairs writes agrees none gives = record {
   agrees = still_agrees calls answers m respects gives.given writes gives.are_sent ((gives.agreeing m respects).1 agrees) before.agrees;
   no_writes = gives.are_sent.writes ∙ ap (λ V. V ++ writes) before.no_writes ∙ none;
+  early = stays_early gives.are_sent before.no_writes before.early;
 }
 
 -- a fault that is no write's, of a run of which nothing is lost
@@ -92,10 +95,11 @@ handed (Ok y) f e X x = tt
 handed (Err g) f e X x = subst X (sym e) x
 
 -- a run that is to be stored and wrote nothing, was finished so
-pub finished_as : {K C R O : Type 0} (M : Meaning K C R O) (es es' : Entries K C R O) (pending : PendingRun K C R) {sent : List (C × R) → List C → Type 0} (output : O) (reply : Reply O) → pending.enabled ≡ true → pending.recording.writes ≡ [] → Finished M es pending sent output reply es' → FinishedAs M es sent (run pending.key pending.recording.pairs output []) es'
-finished_as M es es' pending {sent} output reply enabled none done = record {
+pub finished_as : {K C R O : Type 0} (M : Meaning K C R O) (es es' : Entries K C R O) (pending : PendingRun K C R) {S : Type 0} (took : S → S → List (C × R) → List C → Type 0) (lates : S → S → Type 0) {i j : S} (output : O) (reply : Reply O) → pending.enabled ≡ true → pending.recording.writes ≡ [] → pending.recording.late ≡ false → Finished M es pending (TookAs took lates pending.recording.late i j) output reply es' → FinishedAs M es false (took i j) (run pending.key pending.recording.pairs output []) es'
+finished_as M es es' pending took lates {i = i} {j = j} output reply enabled none early done = record {
   became = reply.how;
-  enabled = λ d. let no : true ≡ false = sym enabled ∙ done.disabled.0 d in cc;
+  enabled = λ d. let no : true ≡ false = sym enabled ∙ (done.disabled.0 d).0 in cc;
+  is_late = (λ l. sym early ∙ done.late.0 l, λ f. let no : false ≡ true = f in cc);
   ends = subst (λ ws. Ends M es (run pending.key pending.recording.pairs output ws) reply.how es') none done.ends;
-  gives = subst (λ ws. Gives M sent pending.recording.pairs ws) none done.gives;
+  gives = subst (λ ws. Gives M (took i j) pending.recording.pairs ws) none (gives_early took lates pending.recording.late early done.gives);
 }

@@ -1,34 +1,35 @@
 -- For the authors of functions that call themselves and write: what their calls tell, and how a run within a run is finished.
-use Rattle.std.proofs.Common.{◌≡◌, ◌∙◌, ◌↔◌, Bool, true, false, List, [], ◌++◌, Result, Ok, Err, IfOk, IfErr, IsErrAnd, refl, sym, ap, subst, append_assoc, append-nil}
+use Rattle.std.proofs.Common.{◌≡◌, ◌∙◌, ◌↔◌, Bool, true, false, List, [], ◌++◌, IsTrue, Result, Ok, Err, IfOk, IfErr, IsErrAnd, refl, sym, ap, subst, append_assoc, append-nil, inl, inr}
+use Rattle.std.proofs.lemmas.Bool.{cases_Bool}
 use Rattle.std.specs.List.{All}
 use Rattle.std.specs.Cmp.{IsEquivalence}
 use Rattle.comemo_base.specs.Answers.{Respects, Agrees}
-use Rattle.comemo_track.specs.Recording.{Recording, Took}
-use Rattle.comemo_track.specs.Sending.{Asks}
+use Rattle.comemo_track.specs.Recording.{Recording, Took, MarkedLate}
+use Rattle.comemo_track.specs.Sending.{Asks, TookAs}
 use Rattle.comemo_track.specs.Writing.{Done}
-use Rattle.comemo_track.specs.WritingLaws.{done_both, done_keeps}
 use Rattle.comemo_cache.specs.Meaning.{Meaning, run}
 use Rattle.comemo_cache.specs.Cache.{Entries}
 use Rattle.comemo.specs.Begin.{PendingRun}
 use Rattle.comemo.specs.Finish.{Ends, Finished, Gives}
 use Rattle.comemo.specs.Function.{Fits}
-use Rattle.comemo.specs.FunctionMut.{Lent, Goes, TellsMut, TellsWrites, Since, AgreesNow}
+use Rattle.comemo.specs.FunctionMut.{Lent, Began, HasBegun, Goes, TellsMut, TellsWrites, Since}
 use Rattle.comemo.specs.Recursive.{FinishedAs}
 use Rattle.comemo.specs.RecursiveMut.{Within}
 use Rattle.comemo.specs.declared.pending.Fault.{Fault}
 use Rattle.comemo.specs.declared.pending.Fault.TheVariants as fault
 use Rattle.comemo.specs.declared.pending.Reply.{Reply}
-use Rattle.comemo.proofs.Recorders.{still_agrees, fitted, fits_taken}
-use Rattle.comemo.proofs.RecordersMut.{agrees_alike, agreed_before, goes_on, goes_both}
+use Rattle.comemo.proofs.Endings.{gives_early, gives_late}
+use Rattle.comemo.proofs.RecordersMut.{AreReads, took_reads, has_begun_on, has_begun_late, tells_late, fitted_mut, taken_mut, goes_on, goes_both}
 
 -- what a run within a run did on, from t to u, it did since it was started
-pub within_goes : {V C R : Type 0} {wrote : V → C → V → Type 0} {w : C → Bool} {same : R → R → Bool} {answers : V → C → R} {agrees : Lent V C R → Type 0} {s t u : Lent V C R} {around : Recording C R} → Within (Done wrote w same answers) agrees s t around → Goes (Done wrote w same answers) t u → Within (Done wrote w same answers) agrees s u around
+pub within_goes : {V C R : Type 0} {did : V → V → List C → Type 0} {touches : C → C → Bool} {same : R → R → Bool} {answers : V → C → R} {s t u : Lent V C R} {around : Recording C R} → Within did touches same answers s t around → Goes did touches same answers t u → Within did touches same answers s u around
 within_goes {s = s} {t} {u} a b = record {
   kept = a.kept;
   agreed = a.agreed;
   same_value = b.same_value ∙ a.same_value;
   same_recording = b.same_recording ∙ a.same_recording;
-  done = λ whole. b.done whole s.value.now (a.done (b.was_whole whole));
+  began = λ whole. b.began whole s.value.now (a.began (b.was_whole whole));
+  early = λ none whole. b.early none whole (a.early none (b.was_whole whole));
   reached = b.reached s.value.now a.reached;
 }
 
@@ -36,11 +37,11 @@ within_goes {s = s} {t} {u} a b = record {
 pub since_nothing : {V C R : Type 0} (s t : Lent V C R) (P : List C → Type 0) → s.recording.now.writes ≡ [] → Since s t P → P t.recording.now.writes
 since_nothing s t P none k = subst P (sym (k.1 ∙ ap (λ W. W ++ k.0) none)) k.2
 
-module _ {V C R : Type 0} {did : V → V → List C → Type 0} {fits : Recording C R → (C → R) → Type 0} where
+module _ {V C R : Type 0} {did : V → V → List C → Type 0} {touches : C → C → Bool} {same : R → R → Bool} {answers : V → C → R} {fits : Recording C R → (C → R) → Type 0} where
   -- where nothing is done
-  pub writes_nothing : {X : Type 0} (s : Lent V C R) (x : X) {P : X → (C → R) → List C → Type 0} → ((m : C → R) → fits s.recording.now m → P x m []) → TellsWrites did fits s s (Ok x) P
+  pub writes_nothing : {X : Type 0} (s : Lent V C R) (x : X) {P : X → (C → R) → List C → Type 0} → ((m : C → R) → fits s.recording.now m → P x m []) → TellsWrites (Goes did touches same answers) fits s s (Ok x) P
   writes_nothing s x is = record {
-    goes = record { same_value = refl; same_recording = refl; was_whole = λ w. w; done = λ w start d. d; reached = λ start r. r };
+    goes = record { same_value = refl; same_recording = refl; was_whole = λ w. w; began = λ w start b. b; early = λ none w l. l; reached = λ start r. r };
     before = λ m f. f;
     told = λ m f. ([], sym (append-nil s.recording.now.writes), is m f);
     whole = refl;
@@ -50,12 +51,12 @@ module _ {V C R : Type 0} {did : V → V → List C → Type 0} {fits : Recordin
   module _ {X : Type 0} {x : X} {s t : Lent V C R} where
     -- a question writes nothing
     -- a write writes itself
-    pub wrote : {P : X → (C → R) → Type 0} → TellsMut did fits s t (Ok x) P → (eq : C → C → Bool) (W : List C) → Took eq s.recording.now t.recording.now [] W → TellsWrites did fits s t (Ok x) (λ y m V. V ≡ W)
-    wrote a eq W one = record { goes = a.goes; before = a.before; told = λ m f. (W, one.writes, refl); whole = one.whole; fault = tt }
+    pub wrote : {P : X → (C → R) → Type 0} → TellsMut (Goes did touches same answers) fits s t (Ok x) P → (eq reach : C → C → Bool) (W : List C) → Took eq reach s.recording.now t.recording.now [] W → TellsWrites (Goes did touches same answers) fits s t (Ok x) (λ y m V. V ≡ W)
+    wrote a eq reach W one = record { goes = a.goes; before = a.before; told = λ m f. (W, one.writes, refl); whole = one.whole; fault = tt }
 
-    module _ {u : Lent V C R} {P : X → (C → R) → List C → Type 0} (a : TellsWrites did fits s t (Ok x) P) where
+    module _ {u : Lent V C R} {P : X → (C → R) → List C → Type 0} (a : TellsWrites (Goes did touches same answers) fits s t (Ok x) P) where
       -- two steps in turn write what the first writes, and then what the second does
-      pub writes_both : {Y : Type 0} (r : Result Y Fault) {Q : Y → (C → R) → List C → Type 0} → TellsWrites did fits t u r Q → TellsWrites did fits s u r (λ y m W. (U : List C) × (V : List C) × (W ≡ U ++ V) × P x m U × Q y m V)
+      pub writes_both : {Y : Type 0} (r : Result Y Fault) {Q : Y → (C → R) → List C → Type 0} → TellsWrites (Goes did touches same answers) fits t u r Q → TellsWrites (Goes did touches same answers) fits s u r (λ y m W. (U : List C) × (V : List C) × (W ≡ U ++ V) × P x m U × Q y m V)
       writes_both (Ok y) b = record {
         goes = goes_both a.goes b.goes;
         before = λ m f. a.before m (b.before m f);
@@ -69,21 +70,21 @@ module _ {V C R : Type 0} {did : V → V → List C → Type 0} {fits : Recordin
       writes_both (Err f) b = record { goes = goes_both a.goes b.goes; before = tt; told = tt; whole = tt; fault = b.fault }
 
       -- a step that failed, after another
-      pub failed_after : {Y Z : Type 0} (f : Fault) (r : Result Z Fault) {Q : Y → (C → R) → Type 0} {S : Z → (C → R) → List C → Type 0} → (let failed : Result Y Fault = Err f in TellsMut did fits t u failed Q) → IsErrAnd r (λ g. g ≡ f) → TellsWrites did fits s u r S
+      pub failed_after : {Y Z : Type 0} (f : Fault) (r : Result Z Fault) {Q : Y → (C → R) → Type 0} {S : Z → (C → R) → List C → Type 0} → (let failed : Result Y Fault = Err f in TellsMut (Goes did touches same answers) fits t u failed Q) → IsErrAnd r (λ g. g ≡ f) → TellsWrites (Goes did touches same answers) fits s u r S
       failed_after f (Ok y) b h = absurd h
       failed_after f (Err g) b e = record { goes = goes_both a.goes b.goes; before = tt; told = tt; whole = tt; fault = λ is. b.fault (sym e ∙ is) }
 
   -- a question writes nothing
-  pub asked : {s t : Lent V C R} {x : R} {P : R → (C → R) → Type 0} → TellsMut did fits s t (Ok x) P → (eq : C → C → Bool) (same : R → R → Bool) (m : C → R) (call : C) → Asks same m call x (Took eq s.recording.now t.recording.now) → TellsWrites did fits s t (Ok x) (λ y n W. (W ≡ []) × P y n)
-  asked a eq same m call k = record { goes = a.goes; before = a.before; told = λ n f. ([], k.sent.writes, (refl, a.told n f)); whole = k.sent.whole; fault = tt }
+  pub asked : {s t : Lent V C R} {x : R} {P : R → (C → R) → Type 0} → TellsMut (Goes did touches same answers) fits s t (Ok x) P → (eq reach : C → C → Bool) (like : R → R → Bool) (m : C → R) (call : C) → Asks like m call x (Took eq reach s.recording.now t.recording.now) → TellsWrites (Goes did touches same answers) fits s t (Ok x) (λ y n W. (W ≡ []) × P y n)
+  asked a eq reach like m call k = record { goes = a.goes; before = a.before; told = λ n f. ([], k.sent.writes, (refl, a.told n f)); whole = k.sent.whole; fault = tt }
 
   -- what was told tells what follows from it
-  pub writes_as : {X : Type 0} (r : Result X Fault) {s t : Lent V C R} {P Q : X → (C → R) → List C → Type 0} → TellsWrites did fits s t r P → ((x : X) (m : C → R) (W : List C) → fits t.recording.now m → P x m W → Q x m W) → TellsWrites did fits s t r Q
+  pub writes_as : {X : Type 0} (r : Result X Fault) {s t : Lent V C R} {P Q : X → (C → R) → List C → Type 0} → TellsWrites (Goes did touches same answers) fits s t r P → ((x : X) (m : C → R) (W : List C) → fits t.recording.now m → P x m W → Q x m W) → TellsWrites (Goes did touches same answers) fits s t r Q
   writes_as (Ok x) a so = record { goes = a.goes; before = a.before; told = λ m f. let one = a.told m f in (one.0, one.1, so x m one.0 f one.2); whole = a.whole; fault = tt }
   writes_as (Err f) a so = record { goes = a.goes; before = tt; told = tt; whole = tt; fault = a.fault }
 
   -- where nothing was written before, an output is right by all that was written
-  pub right_alone : {X : Type 0} (r : Result X Fault) {s t : Lent V C R} {P : X → (C → R) → List C → Type 0} → TellsWrites did fits s t r P → s.recording.now.writes ≡ [] → IfOk r (λ x. (m : C → R) → fits t.recording.now m → P x m t.recording.now.writes)
+  pub right_alone : {X : Type 0} (r : Result X Fault) {s t : Lent V C R} {P : X → (C → R) → List C → Type 0} → TellsWrites (Goes did touches same answers) fits s t r P → s.recording.now.writes ≡ [] → IfOk r (λ x. (m : C → R) → fits t.recording.now m → P x m t.recording.now.writes)
   right_alone (Ok x) {s} {t} {P} a none = λ m f. since_nothing s t (P x m) none (a.told m f)
   right_alone (Err f) a none = tt
 
@@ -105,48 +106,70 @@ fault_on A B Y (Ok x) f h = tt
 fault_on A B Y (Err g) f h = same_fault A B f g h.0
 
 -- a run that is to be stored was finished so
-pub finished_with : {K C R O : Type 0} (M : Meaning K C R O) (es es' : Entries K C R O) (pending : PendingRun K C R) {sent : List (C × R) → List C → Type 0} (output : O) (reply : Reply O) → pending.enabled ≡ true → Finished M es pending sent output reply es' → FinishedAs M es sent (run pending.key pending.recording.pairs reply.output pending.recording.writes) es'
+pub finished_with : {K C R O : Type 0} (M : Meaning K C R O) (es es' : Entries K C R O) (pending : PendingRun K C R) {sent : List (C × R) → List C → Type 0} (output : O) (reply : Reply O) → pending.enabled ≡ true → Finished M es pending sent output reply es' → FinishedAs M es pending.recording.late sent (run pending.key pending.recording.pairs reply.output pending.recording.writes) es'
 finished_with M es es' pending {sent} output reply enabled done = record {
   became = reply.how;
-  enabled = λ d. let no : true ≡ false = sym enabled ∙ done.disabled.0 d in cc;
+  enabled = λ d. let no : true ≡ false = sym enabled ∙ (done.disabled.0 d).0 in cc;
+  is_late = done.late;
   ends = subst (λ o. Ends M es (run pending.key pending.recording.pairs o pending.recording.writes) reply.how es') (sym done.same) done.ends;
   gives = done.gives;
 }
 
-module _ {V K C R O : Type 0} (M : Meaning K C R O) (calls : IsEquivalence M.same_call) (laws : IsEquivalence M.same_answer) (wrote : V → C → V → Type 0) (w : C → Bool) (answers : V → C → R) (alike : (v : V) → Respects M.same_call M.same_answer (answers v)) (s t u : Lent V C R) {around : Recording C R} (within : Within (Done wrote w M.same_answer answers) (AgreesNow M.same_answer answers) s t around) (value : u.value ≡ t.value) (agrees : AgreesNow M.same_answer answers t) (reads : All (λ p. w p.0 ≡ false) t.recording.now.pairs) (whole : t.recording.now.whole ≡ true) (gives : Gives M (Took M.same_call around u.recording.now) t.recording.now.pairs t.recording.now.writes) where
-  -- as the value answered when the run was started
-  agreed : Agrees M.same_answer (answers s.value.now) t.recording.now.pairs
-  agreed = agreed_before wrote w M.same_answer answers laws s.value.now t.value.now within.reached t.recording.now agrees t.recording.now.pairs t.recording.now.whole refl refl reads whole
+module _ {V K C R O : Type 0} (M : Meaning K C R O) (calls : IsEquivalence M.same_call) (laws : IsEquivalence M.same_answer) (wrote : V → C → V → Type 0) (w : C → Bool) (touches : C → C → Bool) (answers : V → C → R) (kind : (x y : C) → IsTrue (M.same_call x y) → w x ≡ w y) (alike : (v : V) → Respects M.same_call M.same_answer (answers v)) (s t u : Lent V C R) {around : Recording C R} (within : Within (Done wrote w touches M.same_answer answers) touches M.same_answer answers s t around) (value : u.value ≡ t.value) (place : u.recording.ghost_name ≡ s.recording.ghost_name) (whole : t.recording.now.whole ≡ true) (all : All (λ p. w p.0 ≡ false) u.recording.now.pairs) (gives : Gives M (TookAs (Took M.same_call touches) MarkedLate t.recording.now.late around u.recording.now) t.recording.now.pairs t.recording.now.writes) where
+  did : Done wrote w touches M.same_answer answers s.value.now u.value.now t.recording.now.writes
+  did = subst (λ v. Done wrote w touches M.same_answer answers s.value.now v.now t.recording.now.writes) (sym value) (within.began whole).done
 
-  given_agreed : Agrees M.same_answer (answers s.value.now) gives.given
-  given_agreed = (gives.agreeing (answers s.value.now) (alike s.value.now)).1 agreed
+  same_value : u.value.ghost_name ≡ s.value.ghost_name
+  same_value = ap (λ v. v.ghost_name) value ∙ within.same_value
 
-  taken : Took M.same_call s.recording.now u.recording.now gives.given t.recording.now.writes
-  taken = subst (λ r. Took M.same_call r u.recording.now gives.given t.recording.now.writes) within.kept gives.are_sent
+  module _ (early : t.recording.now.late ≡ false) where
+    given : Gives M (Took M.same_call touches s.recording.now u.recording.now) t.recording.now.pairs t.recording.now.writes
+    given = subst (λ r. Gives M (Took M.same_call touches r u.recording.now) t.recording.now.pairs t.recording.now.writes) within.kept (gives_early (Took M.same_call touches) MarkedLate t.recording.now.late early gives)
+
+    -- as the value answered when the run was started
+    given_agreed : Agrees M.same_answer (answers s.value.now) given.given
+    given_agreed = (given.agreeing (answers s.value.now) (alike s.value.now)).1 ((within.began whole).agrees early)
+
+    given_reads : AreReads w given.given
+    given_reads = took_reads calls w kind given.given t.recording.now.writes given.are_sent all
+
+    early_begun : HasBegun (Done wrote w touches M.same_answer answers) M.same_answer answers u
+    early_begun = has_begun_on wrote w touches M.same_answer answers calls laws alike s u given.given t.recording.now.writes given.are_sent given_reads given_agreed did within.agreed
+
+    early_tells : (key : K) (output : O) → ((n : C → R) → Fits M.same_call M.same_answer t.recording.now n → M.def key n output t.recording.now.writes) → TellsWrites (Goes (Done wrote w touches M.same_answer answers) touches M.same_answer answers) (Fits M.same_call M.same_answer) s u (Ok output) (λ o n writes. M.def key n o writes)
+    early_tells key output right = record {
+      goes = goes_on wrote w touches M.same_answer answers calls laws alike s u given.given t.recording.now.writes given.are_sent given_reads given_agreed same_value place did;
+      before = fitted_mut wrote w touches M.same_answer answers calls laws alike s u given.given t.recording.now.writes given.are_sent given_reads given_agreed within.agreed;
+      told = λ n f. (t.recording.now.writes, given.are_sent.writes, right n (record { whole = whole; early = early; respects = f.respects; agrees = (given.agreeing n f.respects).0 (taken_mut wrote w touches M.same_answer answers calls laws alike s u given.given t.recording.now.writes given.are_sent given_reads given_agreed within.agreed n f) }));
+      whole = given.are_sent.whole;
+      fault = tt;
+    }
+
+  module _ (late : t.recording.now.late ≡ true) where
+    marked : Gives M (TookAs (Took M.same_call touches) MarkedLate true s.recording.now u.recording.now) t.recording.now.pairs t.recording.now.writes
+    marked = subst (λ r. Gives M (TookAs (Took M.same_call touches) MarkedLate true r u.recording.now) t.recording.now.pairs t.recording.now.writes) within.kept (gives_late (Took M.same_call touches) MarkedLate t.recording.now.late late gives)
+
+    late_begun : HasBegun (Done wrote w touches M.same_answer answers) M.same_answer answers u
+    late_begun = has_begun_late wrote w touches M.same_answer answers calls laws alike s u marked.given t.recording.now.writes marked.are_sent did within.agreed
+
+    late_tells : (output : O) {Q : O → (C → R) → List C → Type 0} → TellsWrites (Goes (Done wrote w touches M.same_answer answers) touches M.same_answer answers) (Fits M.same_call M.same_answer) s u (Ok output) Q
+    late_tells output = tells_late wrote w touches M.same_answer answers calls laws alike s u marked.given t.recording.now.writes marked.are_sent did (λ none. let no : true ≡ false = sym late ∙ within.early none whole in cc) same_value place output
 
   -- a run within a run that was finished tells the run around it what is right by what it recorded
-  pub within_tells : (key : K) (output : O) → u.recording.ghost_name ≡ s.recording.ghost_name → ((n : C → R) → Fits M.same_call M.same_answer t.recording.now n → M.def key n output t.recording.now.writes) → TellsWrites (Done wrote w M.same_answer answers) (Fits M.same_call M.same_answer) s u (Ok output) (λ o n writes. M.def key n o writes)
-  within_tells key output place right = record {
-    goes = goes_on place (done_both wrote w M.same_answer answers) (ap (λ v. v.ghost_name) value ∙ within.same_value) t.recording.now.writes taken.writes taken.whole (subst (λ v. Done wrote w M.same_answer answers s.value.now v.now t.recording.now.writes) (sym value) (within.done whole));
-    before = fitted calls laws (answers s.value.now) (alike s.value.now) gives.given t.recording.now.writes taken given_agreed within.agreed;
-    told = λ n f. (t.recording.now.writes, taken.writes, right n (record { whole = whole; respects = f.respects; agrees = (gives.agreeing n f.respects).0 (fits_taken calls laws (answers s.value.now) (alike s.value.now) gives.given t.recording.now.writes taken given_agreed within.agreed n f) }));
-    whole = taken.whole;
-    fault = tt;
-  }
+  pub within_tells : (key : K) (output : O) → ((n : C → R) → Fits M.same_call M.same_answer t.recording.now n → M.def key n output t.recording.now.writes) → TellsWrites (Goes (Done wrote w touches M.same_answer answers) touches M.same_answer answers) (Fits M.same_call M.same_answer) s u (Ok output) (λ o n writes. M.def key n o writes)
+  within_tells key output right = elim (cases_Bool t.recording.now.late) [ inl late ↦ late_tells late output | inr early ↦ early_tells early key output right ]
 
-  -- and the answers agree with what the run around it has recorded then
-  pub within_agrees : All (λ p. w p.0 ≡ false) u.recording.now.pairs → AgreesNow M.same_answer answers u
-  within_agrees all is =
-      let still = still_agrees calls laws (answers s.value.now) (alike s.value.now) gives.given t.recording.now.writes taken given_agreed within.agreed is in
-      subst (λ v. Agrees M.same_answer (answers v.now) u.recording.now.pairs) (sym value) (agrees_alike laws (answers s.value.now) (answers t.value.now) (done_keeps wrote w M.same_answer answers laws s.value.now t.value.now t.recording.now.writes (within.done whole)) u.recording.now.pairs all still)
+  -- and the recording of that run began where it had begun
+  pub within_agrees : HasBegun (Done wrote w touches M.same_answer answers) M.same_answer answers u
+  within_agrees = elim (cases_Bool t.recording.now.late) [ inl late ↦ late_begun late | inr early ↦ early_begun early ]
 
--- what follows from a call within a recording of its own, which was empty and whole: what was told holds of the value as it is
--- then, and so many writes were done on it
-pub writes_now : {V C R X : Type 0} {eq : C → C → Bool} {same : R → R → Bool} {wrote : V → C → V → Type 0} {w : C → Bool} {answers : V → C → R} → ((v : V) → Respects eq same (answers v)) → {s t : Lent V C R} {P : X → (C → R) → List C → Type 0} (r : Result X Fault) → s.recording.now.whole ≡ true → s.recording.now.writes ≡ [] → AgreesNow same answers t → TellsWrites (Done wrote w same answers) (Fits eq same) s t r P → {Q : X → Type 0} → ((x : X) (W : List C) → P x (answers t.value.now) W → Done wrote w same answers s.value.now t.value.now W → Q x) → IfOk r Q
-writes_now {same = same} {wrote} {w} {answers} alike {s} {t} (Ok x) whole none agrees a so =
+-- what follows from a call within a recording of its own, which was empty and whole, where it isn't late then: what was told holds of
+-- the value as it was before, and so many writes were done on it
+pub writes_now : {V C R X : Type 0} {eq : C → C → Bool} {same : R → R → Bool} {wrote : V → C → V → Type 0} {w : C → Bool} {touches : C → C → Bool} {answers : V → C → R} → ((v : V) → Respects eq same (answers v)) → {s t : Lent V C R} {P : X → (C → R) → List C → Type 0} (r : Result X Fault) → s.recording.now.whole ≡ true → s.recording.now.writes ≡ [] → s.recording.now.pairs ≡ [] → TellsWrites (Goes (Done wrote w touches same answers) touches same answers) (Fits eq same) s t r P → {Q : X → Type 0} → ((x : X) (W : List C) → P x (answers s.value.now) W → Done wrote w touches same answers s.value.now t.value.now W → Q x) → (t.recording.now.whole ≡ true → t.recording.now.late ≡ false) → IfOk r Q
+writes_now {same = same} {wrote} {w} {touches} {answers} alike {s} {t} (Ok x) whole none nothing a so early =
     let is = a.whole ∙ whole in
-    let told = a.told (answers t.value.now) (record { whole = is; respects = alike t.value.now; agrees = agrees is }) in
-    let start : Done wrote w same answers s.value.now s.value.now s.recording.now.writes = rw none refl in
-    let done = a.goes.done is s.value.now start in
-    so x told.0 told.2 (subst (λ W. Done wrote w same answers s.value.now t.value.now W) (told.1 ∙ ap (λ U. U ++ told.0) none) done)
-writes_now alike (Err f) whole none agrees a so = tt
+    let first : Began (Done wrote w touches same answers) same answers s.value.now s = record { done = subst (λ W. Done wrote w touches same answers s.value.now s.value.now W) (sym none) refl; agrees = λ l. subst (λ ps. Agrees same (answers s.value.now) ps) (sym nothing) tt } in
+    let began = a.goes.began is s.value.now first in
+    let told = a.told (answers s.value.now) (record { whole = is; early = early is; respects = alike s.value.now; agrees = began.agrees (early is) }) in
+    so x told.0 told.2 (subst (λ W. Done wrote w touches same answers s.value.now t.value.now W) (told.1 ∙ ap (λ U. U ++ told.0) none) began.done)
+writes_now alike (Err f) whole none nothing a so early = tt

@@ -6,13 +6,13 @@ use Rattle.comemo_base.specs.Answers.{Respects, Agrees}
 use Rattle.comemo_track.specs.Mapped.{mapped_pairs, Through}
 use Rattle.comemo_track.specs.Recording.{Recording, Took}
 use Rattle.comemo_track.specs.Sending.{BreaksOff}
-use Rattle.comemo_cache.specs.Meaning.{invocation}
+use Rattle.comemo_cache.specs.Meaning.{Naming, invocation}
 use Rattle.comemo_cache.specs.Cache.{Entries}
 use Rattle.comemo.specs.Called.{IsReply}
 use Rattle.comemo.specs.Finish.{BrokeOff}
 use Rattle.comemo.specs.Function.{Recorded, IsRecorded, Fits, Tells, OnPart}
 use Rattle.comemo.specs.declared.pending.Reply.{Reply}
-use Rattle.comemo.proofs.Recorders.{fitted, fits_taken, still_agrees}
+use Rattle.comemo.proofs.Recorders.{fitted, fits_taken, still_agrees, stays_early}
 
 module _ {C D R Q : Type 0} (eq : C → C → Bool) (same : R → R → Bool) (eqd : D → D → Bool) (like : Q → Q → Bool) (f : C → D) (g : R → Q) (apart : (x y : C) → eqd (f x) (f y) ≡ eq x y) (answers_apart : (x y : R) → like (g x) (g y) ≡ same x y) where
   module _ (n : D → Q) (m : C → R) (each : (c : C) → n (f c) ≡ g (m c)) where
@@ -30,23 +30,24 @@ module _ {C D R Q : Type 0} (eq : C → C → Bool) (same : R → R → Bool) (e
     agrees_part (p ∷ P) a = (rw (answers_apart (m p.0) p.1) at (rw (each p.0) at a.0), agrees_part P a.1)
 
   -- what a function of a part gave a recording of the whole, whose answers are n
-  module _ {K O : Type 0} (eqk : K → K → Bool) (w : C → Bool) (cloned : O → O → Type 0) (def : K → (C → R) → O → List C → Type 0) (calls : IsEquivalence eqd) (answers : IsEquivalence like) (n : D → Q) (respects : Respects eqd like n) (m : C → R) (each : (c : C) → n (f c) ≡ g (m c)) (key : K)
-      (es mid es' : Entries K C R O) (reply : Reply O) where
-    module _ {s t : Recording D Q} (before : s.whole ≡ true → Agrees like n s.pairs) (k : IsReply (record { same_call = eq; same_answer = same; same_key = eqk; is_write = w; is_clone = cloned; def = def }) (invocation key m true) es mid (Through f g (Took eqd s t)) reply es') where
+  module _ {K O : Type 0} (eqk : K → K → Bool) (w : C → Bool) (cloned : O → O → Type 0) (def : K → (C → R) → O → List C → Type 0) (naming : Naming K C R) (calls : IsEquivalence eqd) (answers : IsEquivalence like) (n : D → Q) (respects : Respects eqd like n) (m : C → R) (each : (c : C) → n (f c) ≡ g (m c)) (key : K)
+      (es mid es' : Entries K C R O) (reply : Reply O) {touches : D → D → Bool} where
+    module _ {s t : Recording D Q} (before : s.whole ≡ true → Agrees like n s.pairs) (k : IsReply (record { same_call = eq; same_answer = same; same_key = eqk; is_write = w; is_clone = cloned; def = def; naming = naming }) (invocation key m true) es mid (Through f g (Took eqd touches s t)) reply es') where
       given_agrees : Agrees like n (mapped_pairs f g k.gives.given)
       given_agrees = agrees_mapped n m each k.gives.given ((k.gives.agreeing m (part_respects n m each respects)).1 k.agrees)
 
       pub still_agrees_through : t.whole ≡ true → Agrees like n t.pairs
       still_agrees_through = still_agrees calls answers n respects (mapped_pairs f g k.gives.given) (map f k.writes) k.gives.are_sent given_agrees before
 
-    pub keeps_through : (s t : Recording D Q) → IsRecorded like n s → (k : IsReply (record { same_call = eq; same_answer = same; same_key = eqk; is_write = w; is_clone = cloned; def = def }) (invocation key m true) es mid (Through f g (Took eqd s t)) reply es') → ((m : C → R) (writes : List C) → def key m reply.output writes → writes ≡ []) → IsRecorded like n t
+    pub keeps_through : (s t : Recording D Q) → IsRecorded like n s → (k : IsReply (record { same_call = eq; same_answer = same; same_key = eqk; is_write = w; is_clone = cloned; def = def; naming = naming }) (invocation key m true) es mid (Through f g (Took eqd touches s t)) reply es') → ((m : C → R) (writes : List C) → def key m reply.output writes → writes ≡ []) → IsRecorded like n t
     keeps_through s t before k reads = record {
       agrees = still_agrees_through before.agrees k;
       no_writes = k.gives.are_sent.writes ∙ ap (λ V. V ++ map f k.writes) before.no_writes ∙ ap (map f) (reads m k.writes (k.stands m (part_respects n m each respects) k.agrees));
+      early = stays_early k.gives.are_sent before.no_writes before.early;
     }
 
     -- and what the run around it learnt
-    pub tells_through : {V : Type 0} {s t : Recorded V D Q} → t.value ≡ s.value → (s.recording.whole ≡ true → Agrees like n s.recording.pairs) → IsReply (record { same_call = eq; same_answer = same; same_key = eqk; is_write = w; is_clone = cloned; def = def }) (invocation key m true) es mid (Through f g (Took eqd s.recording t.recording)) reply es' → (reads : (m : C → R) (writes : List C) → def key m reply.output writes → writes ≡ []) → Tells (Fits eqd like) s t (Ok reply.output) (λ output o. OnPart f g o (λ part. def key part output []))
+    pub tells_through : {V : Type 0} {s t : Recorded V D Q} → t.value ≡ s.value → (s.recording.whole ≡ true → Agrees like n s.recording.pairs) → IsReply (record { same_call = eq; same_answer = same; same_key = eqk; is_write = w; is_clone = cloned; def = def; naming = naming }) (invocation key m true) es mid (Through f g (Took eqd touches s.recording t.recording)) reply es' → (reads : (m : C → R) (writes : List C) → def key m reply.output writes → writes ≡ []) → Tells (Fits eqd like) s t (Ok reply.output) (λ output o. OnPart f g o (λ part. def key part output []))
     tells_through {s = s} {t = t} value before k reads = record {
       same_value = value;
       before = fitted calls answers n respects (mapped_pairs f g k.gives.given) (map f k.writes) k.gives.are_sent (given_agrees before k) before;

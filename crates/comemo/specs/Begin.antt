@@ -33,7 +33,7 @@ module _ {K C R O : Type 0} (M : Meaning K C R O) (es : Entries K C R O) (call :
     pub right : (n : C → R) (output : O) (writes : List C) → Respects M.same_call M.same_answer n → M.def own n output writes → M.def call.key n output writes
     pub none : call.enabled ≡ true → HasNone M es call
 
-  -- a run begins with the key, up to equality, and an empty recording that is whole, and where it is enabled no kept entry
+  -- a run begins with the key, up to equality, and an empty recording that is whole and not late, and where it is enabled no kept entry
   -- has the key and agrees
   pub record IsRun (begun : PendingRun K C R) : Type 0 where
     pub has_key : IsTrue (M.same_key call.key begun.key)
@@ -42,6 +42,7 @@ module _ {K C R O : Type 0} (M : Meaning K C R O) (es : Entries K C R O) (call :
     pub pairs : begun.recording.pairs ≡ []
     pub writes : begun.recording.writes ≡ []
     pub whole : begun.recording.whole ≡ true
+    pub early : begun.recording.late ≡ false
     pub none : call.enabled ≡ true → HasNone M es call
 
   -- a hit: an entry was kept that has the key and agrees with the answers; its path, which has reads alone, and its writes, in order,

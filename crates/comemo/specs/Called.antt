@@ -1,5 +1,5 @@
 -- What a memoized function replies to a call.
-use Rattle.std.specs.Prelude.{◌≡◌, ◌↔◌, ◌⊎◌, ◌++◌, [], true, false, List, Option, map, IsTrue}
+use Rattle.std.specs.Prelude.{◌≡◌, ◌↔◌, ◌⊎◌, ◌++◌, [], Bool, true, false, List, Option, map, IsTrue}
 use Rattle.std.specs.List.{All}
 use Rattle.std.specs.List.Sorted.{IsPermutation}
 use Rattle.comemo_base.specs.Answers.{Agrees}
@@ -29,17 +29,19 @@ module _ {K C R O : Type 0} (M : Meaning K C R O) (call : Invocation K C R) wher
     pub has_key : IsTrue (M.same_key call.key own)
     pub ends : Ends M mid (record ran { key = own }) reply es'
     pub disabled : (reply ≡ how.Disabled) ↔ (call.enabled ≡ false)
+    pub early : reply ≡ how.Late → ⊥
 
   -- a fault is that of a run: one was to be done, since no entry of es has the key and agrees, or the call is not enabled; and the
   -- sink, of which this is said, took nothing of it and is spoiled
   abbrev pub IsOfRun : Entries K C R O → Type 0 → Type 0
   IsOfRun es spoils = (call.enabled ≡ true → HasNone M es call) × spoils
 
-  -- a run under the call's own key came to the reply: it recorded reads, which the call's answers agree with, and by which alone its
+  -- a run under the call's own key came to the reply: it recorded reads, none of them late, which the call's answers agree with, and by which alone its
   -- output is right; and it was finished
   pub record RanAs (es : Entries K C R O) (sent : List (C × R) → List C → Type 0) (reply : Reply O) (es' : Entries K C R O) : Type 0 where
     pub recording : Recording C R
     pub no_writes : recording.writes ≡ []
+    pub early : recording.late ≡ false
     pub agrees : Agrees M.same_answer call.answers recording.pairs
     pub stands : Stands M (run call.key recording.pairs reply.output [])
     pub finished : Finished M es (record { key = call.key; enabled = call.enabled; recording = recording }) sent reply.output reply es'
@@ -54,6 +56,22 @@ module _ {K C R O : Type 0} (M : Meaning K C R O) (call : Invocation K C R) wher
     pub gives : Gives M sent pairs writes
     pub came : ((reply.how ≡ how.Hit) × CameByHit es (run call.key pairs reply.output writes) es') ⊎ CameByRun es mid (run call.key pairs reply.output writes) reply.how es'
 
+  module _ (touches : C → C → Bool) where
+    -- the reply to a call whose run was late, of which nothing is known but that its reads and writes went to the sink, and that a
+    -- write may touch a read: no entry of es has the key and agrees with the answers, and the entries are as they were at mid
+    pub record IsLate (es mid : Entries K C R O) (sent : List (C × R) → List C → Type 0) (reply : Reply O) (es' : Entries K C R O) : Type 0 where
+      pub pairs : List (C × R)
+      pub writes : List C
+      pub is_late : reply.how ≡ how.Late
+      pub touching : ((c d : C) → touches c d ≡ false) → ⊥
+      pub none : call.enabled ≡ true → HasNone M es call
+      pub gives : Gives M sent pairs writes
+      pub same : es' ≡ mid
+
+    -- the reply to a call of a function that writes: such as any, or its run was late; what went to the sink is said of each
+    abbrev pub IsReplyMut : (es mid : Entries K C R O) → (Bool → List (C × R) → List C → Type 0) → Reply O → Entries K C R O → Type 0
+    IsReplyMut es mid sent reply es' = IsReply es mid (sent false) reply es' ⊎ IsLate es mid (sent true) reply es'
+
 -- but for ages, no entry was lost, and some may have come
 abbrev pub Grows : {K C R O : Type 0} → Entries K C R O → Entries K C R O → Type 0
 Grows {K} {C} {R} {O} es es' = (more : Entries K C R O) × IsPermutation (map young (more ++ es)) (map young es')
@@ -61,3 +79,7 @@ Grows {K} {C} {R} {O} es es' = (more : Entries K C R O) × IsPermutation (map yo
 -- the reply to a call that began at one telling of the entries and ended at another
 abbrev pub HeldReply : {K C R O : Type 0} → Meaning K C R O → Invocation K C R → Option (Entries K C R O) → Option (Entries K C R O) → (List (C × R) → List C → Type 0) → Reply O → Option (Entries K C R O) → Type 0
 HeldReply M call began ended sent reply after = LeadsBy began ended after (λ es mid es'. IsReply M call es mid sent reply es')
+
+-- the same of a function that writes
+abbrev pub HeldReplyMut : {K C R O : Type 0} → Meaning K C R O → (C → C → Bool) → Invocation K C R → Option (Entries K C R O) → Option (Entries K C R O) → (Bool → List (C × R) → List C → Type 0) → Reply O → Option (Entries K C R O) → Type 0
+HeldReplyMut M touches call began ended sent reply after = LeadsBy began ended after (λ es mid es'. IsReplyMut M call touches es mid sent reply es')

@@ -1,5 +1,5 @@
 -- A call of a memoized function whose run is a closure.
-use Rattle.std.specs.Prelude.{◌≡◌, ◌↔◌, ◌⊎◌, ⊤, true, false, List, [], IsTrue, Result, Ok, Err, IfOk}
+use Rattle.std.specs.Prelude.{◌≡◌, ◌↔◌, ◌⊎◌, ⊤, Bool, true, false, List, [], IsTrue, Result, Ok, Err, IfOk}
 use Rattle.std.specs.Borrow.{MutBor}
 use Rattle.comemo_track.specs.Recording.{Recording}
 use Rattle.comemo_cache.specs.Meaning.{Meaning, Invocation, run}
@@ -13,13 +13,15 @@ use Rattle.comemo.specs.declared.pending.How.TheVariants as how
 
 module _ {K C R O : Type 0} (M : Meaning K C R O) (es : Entries K C R O) (call : Invocation K C R) where
   module _ {I P : Type 0} (did : I → I → List C → Type 0) (recorded : P → Recording C R) where
-    -- what a run is handed, where no kept entry has the key and agrees: the input, unchanged, and an empty recording that is whole
+    -- what a run is handed, where no kept entry has the key and agrees: the input, unchanged, and an empty recording that is whole and
+    -- not late
     pub record Starts (input : I) (i : MutBor I) (p : MutBor P) : Type 0 where
       pub none : call.enabled ≡ true → HasNone M es call
       pub unchanged : did input i.now []
       pub pairs : (recorded p.now).pairs ≡ []
       pub writes : (recorded p.now).writes ≡ []
       pub whole : (recorded p.now).whole ≡ true
+      pub early : (recorded p.now).late ≡ false
 
     module _ (post : MutBor I → MutBor P → Result O Fault → MutBor I → MutBor P → Type 0) (input : I) where
       -- the closure ran, gave this, and left this recording
@@ -55,13 +57,14 @@ module _ {K C R O : Type 0} (M : Meaning K C R O) (es : Entries K C R O) (call :
 
   -- the closure, whose runs are these, ran and gave the output; its recording, which is whole, went to the sink, and became of
   -- the entries what the reply says
-  pub record Ended (ran : Result O Fault → Recording C R → Type 0) (sent : List (C × R) → List C → Type 0) (output : O) (reply : How) (es' : Entries K C R O) : Type 0 where
+  pub record Ended (ran : Result O Fault → Recording C R → Type 0) (sent : Bool → List (C × R) → List C → Type 0) (output : O) (reply : How) (es' : Entries K C R O) : Type 0 where
     pub recording : Recording C R
     pub has_run : ran (Ok output) recording
     pub whole : recording.whole ≡ true
     pub own : K
     pub has_key : IsTrue (M.same_key call.key own)
-    pub stands : Stands M (run call.key recording.pairs output recording.writes)
+    pub stands : recording.late ≡ false → Stands M (run call.key recording.pairs output recording.writes)
     pub ends : Ends M es (run own recording.pairs output recording.writes) reply es'
-    pub disabled : (reply ≡ how.Disabled) ↔ (call.enabled ≡ false)
-    pub gives : Gives M sent recording.pairs recording.writes
+    pub late : (reply ≡ how.Late) ↔ (recording.late ≡ true)
+    pub disabled : (reply ≡ how.Disabled) ↔ ((call.enabled ≡ false) × (recording.late ≡ false))
+    pub gives : Gives M (sent recording.late) recording.pairs recording.writes

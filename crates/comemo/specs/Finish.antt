@@ -4,7 +4,7 @@ use Rattle.comemo_base.specs.Answers.{Respects, Agrees}
 use Rattle.comemo_base.specs.Tree.{IsSamePath}
 use Rattle.comemo_base.specs.Lookup.{under}
 use Rattle.comemo_base.specs.Insertion.{Exists, Misses}
-use Rattle.comemo_cache.specs.Meaning.{Meaning, Run}
+use Rattle.comemo_cache.specs.Meaning.{Meaning, Run, IsNamed}
 use Rattle.comemo_cache.specs.Cache.{Entries}
 use Rattle.comemo_cache.specs.Storing.{Stores}
 use Rattle.comemo.specs.Begin.{PendingRun, came_to}
@@ -14,14 +14,16 @@ use Rattle.comemo.specs.declared.pending.Reply.{Reply}
 
 module _ {K C R O : Type 0} (M : Meaning K C R O) (es : Entries K C R O) where
   module _ (ran : Run K C R O) where
-    -- the entries after a run that came to this, by what became of it; only a stored run adds one
+    -- the entries after a run that came to this, by what became of it; only a stored run adds one, and a call is missing only
+    -- where the function doesn't name the calls that it asks
     abbrev pub Ends : How → Entries K C R O → Type 0
     Ends how.Hit es' = ⊥
     Ends how.Stored es' = Stores M es ran es'
     Ends how.AlreadyExists es' = Exists M.same_call M.same_answer (under M.same_key es ran.key) ran.pairs × (es' ≡ es)
-    Ends how.MissingCall es' = Misses M.same_call M.same_answer (under M.same_key es ran.key) ran.pairs × (es' ≡ es)
+    Ends how.MissingCall es' = (¬ IsNamed M) × Misses M.same_call M.same_answer (under M.same_key es ran.key) ran.pairs × (es' ≡ es)
     Ends how.NotStored es' = es' ≡ es
     Ends how.Disabled es' = es' ≡ es
+    Ends how.Late es' = es' ≡ es
 
 -- the pairs went to the sink, up to equality, so that the same answers agree with what went there, and then the writes
 pub record Gives {K C R O : Type 0} (M : Meaning K C R O) (sent : List (C × R) → List C → Type 0) (pairs : List (C × R)) (writes : List C) : Type 0 where
@@ -31,12 +33,13 @@ pub record Gives {K C R O : Type 0} (M : Meaning K C R O) (sent : List (C × R) 
   pub are_sent : sent given writes
 
 -- the run was finished with this output, which is the reply's: its recording, which is whole, went to the sink, and became of
--- the entries what the reply says
+-- the entries what the reply says; it is late exactly where the recording is, and disabled exactly where it isn't and began so
 pub record Finished {K C R O : Type 0} (M : Meaning K C R O) (es : Entries K C R O) (pending : PendingRun K C R) (sent : List (C × R) → List C → Type 0) (output : O) (reply : Reply O) (es' : Entries K C R O) : Type 0 where
   pub whole : pending.recording.whole ≡ true
   pub same : reply.output ≡ output
   pub ends : Ends M es (came_to pending output) reply.how es'
-  pub disabled : (reply.how ≡ how.Disabled) ↔ (pending.enabled ≡ false)
+  pub late : (reply.how ≡ how.Late) ↔ (pending.recording.late ≡ true)
+  pub disabled : (reply.how ≡ how.Disabled) ↔ ((pending.enabled ≡ false) × (pending.recording.late ≡ false))
   pub gives : Gives M sent pending.recording.pairs pending.recording.writes
 
 -- a sink, broken off, took a beginning of these pairs, up to equality

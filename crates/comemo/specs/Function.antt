@@ -3,6 +3,8 @@ use Rattle.std.specs.Prelude.{◌≡◌, Bool, true, false, IsTrue, [], Result, 
 use Rattle.std.specs.Coded.{Coded, code_by, coded×}
 use Rattle.comemo_base.specs.Answers.{Respects, Agrees}
 use Rattle.comemo_track.specs.Recording.{Recording, recording_code}
+use Rattle.comemo_settled.specs.Runs.{IsRun}
+use Rattle.comemo_cache.specs.Meaning.{Naming, unnamed, names, AsksAlike}
 use Rattle.comemo.specs.declared.pending.Fault.{Fault}
 use Rattle.comemo.specs.declared.pending.Fault.TheVariants as fault
 
@@ -14,15 +16,18 @@ pub record Recorded (V C R : Type 0) : Type 0 where
 abbrev pub recorded_code : {V C R : Type 0} → Coded V → Coded C → Coded R → Coded (Recorded V C R)
 recorded_code {V} {C} {R} v c r = code_by (V × Recording C R) (coded× v (recording_code c r)) (λ s. (s.value, s.recording)) (λ p. record { value = p.0; recording = p.1 }) (λ _. refl)
 
--- what a recorder keeps of its recording: while nothing is lost, the value's answers agree with it, and there are no writes
+-- what a recorder keeps of its recording: while nothing is lost, the value's answers agree with it, and there are no writes, so
+-- that no read is late
 pub record IsRecorded {C R : Type 0} (same : R → R → Bool) (m : C → R) (recording : Recording C R) : Type 0 where
   pub agrees : recording.whole ≡ true → Agrees same m recording.pairs
   pub no_writes : recording.writes ≡ []
+  pub early : recording.late ≡ false
 
 module _ {C R : Type 0} (eq : C → C → Bool) (same : R → R → Bool) where
-  -- nothing is lost of the recording, and the answers, which tell no equal calls apart, agree with it
+  -- nothing is lost of the recording, it isn't late, and the answers, which tell no equal calls apart, agree with it
   pub record Fits (recording : Recording C R) (m : C → R) : Type 0 where
     pub whole : recording.whole ≡ true
+    pub early : recording.late ≡ false
     pub respects : Respects eq same m
     pub agrees : Agrees same m recording.pairs
 
@@ -36,6 +41,16 @@ module _ {C R : Type 0} (eq : C → C → Bool) (same : R → R → Bool) where
     pub outputs : (key : K) (m : C → R) (a b : O) → Respects eq same m → cloned a b → means key m a → means key m b
     pub keys : (j k : K) (m : C → R) (output : O) → Respects eq same m → IsTrue (eqk j k) → means j m output → means k m output
     pub clones : (x y : K) → key_clone x y → IsTrue (eqk x y)
+
+-- where the asked calls are named, a run under the key that gave an output has recorded these, unless something was lost or it was
+-- late: its pairs are causal and complete
+abbrev pub SettlesAs : {K C R X : Type 0} → (K → K → Bool) → (C → C → Bool) → (R → R → Bool) → Naming K C R → K → Recording C R → Result X Fault → Type 0
+SettlesAs eqk eq same unnamed key t r = Unit {0}
+SettlesAs eqk eq same (names asks) key t r = OnOk r (t.whole ≡ true → t.late ≡ false → IsRun eq same (AsksAlike eqk eq asks key) t.pairs)
+
+-- so it is of a run that began with no pairs
+abbrev pub SettlesRun : {K C R X : Type 0} → (K → K → Bool) → (C → C → Bool) → (R → R → Bool) → Naming K C R → K → Recording C R → Recording C R → Result X Fault → Type 0
+SettlesRun eqk eq same N key s t r = s.pairs ≡ [] → SettlesAs eqk eq same N key t r
 
 -- what a run is told by a question or a call, which took its recorder from s to t: of the same value, where it is answered, what
 -- fits the recording fitted it before, and P holds of the answer and of whatever fits; and it says that the recording is

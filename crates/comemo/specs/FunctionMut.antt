@@ -6,7 +6,6 @@ use Rattle.comemo_track.specs.Recording.{Recording}
 use Rattle.comemo_cache.specs.Meaning.{Meaning, Invocation, SameWrites}
 use Rattle.comemo_cache.specs.Cache.{Entries, Touches}
 use Rattle.comemo.specs.Begin.{Reaches, IsStopped}
-use Rattle.comemo.specs.Finish.{BrokeOff}
 use Rattle.comemo.specs.Called.{IsOfRun}
 use Rattle.comemo.specs.declared.pending.Fault.{Fault}
 use Rattle.comemo.specs.declared.pending.Fault.TheVariants as fault
@@ -27,30 +26,42 @@ pub record Lent (V C R : Type 0) : Type 0 where
 abbrev pub lent : {V C R : Type 0} → MutBor V → MutBor (Recording C R) → Lent V C R
 lent value recording = record { value = value; recording = recording }
 
--- while nothing is lost of the recording, the value's answers agree with it
-abbrev pub AgreesNow : {V C R : Type 0} → (R → R → Bool) → (V → C → R) → Lent V C R → Type 0
-AgreesNow same answers s = s.recording.now.whole ≡ true → Agrees same (answers s.value.now) s.recording.now.pairs
+module _ {V C R : Type 0} (did : V → V → List C → Type 0) (same : R → R → Bool) (answers : V → C → R) where
+  -- the recording may have begun at this value: its writes lead from there to the value as it is, and while it isn't late, the
+  -- answers of that value agree with its reads
+  pub record Began (start : V) (s : Lent V C R) : Type 0 where
+    pub done : did start s.value.now s.recording.now.writes
+    pub agrees : s.recording.now.late ≡ false → Agrees same (answers start) s.recording.now.pairs
+
+  -- while nothing is lost of the recording, it began at some value
+  abbrev pub HasBegun : Lent V C R → Type 0
+  HasBegun s = s.recording.now.whole ≡ true → (start : V) × Began start s
+
+-- no write touches a read
+abbrev pub NoneTouches : {C : Type 0} → (C → C → Bool) → Type 0
+NoneTouches {C} touches = (c d : C) → touches c d ≡ false
+
+module _ {V C R : Type 0} (did : V → V → List C → Type 0) (touches : C → C → Bool) (same : R → R → Bool) (answers : V → C → R) where
+  -- what became of what a recorder was lent, from s to t: both are in their places, and writes alone changed the value. While nothing
+  -- is lost of the recording, it began then wherever it had begun; and it isn't late where it wasn't, and no write touches a read
+  pub record Goes (s t : Lent V C R) : Type 0 where
+    pub same_value : t.value.ghost_name ≡ s.value.ghost_name
+    pub same_recording : t.recording.ghost_name ≡ s.recording.ghost_name
+    pub was_whole : t.recording.now.whole ≡ true → s.recording.now.whole ≡ true
+    pub began : t.recording.now.whole ≡ true → (start : V) → Began did same answers start s → Began did same answers start t
+    pub early : NoneTouches touches → t.recording.now.whole ≡ true → s.recording.now.late ≡ false → t.recording.now.late ≡ false
+    pub reached : (start : V) → Reaches did start s.value.now → Reaches did start t.value.now
 
 -- the writes that were recorded from s to t are such
 abbrev pub Since : {V C R : Type 0} → Lent V C R → Lent V C R → (List C → Type 0) → Type 0
 Since {C = C} s t P = (writes : List C) × (t.recording.now.writes ≡ s.recording.now.writes ++ writes) × P writes
 
-module _ {V C R : Type 0} (did : V → V → List C → Type 0) where
-  -- what became of what a recorder was lent, from s to t: both are in their places, and writes alone changed the value. While nothing
-  -- is lost of the recording, the writes that were recorded, which led to the value as it was, are followed by those that were
-  -- recorded since, which lead to the value as it is
-  pub record Goes (s t : Lent V C R) : Type 0 where
-    pub same_value : t.value.ghost_name ≡ s.value.ghost_name
-    pub same_recording : t.recording.ghost_name ≡ s.recording.ghost_name
-    pub was_whole : t.recording.now.whole ≡ true → s.recording.now.whole ≡ true
-    pub done : t.recording.now.whole ≡ true → (start : V) → did start s.value.now s.recording.now.writes → did start t.value.now t.recording.now.writes
-    pub reached : (start : V) → Reaches did start s.value.now → Reaches did start t.value.now
-
+module _ {V C R : Type 0} (leads : Lent V C R → Lent V C R → Type 0) where
   -- what a run is told by a question, a write or a call, which took what its recorder was lent from s to t: where it is answered,
   -- what fits the recording fitted it before, and P holds of the answer and of whatever fits; and it says that the recording is
   -- incomplete only where it is spoiled
   pub record TellsMut {X : Type 0} (fits : Recording C R → (C → R) → Type 0) (s t : Lent V C R) (r : Result X Fault) (P : X → (C → R) → Type 0) : Type 0 where
-    pub goes : Goes s t
+    pub goes : leads s t
     pub before : OnOk r ((m : C → R) → fits t.recording.now m → fits s.recording.now m)
     pub told : IfOk r (λ answer. (m : C → R) → fits t.recording.now m → P answer m)
     pub fault : IfErr r (λ f. f ≡ fault.Incomplete → t.recording.now.whole ≡ false)
@@ -58,7 +69,7 @@ module _ {V C R : Type 0} (did : V → V → List C → Type 0) where
   -- what a run is told by a call of a function that writes: the same, where P holds of the answer, of whatever fits, and of the
   -- writes that were recorded since; and where it is answered, nothing was lost
   pub record TellsWrites {X : Type 0} (fits : Recording C R → (C → R) → Type 0) (s t : Lent V C R) (r : Result X Fault) (P : X → (C → R) → List C → Type 0) : Type 0 where
-    pub goes : Goes s t
+    pub goes : leads s t
     pub before : OnOk r ((m : C → R) → fits t.recording.now m → fits s.recording.now m)
     pub told : IfOk r (λ answer. (m : C → R) → fits t.recording.now m → Since s t (P answer m))
     pub whole : OnOk r (t.recording.now.whole ≡ s.recording.now.whole)
@@ -68,10 +79,16 @@ module _ {V C R : Type 0} (did : V → V → List C → Type 0) where
 abbrev pub WasStopped : {K C R O : Type 0} → Meaning K C R O → Entries K C R O → Invocation K C R → (List C → Type 0) → (List (C × R) → List C → Type 0) → Entries K C R O → Type 0
 WasStopped M es call done spoiled es' = Touches M es call es' × IsStopped M es call done spoiled
 
+-- a sink, broken off, took some pairs; where no write touches a read, the answers agree with them
+pub record BrokeOffMut {C R : Type 0} (touches : C → C → Bool) (same : R → R → Bool) (m : C → R) (broken : List (C × R) → Type 0) : Type 0 where
+  pub pairs : List (C × R)
+  pub agrees : NoneTouches touches → Agrees same m pairs
+  pub is_broken : broken pairs
+
 -- what stands after a fault of a call of a function that writes: the entries are as they were and the sink was broken off, or a hit
 -- was stopped
-abbrev pub IsFailed : {K C R O : Type 0} → Meaning K C R O → Entries K C R O → Invocation K C R → (List C → Type 0) → (List (C × R) → Type 0) → (List (C × R) → List C → Type 0) → Entries K C R O → Type 0
-IsFailed M es call done broken spoiled es' = ((es' ≡ es) × BrokeOff M.same_answer call.answers broken) ⊎ WasStopped M es call done spoiled es'
+abbrev pub IsFailed : {K C R O : Type 0} → Meaning K C R O → (C → C → Bool) → Entries K C R O → Invocation K C R → (List C → Type 0) → (List (C × R) → Type 0) → (List (C × R) → List C → Type 0) → Entries K C R O → Type 0
+IsFailed M touches es call done broken spoiled es' = ((es' ≡ es) × BrokeOffMut touches M.same_answer call.answers broken) ⊎ WasStopped M es call done spoiled es'
 
 -- which fault a call of a function that writes failed with: the entries are as they were, and it is want of memory, or one of the run;
 -- or a hit was stopped at a write that was refused

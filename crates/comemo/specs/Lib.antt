@@ -28,6 +28,7 @@ pub use Rattle.comemo_track.specs.MultiLaws
 pub use Rattle.comemo_track.specs.MappedLaws
 pub use Rattle.comemo_tree.specs.Change
 pub use Rattle.comemo_settled.specs.Runs
+pub use Rattle.comemo_settled.specs.Settling
 pub use Rattle.comemo_settled.specs.Sets
 pub use Rattle.comemo_settled.specs.StepLists
 pub use Rattle.comemo_base.specs.Answers

@@ -1,5 +1,5 @@
 -- What a function that calls itself tells the run around it, and how its calls start and finish.
-use Rattle.std.specs.Prelude.{◌≡◌, true, List, IsTrue, [], Result, Ok, Err, IfOk, OnOk, IfErr}
+use Rattle.std.specs.Prelude.{◌≡◌, ◌↔◌, Bool, true, false, List, IsTrue, [], Result, Ok, Err, IfOk, OnOk, IfErr}
 use Rattle.comemo_track.specs.Recording.{Recording}
 use Rattle.comemo_cache.specs.Meaning.{Meaning, Invocation, Run}
 use Rattle.comemo_cache.specs.Cache.{Entries, HasNone}
@@ -40,11 +40,14 @@ module _ {K C R O : Type 0} (M : Meaning K C R O) (es : Entries K C R O) where
     pub same_value : inner.value ≡ outer.value
     pub pairs : inner.recording.pairs ≡ []
     pub whole : inner.recording.whole ≡ true
+    pub early : inner.recording.late ≡ false
     pub none : HasNone M es call
 
-  -- a run that came to this was finished: its pairs went to the recorder that started it, and it was stored, or it is said why not
-  pub record FinishedAs (sent : List (C × R) → List C → Type 0) (ran : Run K C R O) (es' : Entries K C R O) : Type 0 where
+  -- a run that came to this was finished: its pairs went to the recorder that started it, and it was stored, or it is said why not;
+  -- it was late, or not
+  pub record FinishedAs (late : Bool) (sent : List (C × R) → List C → Type 0) (ran : Run K C R O) (es' : Entries K C R O) : Type 0 where
     pub became : How
     pub enabled : became ≡ how.Disabled → ⊥
+    pub is_late : (became ≡ how.Late) ↔ (late ≡ true)
     pub ends : Ends M es ran became es'
     pub gives : Gives M sent ran.pairs ran.writes

@@ -1,9 +1,9 @@
 //! A call of a memoized function whose run is a closure.
-ghost use Rattle.std.specs.Prelude.{◌≡◌, [], true, IfOk, IfErr, OnErr, Ok};
+ghost use Rattle.std.specs.Prelude.{◌≡◌, [], true, false, IfOk, IfErr, OnErr, Ok};
 ghost use Rattle.std.specs.Borrow.{MutBor};
 ghost use Rattle.comemo.specs.Begin.{IsHit};
 ghost use Rattle.comemo_track.specs.Recording.{Recording};
-ghost use Rattle.comemo_cache.specs.Meaning.{run};
+ghost use Rattle.comemo_cache.specs.Meaning.{IsNamedRun, run};
 ghost use Rattle.comemo_cache.specs.Cache.{Stands, Touches};
 ghost use Rattle.comemo_cache.specs.Held.{Held, Leads, LeadsBy};
 ghost use Rattle.comemo.specs.Closure.{Starts, Ran, RanTo, Ended, IsFault, IsBroken};
@@ -29,11 +29,12 @@ pub trait Record {
     // what it holds
     ghost recorded: { Self → Recording Self.Call Self.Answer };
 
-    /// A recording of nothing, which is whole. It takes no memory.
+    /// A recording of nothing, which is whole, and not late. It takes no memory.
     fn empty(alloc: Global) -> Self
         ensures pairs { (recorded result).pairs ≡ [] }
         ensures writes { (recorded result).writes ≡ [] }
-        ensures whole { (recorded result).whole ≡ true };
+        ensures whole { (recorded result).whole ≡ true }
+        ensures early { (recorded result).late ≡ false };
 
     /// The recording itself. It takes no memory and constant time.
     fn into_constraint(self) -> Constraint<Self::Call, Self::Answer>
@@ -60,8 +61,8 @@ impl<C: Call, R: Clone + Ord> Record for Constraint<C, R> {
 /// keeps what it gave.
 ///
 /// The closure gets the input and the recording that what it asks has to go to. It is called only where no entry
-/// agrees, or none is looked for, and its output has to be right for all answers that agree with what it recorded. With
-/// `enabled` false there is no look-up, and nothing is stored.
+/// agrees, or none is looked for, and its output has to be right for all answers that agree with what it recorded, but
+/// where that is late. With `enabled` false there is no look-up, and nothing is stored.
 ///
 /// A fault of the closure is answered, and nothing is stored then. Else `Incomplete` comes exactly where it gave an
 /// output and its recording is spoiled; `Memory` comes where the call didn't begin, as `begin` says, or where there was
@@ -94,8 +95,14 @@ pub fn memoize<
         → Held (H.entries cache.now) (λ es. Ran ⟦<M as Meant>⟧.meaning es
         (⟦<In as Invoked>⟧.invoked input.now enabled)
         In.did P.recorded (F.post func) input.now (Ok output) t)
-        → t.whole ≡ true
+        → t.whole ≡ true → t.late ≡ false
         → Stands ⟦<M as Meant>⟧.meaning (run (In.key_of input.now) t.pairs output t.writes) }
+    requires settled { (output : M.Out) (t : Recording M.Call M.Answer)
+        → Held (H.entries cache.now) (λ es. Ran ⟦<M as Meant>⟧.meaning es
+        (⟦<In as Invoked>⟧.invoked input.now enabled)
+        In.did P.recorded (F.post func) input.now (Ok output) t)
+        → t.whole ≡ true → t.late ≡ false
+        → IsNamedRun ⟦<M as Meant>⟧.meaning (In.key_of input.now) t.pairs }
     ensures hit { IfOk result (λ reply. reply.how ≡ How.Hit
         → Leads (H.entries cache.old) (H.entries cache.new) (λ es es'.
         IsHit ⟦<M as Meant>⟧.meaning es (⟦<In as Invoked>⟧.invoked input.old enabled)
@@ -107,7 +114,8 @@ pub fn memoize<
         Ended ⟦<M as Meant>⟧.meaning mid (⟦<In as Invoked>⟧.invoked input.old enabled)
         (RanTo ⟦<M as Meant>⟧.meaning es (⟦<In as Invoked>⟧.invoked input.old enabled)
         In.did P.recorded (F.post func) input.old input.new)
-        (S.took sink.old sink.new) reply.output reply.how es')) }
+        (λ late. ⟦<S as Breaking>⟧.took_as late sink.old sink.new)
+        reply.output reply.how es')) }
     ensures fault { IfErr result (λ fault. Held (H.entries cache.old) (λ es.
         IsFault ⟦<M as Meant>⟧.meaning es (⟦<In as Invoked>⟧.invoked input.old enabled)
         In.did P.recorded (F.post func) input.old input.new fault)) }

@@ -1,13 +1,13 @@
 //! The library's front door: a memoized function of a key and a tracked value, as one trait and one call.
 ghost use Rattle.std.specs.Prelude.{◌≡◌, ◌⊎◌, [], List, true, false, IsTrue, IfOk, IfErr, OnOk, OnErr, ⊤};
-ghost use Rattle.comemo_cache.specs.Meaning.{invocation, reading};
+ghost use Rattle.comemo_cache.specs.Meaning.{Naming, unnamed, invocation, reading};
 ghost use Rattle.comemo.specs.MeaningLaws.{none_alike};
 ghost use Rattle.comemo.specs.Called.{RanAs, IsOfRun, HeldReply};
 ghost use Rattle.comemo_cache.specs.Held.{Held, Leads, Stays};
 ghost use Rattle.comemo.specs.Finish.{BrokeOff};
 ghost use Rattle.comemo_track.specs.Recording.{Recording, Took, Spoiled};
 ghost use Rattle.comemo_track.specs.Sending.{Asks, BreaksOff};
-ghost use Rattle.comemo.specs.Function.{Recorded, Fits, Tells, Laws};
+ghost use Rattle.comemo.specs.Function.{Recorded, Fits, Tells, Laws, SettlesRun};
 
 use crate::pending::{Fault, How, Looked, Pending, Reply, look_up};
 use comemo_cache::cache::{Meant, Memo};
@@ -23,7 +23,7 @@ use std::marker::{Model, PhantomData};
 ///
 /// There is nothing to implement. This project's own.
 pub trait Told: Track {
-    // nothing is lost of the recording, and the answers agree with it
+    // nothing is lost of the recording, it isn't late, and the answers agree with it
     ghost fits: { Recording Self.Call Self.Answer → (Self.Call → Self.Answer) → Type 0 };
 
     // the recording of the second is that of the first after it took these pairs and these writes
@@ -38,10 +38,10 @@ pub trait Told: Track {
 impl<T: Track> Told for T {
     ghost fits = { Fits T.Call.eq T.Answer.eq };
 
-    ghost took = { λ s t. Took T.Call.eq s.recording t.recording };
+    ghost took = { λ s t. Took T.Call.eq T.Call.touches s.recording t.recording };
 
     ghost broke_off = { λ s t. BrokeOff T.Answer.eq (T.answers s.value)
-        (BreaksOff (Took T.Call.eq) Spoiled s.recording t.recording) };
+        (BreaksOff (Took T.Call.eq T.Call.touches) Spoiled s.recording t.recording) };
 }
 
 /// A memoized function of a key and a tracked value.
@@ -67,6 +67,10 @@ pub trait Function {
     // at this key and these answers, this output is right
     ghost means: { Self.Key → (Self.Of.Call → Self.Of.Answer) → Self.Out → Type 0 };
 
+    // which calls are asked at a key and at answers, where the function names them; then no run is lost to another order of
+    // its calls
+    ghost naming: { Naming Self.Key Self.Of.Call Self.Of.Answer } = { unnamed };
+
     /// Does the function: asks the value through the recorder, which keeps what it was told.
     ///
     /// The output has to be right for all answers that agree with what was recorded. A run may answer `Incomplete` only
@@ -80,6 +84,8 @@ pub trait Function {
         ensures same { of.new.value ≡ of.old.value }
         ensures right { IfOk result (λ output. (m : Self.Of.Call → Self.Of.Answer)
             → ⟦<Self::Of as Told>⟧.fits of.new.recording m → means key.now m output) }
+        ensures settled { SettlesRun Self.Key.eq Self.Of.Call.eq Self.Of.Answer.eq naming key.now
+            of.old.recording of.new.recording result }
         ensures fault { IfErr result
             (λ fault. fault ≡ Fault.Incomplete → of.new.recording.whole ≡ false) };
 
@@ -117,6 +123,7 @@ impl<'a, T: Track> Recorder<'a, T> {
         ensures pairs { result.recording.pairs ≡ [] }
         ensures writes { result.recording.writes ≡ [] }
         ensures whole { result.recording.whole ≡ true }
+        ensures early { result.recording.late ≡ false }
     {
         Recorder {
             alloc,
@@ -218,6 +225,8 @@ impl<F: Function> Memo for MemoOf<F> {
 
     ghost def = { reading F.means };
 
+    ghost naming = { F.naming };
+
     ghost laws = { record {
       outputs = λ key m a b _ r c right. (right.0, F.laws.outputs key m a b r c right.1);
       keys = λ j k m output _ r e right. (right.0, F.laws.keys j k m output r e right.1);
@@ -248,6 +257,8 @@ pub trait FunctionOf<T: Track>: Memo<Call = T::Call, Answer = T::Answer> {
         ensures same { of.new.value ≡ of.old.value }
         ensures right { IfOk result (λ output. (m : T.Call → T.Answer)
             → ⟦<T as Told>⟧.fits of.new.recording m → Self.def key.now m output []) }
+        ensures settled { SettlesRun Self.Key.eq T.Call.eq T.Answer.eq Self.naming key.now
+            of.old.recording of.new.recording result }
         ensures fault { IfErr result
             (λ fault. fault ≡ Fault.Incomplete → of.new.recording.whole ≡ false) };
 

@@ -1,14 +1,16 @@
 //! The front door of functions that write: a memoized function of a key and a tracked value that its run writes to.
 ghost use Rattle.std.specs.Prelude.{◌≡◌, [], ◌∷◌, ◌++◌, List, true, false, IsTrue, IfOk, IfErr, OnOk, OnErr, ⊤};
-ghost use Rattle.comemo.specs.Called.{HeldReply};
+ghost use Rattle.comemo.specs.Called.{HeldReply, HeldReplyMut};
 ghost use Rattle.comemo_cache.specs.Meaning.{invocation};
 ghost use Rattle.comemo_cache.specs.Held.{Leads, Stays};
 ghost use Rattle.comemo.specs.Begin.{Reaches};
 ghost use Rattle.comemo.specs.Finish.{BrokeOff};
-ghost use Rattle.comemo.specs.FunctionMut.{Lent, lent, AgreesNow, Goes, TellsMut, TellsWrites, LawsMut, IsFailed, FailsBy};
+ghost use Rattle.comemo.specs.Function.{SettlesAs, SettlesRun};
+ghost use Rattle.comemo.specs.FunctionMut.{Lent, lent, HasBegun, NoneTouches, Goes, TellsMut, TellsWrites, LawsMut, IsFailed, FailsBy};
 ghost use Rattle.comemo_base.specs.Answers.{Agrees};
-ghost use Rattle.comemo_track.specs.Recording.{Recording, Took, Spoiled};
-ghost use Rattle.comemo_track.specs.Sending.{Asks, BreaksOff, SpoiledAfter};
+ghost use Rattle.comemo_track.specs.Recording.{Recording, Took, Spoiled, MarkedLate};
+ghost use Rattle.comemo_track.specs.Writing.{Done};
+ghost use Rattle.comemo_track.specs.Sending.{Asks, BreaksOff, SpoiledAfter, TookAs};
 
 use crate::function::{FunctionOf, Told, memoized};
 use crate::pending::{Begun, Fault, How, Reply, begin};
@@ -25,8 +27,12 @@ use std::marker::PhantomData;
 ///
 /// There is nothing to implement. This project's own.
 pub trait ToldMut: Track {
-    // while nothing is lost of the recording, the value's answers agree with it
+    // while nothing is lost of the recording, its writes led from some value to the value as it is, and while it isn't late,
+    // the answers of that value agree with its reads
     ghost agrees: { Lent Self Self.Call Self.Answer → Type 0 };
+
+    // what became of what a recorder was lent
+    ghost goes: { Lent Self Self.Call Self.Answer → Lent Self Self.Call Self.Answer → Type 0 };
 
     // the second recording is the first after it took these pairs and these writes
     ghost took: { Recording Self.Call Self.Answer → Recording Self.Call Self.Answer
@@ -34,9 +40,13 @@ pub trait ToldMut: Track {
 }
 
 impl<T: Track> ToldMut for T {
-    ghost agrees = { AgreesNow T.Answer.eq T.answers };
+    ghost agrees = { HasBegun (Done T.wrote T.Call.is_write T.Call.touches T.Answer.eq T.answers)
+        T.Answer.eq T.answers };
 
-    ghost took = { Took T.Call.eq };
+    ghost goes = { Goes (Done T.wrote T.Call.is_write T.Call.touches T.Answer.eq T.answers)
+        T.Call.touches T.Answer.eq T.answers };
+
+    ghost took = { Took T.Call.eq T.Call.touches };
 }
 
 /// A memoized function of a key and a tracked value, which it reads and writes.
@@ -75,7 +85,7 @@ pub trait FunctionMut {
         requires begins { of.now.recording.now.writes ≡ [] }
         requires agrees { ⟦<Self::Of as ToldMut>⟧.agrees (lent of.now.value of.now.recording) }
         ensures agrees { ⟦<Self::Of as ToldMut>⟧.agrees (lent of.new.value of.new.recording) }
-        ensures goes { Goes ⟦<Self::Of as Written>⟧.did
+        ensures goes { ⟦<Self::Of as ToldMut>⟧.goes
             (lent of.old.value of.old.recording) (lent of.new.value of.new.recording) }
         ensures right { IfOk result (λ output. (m : Self.Of.Call → Self.Of.Answer)
             → ⟦<Self::Of as Told>⟧.fits of.new.recording.now m
@@ -129,16 +139,16 @@ impl<'a, 'b, T: Track> RecorderMut<'a, 'b, T> {
         requires agrees { ⟦<T as ToldMut>⟧.agrees (lent self.old.value self.old.recording) }
         requires read { T.Call.is_write call ≡ false }
         ensures agrees { ⟦<T as ToldMut>⟧.agrees (lent self.new.value self.new.recording) }
-        ensures tells { TellsMut ⟦<T as Written>⟧.did ⟦<T as Told>⟧.fits
+        ensures tells { TellsMut ⟦<T as ToldMut>⟧.goes ⟦<T as Told>⟧.fits
             (lent self.old.value self.old.recording) (lent self.new.value self.new.recording) result
             (λ answer m. IsTrue (T.Answer.eq (m call) answer)) }
         ensures asks { IfOk result
             (λ answer. Asks T.Answer.eq (T.answers self.old.value.now) call answer
-            (Took T.Call.eq self.old.recording.now self.new.recording.now)) }
+            (Took T.Call.eq T.Call.touches self.old.recording.now self.new.recording.now)) }
         ensures writes { self.new.recording.now.writes ≡ self.old.recording.now.writes }
         ensures value { self.new.value ≡ self.old.value }
         ensures err { IfErr result (λ fault. (fault ≡ Fault.Memory)
-            × Took T.Call.eq self.old.recording.now self.new.recording.now [] []) }
+            × Took T.Call.eq T.Call.touches self.old.recording.now self.new.recording.now [] []) }
     {
         let mut view = self.value.track(self.alloc);
         Ok(view.ask(call, self.recording)?)
@@ -153,18 +163,17 @@ impl<'a, 'b, T: Track> RecorderMut<'a, 'b, T> {
         requires agrees { ⟦<T as ToldMut>⟧.agrees (lent self.old.value self.old.recording) }
         requires write { T.Call.is_write call ≡ true }
         ensures agrees { ⟦<T as ToldMut>⟧.agrees (lent self.new.value self.new.recording) }
-        ensures tells { TellsMut ⟦<T as Written>⟧.did ⟦<T as Told>⟧.fits
+        ensures tells { TellsMut ⟦<T as ToldMut>⟧.goes ⟦<T as Told>⟧.fits
             (lent self.old.value self.old.recording) (lent self.new.value self.new.recording) result
             (λ _ _. ⊤) }
         ensures sent { OnOk result
-            (Took T.Call.eq self.old.recording.now self.new.recording.now [] (call ∷ [])) }
+            (Took T.Call.eq T.Call.touches self.old.recording.now self.new.recording.now [] (call ∷ [])) }
         ensures did { OnOk result (⟦<T as Written>⟧.did
             self.old.value.now self.new.value.now (call ∷ [])) }
         ensures kept { OnErr result (self.new.value.now ≡ self.old.value.now) }
         ensures err { IfErr result (λ fault. (fault ≡ Fault.Memory)
-            × Took T.Call.eq self.old.recording.now self.new.recording.now [] []) }
+            × Took T.Call.eq T.Call.touches self.old.recording.now self.new.recording.now [] []) }
     {
-        self.recording.has_reads_and_writes();
         let mut view = self.value.track_mut(self.alloc);
         view.write(call, self.recording)?;
         Ok(())
@@ -183,7 +192,7 @@ impl<'a, 'b, T: Track> RecorderMut<'a, 'b, T> {
     ) -> Result<G::Out, Fault>
         requires agrees { ⟦<T as ToldMut>⟧.agrees (lent self.old.value self.old.recording) }
         ensures agrees { ⟦<T as ToldMut>⟧.agrees (lent self.new.value self.new.recording) }
-        ensures tells { TellsMut ⟦<T as Written>⟧.did ⟦<T as Told>⟧.fits
+        ensures tells { TellsMut ⟦<T as ToldMut>⟧.goes ⟦<T as Told>⟧.fits
             (lent self.old.value self.old.recording) (lent self.new.value self.new.recording) result
             (λ output m. G.def key m output []) }
         ensures writes { OnOk result
@@ -192,14 +201,15 @@ impl<'a, 'b, T: Track> RecorderMut<'a, 'b, T> {
         ensures reply { IfOk result (λ output. (reply : Reply G.Out) × (reply.output ≡ output)
             × HeldReply ⟦<G as Meant>⟧.meaning (invocation key (T.answers self.old.value.now) true)
             (H.entries cache.old) (H.entries cache.old)
-            (Took T.Call.eq self.old.recording.now self.new.recording.now)
+            (Took T.Call.eq T.Call.touches self.old.recording.now self.new.recording.now)
             reply (H.entries cache.new)) }
         ensures err { OnErr result (Stays (H.entries cache.old) (H.entries cache.new)
             × BrokeOff T.Answer.eq (T.answers self.old.value.now)
-            (BreaksOff (Took T.Call.eq) Spoiled self.old.recording.now self.new.recording.now)) }
+            (BreaksOff (Took T.Call.eq T.Call.touches) Spoiled self.old.recording.now self.new.recording.now)) }
     {
         let view = self.value.track(self.alloc);
         let reply = memoized(self.alloc, cache, needs, key, &view, self.recording, true)?;
+        self.recording.has_reads_and_writes();
         Ok(reply.output)
     }
 
@@ -216,21 +226,23 @@ impl<'a, 'b, T: Track> RecorderMut<'a, 'b, T> {
     ) -> Result<G::Out, Fault>
         requires agrees { ⟦<T as ToldMut>⟧.agrees (lent self.old.value self.old.recording) }
         ensures agrees { ⟦<T as ToldMut>⟧.agrees (lent self.new.value self.new.recording) }
-        ensures tells { TellsWrites ⟦<T as Written>⟧.did ⟦<T as Told>⟧.fits
+        ensures tells { TellsWrites ⟦<T as ToldMut>⟧.goes ⟦<T as Told>⟧.fits
             (lent self.old.value self.old.recording) (lent self.new.value self.new.recording) result
             (λ output m writes. G.def key m output writes) }
         ensures reply { IfOk result (λ output. (reply : Reply G.Out) × (reply.output ≡ output)
-            × HeldReply ⟦<G as Meant>⟧.meaning (invocation key (T.answers self.old.value.now) true)
+            × HeldReplyMut ⟦<G as Meant>⟧.meaning T.Call.touches
+            (invocation key (T.answers self.old.value.now) true)
             (H.entries cache.old) (H.entries cache.old)
-            (λ P W. Took T.Call.eq self.old.recording.now self.new.recording.now P W
+            (λ late P W. TookAs (Took T.Call.eq T.Call.touches) MarkedLate late
+            self.old.recording.now self.new.recording.now P W
             × ⟦<T as Written>⟧.did self.old.value.now self.new.value.now W)
             reply (H.entries cache.new)) }
         ensures err { OnErr result (Leads (H.entries cache.old) (H.entries cache.new) (λ es es'.
-            IsFailed ⟦<G as Meant>⟧.meaning es
+            IsFailed ⟦<G as Meant>⟧.meaning T.Call.touches es
             (invocation key (T.answers self.old.value.now) true)
             (⟦<T as Written>⟧.did self.old.value.now self.new.value.now)
-            (BreaksOff (Took T.Call.eq) Spoiled self.old.recording.now self.new.recording.now)
-            (SpoiledAfter (Took T.Call.eq) Spoiled self.old.recording.now self.new.recording.now)
+            (BreaksOff (Took T.Call.eq T.Call.touches) Spoiled self.old.recording.now self.new.recording.now)
+            (SpoiledAfter (Took T.Call.eq T.Call.touches) Spoiled self.old.recording.now self.new.recording.now)
             es')) }
     {
         let reply = memoized_mut(
@@ -292,11 +304,13 @@ pub trait FunctionMutOf<T: Track>: Memo<Call = T::Call, Answer = T::Answer> {
         requires begins { of.now.recording.now.writes ≡ [] }
         requires agrees { ⟦<T as ToldMut>⟧.agrees (lent of.now.value of.now.recording) }
         ensures agrees { ⟦<T as ToldMut>⟧.agrees (lent of.new.value of.new.recording) }
-        ensures goes { Goes ⟦<T as Written>⟧.did
+        ensures goes { ⟦<T as ToldMut>⟧.goes
             (lent of.old.value of.old.recording) (lent of.new.value of.new.recording) }
         ensures right { IfOk result (λ output. (m : T.Call → T.Answer)
             → ⟦<T as Told>⟧.fits of.new.recording.now m
             → Self.def key.now m output of.new.recording.now.writes) }
+        ensures settled { SettlesRun Self.Key.eq T.Call.eq T.Answer.eq Self.naming key.now
+            of.old.recording.now of.new.recording.now result }
         ensures fault { IfErr result
             (λ fault. fault ≡ Fault.Incomplete → of.new.recording.now.whole ≡ false) };
 }
@@ -322,12 +336,16 @@ fn run_recorded<M: FunctionMutOf<T>, T: Track>(
 ) -> (Result<M::Out, Fault>, Constraint<T::Call, T::Answer>)
     ensures right { IfOk result.0 (λ output. (m : T.Call → T.Answer)
         → ⟦<T as Told>⟧.fits result.1 m → M.def key.now m output result.1.writes) }
+    ensures settled { SettlesAs M.Key.eq T.Call.eq T.Answer.eq M.naming key.now
+        result.1 result.0 }
     ensures fault { IfErr result.0
         (λ fault. fault ≡ Fault.Incomplete → result.1.whole ≡ false) }
     ensures done { result.1.whole ≡ true
         → ⟦<T as Written>⟧.did of.old of.new result.1.writes }
-    ensures agrees { result.1.whole ≡ true
+    ensures agrees { result.1.whole ≡ true → result.1.late ≡ false
         → Agrees T.Answer.eq (T.answers of.old) result.1.pairs }
+    ensures early { NoneTouches T.Call.touches → result.1.whole ≡ true
+        → result.1.late ≡ false }
     ensures reached { Reaches ⟦<T as Written>⟧.did of.old of.new }
 {
     let mut recording = Constraint::new(alloc);
@@ -337,7 +355,6 @@ fn run_recorded<M: FunctionMutOf<T>, T: Track>(
         recording: &mut recording,
     };
     let ran = M::run(key, &mut recorder, needs);
-    recording.has_reads_and_writes();
     (ran, recording)
 }
 
@@ -369,13 +386,15 @@ pub fn memoized_mut<
     sink: &mut S,
     enabled: bool,
 ) -> Result<Reply<M::Out>, Fault>
-    ensures right { IfOk result (λ reply. (writes : List T.Call)
-        × M.def key (T.answers of.old) reply.output writes
+    ensures right { IfOk result (λ reply. (reply.how ≡ How.Late → ⊥)
+        → (writes : List T.Call) × M.def key (T.answers of.old) reply.output writes
         × ⟦<T as Written>⟧.did of.old of.new writes) }
-    ensures reply { IfOk result (λ reply. HeldReply ⟦<M as Meant>⟧.meaning
+    ensures reply { IfOk result (λ reply. HeldReplyMut ⟦<M as Meant>⟧.meaning T.Call.touches
         (invocation key (T.answers of.old) enabled) (H.entries cache.old) (H.entries cache.old)
-        (λ P W. S.took sink.old sink.new P W × ⟦<T as Written>⟧.did of.old of.new W)
+        (λ late P W. ⟦<S as Breaking>⟧.took_as late sink.old sink.new P W
+        × ⟦<T as Written>⟧.did of.old of.new W)
         reply (H.entries cache.new)) }
+    ensures early { IfOk result (λ reply. NoneTouches T.Call.touches → reply.how ≡ How.Late → ⊥) }
     ensures reached { Reaches ⟦<T as Written>⟧.did of.old of.new }
     ensures fault { IfErr result (λ fault.
         Leads (H.entries cache.old) (H.entries cache.new) (λ es es'.
@@ -385,7 +404,7 @@ pub fn memoized_mut<
         (S.spoils sink.old sink.new)
         (⟦<S as Breaking>⟧.spoiled_after sink.old sink.new) fault es')) }
     ensures err { OnErr result (Leads (H.entries cache.old) (H.entries cache.new) (λ es es'.
-        IsFailed ⟦<M as Meant>⟧.meaning es
+        IsFailed ⟦<M as Meant>⟧.meaning T.Call.touches es
         (invocation key (T.answers of.old) enabled)
         (⟦<T as Written>⟧.did of.old of.new)
         (⟦<S as Breaking>⟧.breaks_off sink.old sink.new)

@@ -3,7 +3,7 @@
 ghost use Rattle.std.specs.Prelude.{◌≡◌, ◌≤◌, [], ◌∷◌, ◌++◌, ◌↔◌, List, Bool, true, false, length, IsTrue, IfOk, IfErr, OnOk, OnErr, Ok, Err, ⊤};
 ghost use Rattle.std.specs.List.{All};
 ghost use Rattle.comemo_base.specs.Tree.{IsSamePath};
-ghost use Rattle.comemo_cache.specs.Meaning.{Invocation, SameWrites, exactly, invocation, run};
+ghost use Rattle.comemo_cache.specs.Meaning.{Invocation, SameWrites, IsNamedRun, exactly, invocation, run};
 ghost use Rattle.comemo_cache.specs.Cache.{Stands, Touches};
 ghost use Rattle.comemo_cache.specs.Found.{TouchesFound};
 ghost use Rattle.comemo_tree.specs.Change.{HasAnswers};
@@ -63,6 +63,8 @@ pub enum How {
     NotStored,
     /// It was not to be stored.
     Disabled,
+    /// It was not, since its run was late: it read what a write of its own touches. Of its output nothing is promised.
+    Late,
 }
 
 /// The answer of a memoized function: its output, and what became of the call.
@@ -135,7 +137,9 @@ impl<M: Memo> Pending<M> {
 
     /// Ends the run with its output: gives its recording to the sink, and stores it.
     ///
-    /// Output and recorded writes have to be right for all answers that agree with the recorded pairs. A run that was begun with
+    /// Output and recorded writes have to be right for all answers that agree with the recorded pairs, which are, where the
+    /// function names the calls that it asks, causal and complete; but nothing is asked of a late recording: such a run isn't
+    /// stored, and the sink is late then too. A run that was begun with
     /// `enabled` false isn't stored; nor is one for whose clones there is no memory. `Incomplete` comes exactly where
     /// the recording is spoiled, and `Memory` where the sink found no memory: then the cache is as it was, and the sink
     /// is spoiled, after it took perhaps a beginning of the recorded pairs.
@@ -149,12 +153,14 @@ impl<M: Memo> Pending<M> {
         sink: &mut S,
         output: M::Out,
     ) -> Result<Reply<M::Out>, Fault>
-        requires { self.recording.whole ≡ true
+        requires stands { self.recording.whole ≡ true → self.recording.late ≡ false
             → Stands ⟦<M as Meant>⟧.meaning (came_to self output) }
+        requires settled { self.recording.whole ≡ true → self.recording.late ≡ false
+            → IsNamedRun ⟦<M as Meant>⟧.meaning self.key self.recording.pairs }
         ensures finished { IfOk result (λ reply.
             Leads (H.entries cache.old) (H.entries cache.new) (λ es es'.
             Finished ⟦<M as Meant>⟧.meaning es self
-            (S.took sink.old sink.new) output reply es')) }
+            (⟦<S as Breaking>⟧.took_as self.recording.late sink.old sink.new) output reply es')) }
         ensures incomplete { (result ≡ Err Fault.Incomplete) ↔ (self.recording.whole ≡ false) }
         ensures fault { IfErr result (λ fault. fault ≡ Fault.Write → ⊥) }
         ensures spoils { self.recording.whole ≡ false → S.spoils sink.old sink.new }
@@ -171,6 +177,14 @@ impl<M: Memo> Pending<M> {
         if !recording.is_whole() {
             sink.spoil();
             return Err(Fault::Incomplete);
+        }
+        if recording.is_late() {
+            drop(key);
+            give_late(recording, sink)?;
+            return Ok(Reply {
+                output,
+                how: How::Late,
+            });
         }
         let (reads, writes) = recording.into_parts();
         let how = if enabled {
@@ -191,12 +205,16 @@ impl<M: Memo> Pending<M> {
         sink: &mut S,
         ran: Result<M::Out, Fault>,
     ) -> Result<Reply<M::Out>, Fault>
-        requires { (output : M.Out) → ran ≡ Ok output → self.recording.whole ≡ true
+        requires stands { (output : M.Out) → ran ≡ Ok output
+            → self.recording.whole ≡ true → self.recording.late ≡ false
             → Stands ⟦<M as Meant>⟧.meaning (came_to self output) }
+        requires settled { (output : M.Out) → ran ≡ Ok output
+            → self.recording.whole ≡ true → self.recording.late ≡ false
+            → IsNamedRun ⟦<M as Meant>⟧.meaning self.key self.recording.pairs }
         ensures finished { IfOk result (λ reply. (output : M.Out) × (ran ≡ Ok output)
             × Leads (H.entries cache.old) (H.entries cache.new) (λ es es'.
             Finished ⟦<M as Meant>⟧.meaning es self
-            (S.took sink.old sink.new) output reply es')) }
+            (⟦<S as Breaking>⟧.took_as self.recording.late sink.old sink.new) output reply es')) }
         ensures incomplete { IfOk ran
             (λ _. (result ≡ Err Fault.Incomplete) ↔ (self.recording.whole ≡ false)) }
         ensures write { IfOk ran (λ _. IfErr result (λ fault. fault ≡ Fault.Write → ⊥)) }
@@ -367,6 +385,22 @@ fn give_reads<S: Sink>(
     Ok(())
 }
 
+/// Gives a late recording's reads and then its writes to a sink, and marks that late.
+fn give_late<S: Sink>(
+    recording: Constraint<S::Call, S::Answer>,
+    sink: &mut S,
+) -> Result<(), Fault>
+    ensures ok { OnOk result (⟦<S as Breaking>⟧.took_as true
+        sink.old sink.new recording.pairs recording.writes) }
+    ensures fault { IfErr result (λ fault. fault ≡ Fault.Memory) }
+    ensures err { OnErr result (⟦<S as Breaking>⟧.breaks_off sink.old sink.new recording.pairs) }
+{
+    let (reads, writes) = recording.into_parts();
+    give_recording(reads, writes, sink)?;
+    sink.late();
+    Ok(())
+}
+
 /// Keeps a run in a cache, and says what became of it.
 fn keep<M: Memo, H: Hold<M>>(
     cache: &mut H,
@@ -378,10 +412,12 @@ fn keep<M: Memo, H: Hold<M>>(
     requires reads { All (λ p. M.Call.is_write p.0 ≡ false) reads.pairs }
     requires written { All (λ c. M.Call.is_write c ≡ true) writes.items }
     requires stands { Stands ⟦<M as Meant>⟧.meaning (run key reads.pairs output writes.items) }
+    requires settled { IsNamedRun ⟦<M as Meant>⟧.meaning key reads.pairs }
     ensures ends { Leads (H.entries cache.old) (H.entries cache.new) (λ es es'.
         Ends (exactly ⟦<M as Meant>⟧.meaning) es
         (run key reads.pairs output writes.items) result es') }
     ensures enabled { result ≡ How.Disabled → ⊥ }
+    ensures early { result ≡ How.Late → ⊥ }
 {
     match cache.store(key, reads, output, writes) {
         Ok(()) => How::Stored,
@@ -403,10 +439,12 @@ fn keep_copy<M: Memo, H: Hold<M>>(
     requires written { All (λ c. M.Call.is_write c ≡ true) writes.items }
     requires stands { Stands ⟦<M as Meant>⟧.meaning
         (run key reads.pairs output.now writes.items) }
+    requires settled { IsNamedRun ⟦<M as Meant>⟧.meaning key reads.pairs }
     ensures ends { Leads (H.entries cache.old) (H.entries cache.new) (λ es es'.
         Ends ⟦<M as Meant>⟧.meaning es
         (run key reads.pairs output.now writes.items) result es') }
     ensures enabled { result ≡ How.Disabled → ⊥ }
+    ensures early { result ≡ How.Late → ⊥ }
 {
     let Ok(kept) = output.clone() else {
         return How::NotStored;
@@ -430,11 +468,13 @@ fn end_run<M: Memo, H: Hold<M>, S: Sink<Call = M::Call, Answer = M::Answer>>(
     requires written { All (λ c. M.Call.is_write c ≡ true) writes.items }
     requires stands { Stands ⟦<M as Meant>⟧.meaning
         (run key reads.pairs output.now writes.items) }
+    requires settled { IsNamedRun ⟦<M as Meant>⟧.meaning key reads.pairs }
     ensures ends { IfOk result (λ how.
         Leads (H.entries cache.old) (H.entries cache.new) (λ es es'.
         Ends ⟦<M as Meant>⟧.meaning es
         (run key reads.pairs output.now writes.items) how es')) }
     ensures enabled { IfOk result (λ how. how ≡ How.Disabled → ⊥) }
+    ensures early { IfOk result (λ how. how ≡ How.Late → ⊥) }
     ensures gives { OnOk result
         (Gives ⟦<M as Meant>⟧.meaning (S.took sink.old sink.new) reads.pairs writes.items) }
     ensures fault { IfErr result (λ fault. fault ≡ Fault.Memory) }

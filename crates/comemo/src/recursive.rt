@@ -1,8 +1,8 @@
 //! Memoized functions that call themselves: a call by hand, for a recorder.
-ghost use Rattle.std.specs.Prelude.{◌≡◌, ◌↔◌, [], true, List, IsTrue, refl, IfOk, IfErr, OnErr, ⊤};
+ghost use Rattle.std.specs.Prelude.{◌≡◌, ◌↔◌, [], true, false, List, IsTrue, refl, IfOk, IfErr, OnErr, ⊤};
 ghost use Rattle.std.proofs.Common.{◌∙◌, ap};
 ghost use Rattle.comemo.specs.Called.{HeldReply};
-ghost use Rattle.comemo_cache.specs.Meaning.{reading, invocation, run};
+ghost use Rattle.comemo_cache.specs.Meaning.{IsNamedRun, reading, invocation, run};
 ghost use Rattle.comemo.specs.MeaningLaws.{none_alike};
 ghost use Rattle.comemo_cache.specs.Held.{Held, Leads, Stays};
 ghost use Rattle.comemo.specs.Function.{Laws};
@@ -137,7 +137,7 @@ impl<'a, 'b, K: Clone + Eq + Hash, T: Track> Input for LentKey<'a, 'b, K, T> {
 
     ghost joins = { λ s t u V W a b. (b.0 ∙ a.0, b.1 ∙ a.1) };
 
-    ghost keeps = { λ s t W a call reads. equal_if_one T.Answer.Eq.laws _ _
+    ghost keeps = { λ s t W a call reads un. equal_if_one T.Answer.Eq.laws _ _
         (ap (λ view. T.answers view call) a.1) };
 
     ghost keeps_key = { λ s t W a. equal_if_one K.Eq.laws _ _ a.0 };
@@ -226,11 +226,13 @@ impl<'a, T: Track> Recorder<'a, T> {
         requires whole { inner.recorder.recording.whole ≡ true }
         requires right { (m : T.Call → T.Answer)
             → ⟦<T as Told>⟧.fits inner.recorder.recording m → G.means key.now m output }
+        requires settled { IsNamedRun ⟦<G as Meant>⟧.meaning key.now
+            inner.recorder.recording.pairs }
         ensures tells { TellsOwn ⟦<T as Told>⟧.fits self.old self.new result
             (λ out m. G.means key.now m out) }
         ensures finished { IfOk result (λ out. (out ≡ output)
             × Leads (H.entries cache.old) (H.entries cache.new) (λ es es'.
-            FinishedAs ⟦<G as Meant>⟧.meaning es (⟦<T as Told>⟧.took self.old self.new)
+            FinishedAs ⟦<G as Meant>⟧.meaning es false (⟦<T as Told>⟧.took self.old self.new)
             (run inner.entry.own inner.entry.recorder.recording.pairs output []) es')) }
         ensures err { IfErr result (λ fault. (fault ≡ Fault.Memory)
             × Stays (H.entries cache.old) (H.entries cache.new)

@@ -7,11 +7,11 @@ ghost use Rattle.comemo.specs.Finish.{BreaksOffRun, BrokeOff};
 ghost use Rattle.comemo.specs.FunctionMut.{Lent, LawsMut, TellsWrites, WasStopped, lent};
 ghost use Rattle.comemo.specs.Recursive.{OnStarted, FinishedAs};
 ghost use Rattle.comemo.specs.RecursiveMut.{IsEmpty, Within, StartsMut};
-ghost use Rattle.comemo_cache.specs.Meaning.{invocation, run};
+ghost use Rattle.comemo_cache.specs.Meaning.{IsNamedRun, invocation, run};
 ghost use Rattle.comemo_cache.specs.Held.{Held, Leads, Stays};
 ghost use Rattle.comemo_track.specs.InputLaws.{equal_if_one};
-ghost use Rattle.comemo_track.specs.Recording.{Took, Spoiled};
-ghost use Rattle.comemo_track.specs.Sending.{BreaksOff, SpoiledAfter};
+ghost use Rattle.comemo_track.specs.Recording.{Took, Spoiled, MarkedLate};
+ghost use Rattle.comemo_track.specs.Sending.{BreaksOff, SpoiledAfter, TookAs};
 ghost use Rattle.comemo_track.specs.WritingLaws.{done_both, done_keeps};
 
 use crate::function::Told;
@@ -116,13 +116,13 @@ impl<'a, 'b, K: Clone + Eq + Hash, T: Track> Input for LentKeyMut<'a, 'b, K, T> 
     ghost starts = { λ s. (refl, refl, refl) };
 
     ghost joins = { λ s t u V W a b. (
-      done_both T.wrote T.Call.is_write T.Answer.eq T.answers
+      done_both T.wrote T.Call.is_write T.Call.touches T.Answer.eq T.answers
           s.value.now t.value.now u.value.now V W a.0 b.0,
       b.1 ∙ a.1,
       b.2 ∙ a.2,
     ) };
 
-    ghost keeps = { λ s t W a. done_keeps T.wrote T.Call.is_write T.Answer.eq T.answers
+    ghost keeps = { λ s t W a. done_keeps T.wrote T.Call.is_write T.Call.touches T.Answer.eq T.answers
         T.Answer.Eq.laws s.value.now t.value.now W a.0 };
 
     ghost keeps_key = { λ s t W a. equal_if_one K.Eq.laws _ _ a.2 };
@@ -157,10 +157,10 @@ impl<'a, 'b, T: Track> RecorderMut<'a, 'b, T> {
         requires agrees { ⟦<T as ToldMut>⟧.agrees (lent self.old.value self.old.recording) }
         ensures agrees { ⟦<T as ToldMut>⟧.agrees (lent self.new.value self.new.recording) }
         ensures tells { OnStarted result (λ reply.
-            TellsWrites ⟦<T as Written>⟧.did ⟦<T as Told>⟧.fits
+            TellsWrites ⟦<T as ToldMut>⟧.goes ⟦<T as Told>⟧.fits
             (lent self.old.value self.old.recording) (lent self.new.value self.new.recording) reply
             (λ output m writes. G.def key.now m output writes))
-            (λ inner. Within ⟦<T as Written>⟧.did ⟦<T as ToldMut>⟧.agrees
+            (λ inner. Within ⟦<T as Written>⟧.did T.Call.touches T.Answer.eq T.answers
             (lent self.old.value self.old.recording) (lent self.new.value self.new.recording)
             inner.around) }
         ensures hit { OnStarted result (λ told. IfOk told (λ output.
@@ -168,7 +168,7 @@ impl<'a, 'b, T: Track> RecorderMut<'a, 'b, T> {
             × HeldReply ⟦<G as Meant>⟧.meaning
             (invocation key.now (T.answers self.old.value.now) true)
             (H.entries cache.old) (H.entries cache.old)
-            (λ P W. Took T.Call.eq self.old.recording.now self.new.recording.now P W
+            (λ P W. Took T.Call.eq T.Call.touches self.old.recording.now self.new.recording.now P W
             × ⟦<T as Written>⟧.did self.old.value.now self.new.value.now W)
             reply (H.entries cache.new))) (λ _. ⊤) }
         ensures begins { OnStarted result (λ _. ⊤) (λ _. IsEmpty self.new.recording.now) }
@@ -181,12 +181,12 @@ impl<'a, 'b, T: Track> RecorderMut<'a, 'b, T> {
             ((self.new.value ≡ self.old.value)
             × Stays (H.entries cache.old) (H.entries cache.new)
             × BrokeOff T.Answer.eq (T.answers self.old.value.now)
-            (BreaksOff (Took T.Call.eq) Spoiled self.old.recording.now self.new.recording.now))
+            (BreaksOff (Took T.Call.eq T.Call.touches) Spoiled self.old.recording.now self.new.recording.now))
             (Leads (H.entries cache.old) (H.entries cache.new) (λ es es'.
             WasStopped ⟦<G as Meant>⟧.meaning es
             (invocation key.now (T.answers self.old.value.now) true)
             (⟦<T as Written>⟧.did self.old.value.now self.new.value.now)
-            (SpoiledAfter (Took T.Call.eq) Spoiled self.old.recording.now self.new.recording.now)
+            (SpoiledAfter (Took T.Call.eq T.Call.touches) Spoiled self.old.recording.now self.new.recording.now)
             es'))) }
     {
         let alloc = self.alloc;
@@ -232,20 +232,24 @@ impl<'a, 'b, T: Track> RecorderMut<'a, 'b, T> {
         requires right { IfOk ran (λ output. (m : T.Call → T.Answer)
             → ⟦<T as Told>⟧.fits self.old.recording.now m
             → G.def key.now m output self.old.recording.now.writes) }
+        requires settled { IfOk ran (λ _. self.old.recording.now.whole ≡ true
+            → self.old.recording.now.late ≡ false
+            → IsNamedRun ⟦<G as Meant>⟧.meaning key.now self.old.recording.now.pairs) }
         ensures agrees { (s : Lent T T.Call T.Answer)
-            → Within ⟦<T as Written>⟧.did ⟦<T as ToldMut>⟧.agrees
+            → Within ⟦<T as Written>⟧.did T.Call.touches T.Answer.eq T.answers
             s (lent self.old.value self.old.recording) inner.around
             → ⟦<T as ToldMut>⟧.agrees (lent self.new.value self.new.recording) }
         ensures tells { (s : Lent T T.Call T.Answer)
-            → Within ⟦<T as Written>⟧.did ⟦<T as ToldMut>⟧.agrees
+            → Within ⟦<T as Written>⟧.did T.Call.touches T.Answer.eq T.answers
             s (lent self.old.value self.old.recording) inner.around
-            → TellsWrites ⟦<T as Written>⟧.did ⟦<T as Told>⟧.fits
+            → TellsWrites ⟦<T as ToldMut>⟧.goes ⟦<T as Told>⟧.fits
             s (lent self.new.value self.new.recording) result
             (λ output m writes. G.def key.now m output writes) }
         ensures finished { IfOk result (λ output. (ran ≡ Ok output)
             × Leads (H.entries cache.old) (H.entries cache.new) (λ es es'.
-            FinishedAs ⟦<G as Meant>⟧.meaning es
-            (Took T.Call.eq inner.around self.new.recording.now)
+            FinishedAs ⟦<G as Meant>⟧.meaning es self.old.recording.now.late
+            (TookAs (Took T.Call.eq T.Call.touches) MarkedLate self.old.recording.now.late
+            inner.around self.new.recording.now)
             (run inner.own self.old.recording.now.pairs output self.old.recording.now.writes) es')) }
         ensures value { self.new.value ≡ self.old.value }
         ensures incomplete { IfOk ran
@@ -254,7 +258,7 @@ impl<'a, 'b, T: Track> RecorderMut<'a, 'b, T> {
         ensures fault { IfErr ran (λ fault. result ≡ Err fault) }
         ensures err { OnErr result (Stays (H.entries cache.old) (H.entries cache.new)
             × BreaksOffRun ⟦<G as Meant>⟧.meaning
-            (BreaksOff (Took T.Call.eq) Spoiled inner.around self.new.recording.now)
+            (BreaksOff (Took T.Call.eq T.Call.touches) Spoiled inner.around self.new.recording.now)
             self.old.recording.now.pairs) }
     {
         let InnerMut { own, around } = inner;

@@ -56,7 +56,7 @@ module _ {K C R O : Type 0} where
 module _ {K C R O : Type 0} (M : Meaning K C R O) where
   -- an entry that is legal is so at every age
   at_age : (e : Stored K C R (Kept O C)) (n : ℕ) → IsLegal M e → IsLegal M (record e { value = record e.value { age = n } })
-  at_age e n legal = record { stands = legal.stands; reads = legal.reads; written = legal.written }
+  at_age e n legal = record { stands = legal.stands; reads = legal.reads; written = legal.written; settled = legal.settled }
 
   pub legal_touched : (key : K) (answers : List R) (es es' : Entries K C R O) → TouchesAt M.same_answer M.same_key key answers es es' → All (IsLegal M) es → All (IsLegal M) es'
   legal_touched key answers es es' (inl c) legal =

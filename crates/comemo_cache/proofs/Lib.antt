@@ -7,3 +7,4 @@ pub mod Holding
 pub mod Touching
 pub mod Aging
 pub mod Stepping
+pub mod Named

@@ -9,7 +9,7 @@ use Rattle.std.specs.Cmp.{IsEquivalence}
 use Rattle.comemo_base.specs.Answers.{Respects, Agrees}
 use Rattle.comemo_base.specs.Sequence.{HasDistinctCalls}
 use Rattle.comemo_base.specs.Tree.{Stored, stored}
-use Rattle.comemo_cache.specs.Meaning.{Meaning, run, exactly}
+use Rattle.comemo_cache.specs.Meaning.{Meaning, run, exactly, IsNamedRun}
 use Rattle.comemo_cache.specs.Storing.{Stores}
 use Rattle.comemo_base.specs.Lookup.{under}
 use Rattle.comemo_base.specs.Insertion.{Has, AllAmong, Exists, Misses, IsNewPath, Adds, outside}
@@ -98,11 +98,12 @@ module _ {C R : Type 0} {eq : C → C → Bool} {same : R → R → Bool} (calls
       rw n.2 (All-append (λ p. w p.0 ≡ false) n.0 (outside eq n.0 s) front (All-filter (λ p. not (is_some (lookup (eq p.0) n.0))) (λ p. w p.0 ≡ false) s reads))
 
 -- the entry that is stored is legal, at each key at which the output is right wherever it is so at the run's
-pub IsLegal-stored : {K C R O : Type 0} (M : Meaning K C R O) (calls : IsEquivalence M.same_call) (answers : IsEquivalence M.same_answer) (us : Entries K C R O) (key own : K) (s path : List (C × R)) (output : O) (writes : List C) → ((x y : C) → IsTrue (M.same_call x y) → M.is_write x ≡ M.is_write y) → ((m : C → R) → Respects M.same_call M.same_answer m → M.def key m output writes → M.def own m output writes) → HasDistinctCalls M.same_call s → All (λ p. M.is_write p.0 ≡ false) s → All (λ c. M.is_write c ≡ true) writes → Stands M (run key s output writes) → IsNewPath M.same_call M.same_answer us s path → IsLegal M (stored own path (record { output = output; writes = writes; age = 0 }))
-IsLegal-stored M calls answers us key own s path output writes kind right d reads written stands n = record {
+pub IsLegal-stored : {K C R O : Type 0} (M : Meaning K C R O) (calls : IsEquivalence M.same_call) (answers : IsEquivalence M.same_answer) (us : Entries K C R O) (key own : K) (s path : List (C × R)) (output : O) (writes : List C) → ((x y : C) → IsTrue (M.same_call x y) → M.is_write x ≡ M.is_write y) → ((m : C → R) → Respects M.same_call M.same_answer m → M.def key m output writes → M.def own m output writes) → HasDistinctCalls M.same_call s → All (λ p. M.is_write p.0 ≡ false) s → All (λ c. M.is_write c ≡ true) writes → Stands M (run key s output writes) → IsNewPath M.same_call M.same_answer us s path → IsNamedRun M own path → IsLegal M (stored own path (record { output = output; writes = writes; age = 0 }))
+IsLegal-stored M calls answers us key own s path output writes kind right d reads written stands n settled = record {
   stands = λ m r a. right m r (stands m r (agrees_new_path calls answers us s path d n m r a));
   reads = reads_new_path calls answers us s path M.is_write kind reads n;
   written = written;
+  settled = settled;
 }
 
 -- what follows from either outcome

@@ -15,17 +15,17 @@ pub record TookFront {S C R : Type 0} (took : S → S → List (C × R) → List
   pub parts : all ≡ front ++ left
   pub taken : took s t front []
 
-module _ {S C R : Type 0} {took : S → S → List (C × R) → List C → Type 0} (joins : (s t u : S) (P Q : List (C × R)) (V W : List C) → took s t P V → took t u Q W → took s u (P ++ Q) (V ++ W)) where
+module _ {S C R : Type 0} {took : S → S → List (C × R) → List C → Type 0} (joins : (s t u : S) (P Q : List (C × R)) (W : List C) → took s t P [] → took t u Q W → took s u (P ++ Q) W) where
   pub takes_more : (s t u : S) (all old new : List (C × R)) (p : C × R) → old ≡ p ∷ new → took t u (p ∷ []) [] → TookFront took s t all old → TookFront took s u all new
   takes_more s t u all old new p e sent so_far = record {
     front = so_far.front ++ p ∷ [];
     parts = so_far.parts ∙ ap (λ ps. so_far.front ++ ps) e ∙ sym (append_assoc so_far.front (p ∷ []) new);
-    taken = joins s t u so_far.front (p ∷ []) [] [] so_far.taken sent;
+    taken = joins s t u so_far.front (p ∷ []) [] so_far.taken sent;
   }
 
   -- once the sink takes those that are left, it has taken all
   pub rest_of : (s t : S) (all left : List (C × R)) → TookFront took s t all left → (u : S) → took t u left [] → took s u all []
-  rest_of s t all left so_far u k = subst (λ ps. took s u ps []) (sym so_far.parts) (joins s t u so_far.front left [] [] so_far.taken k)
+  rest_of s t all left so_far u k = subst (λ ps. took s u ps []) (sym so_far.parts) (joins s t u so_far.front left [] so_far.taken k)
 
   pub breaks : {spoils : S → S → Type 0} (s t u v : S) (all left : List (C × R)) → TookFront took s t all left → took t u [] [] → spoils u v → BreaksOff took spoils s v all
   breaks s t u v all left so_far refused spoiled = record {
@@ -33,7 +33,7 @@ module _ {S C R : Type 0} {took : S → S → List (C × R) → List C → Type 
     rest = left;
     parts = so_far.parts;
     mid = u;
-    taken = subst (λ ps. took s u ps []) (append-nil so_far.front) (joins s t u so_far.front [] [] [] so_far.taken refused);
+    taken = subst (λ ps. took s u ps []) (append-nil so_far.front) (joins s t u so_far.front [] [] so_far.taken refused);
     spoiled = spoiled;
   }
 

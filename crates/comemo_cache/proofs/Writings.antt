@@ -59,17 +59,17 @@ module _ {S C R : Type 0} {took : S → S → List (C × R) → List C → Type 
   pub all_written : (s t : S) (all left : List C) → left ≡ [] → TookWrites took s t all left → took s t [] all
   all_written s t all left none so = subst (λ ws. took s t [] ws) (sym (so.parts ∙ ap (λ ws. so.front ++ ws) none ∙ append-nil so.front)) so.taken
 
-  module _ (joins : (s t u : S) (P Q : List (C × R)) (V W : List C) → took s t P V → took t u Q W → took s u (P ++ Q) (V ++ W)) where
-    pub writes_more : (s t u : S) (all old new : List C) (c : C) → old ≡ c ∷ new → took t u [] (c ∷ []) → TookWrites took s t all old → TookWrites took s u all new
-    writes_more s t u all old new c e sent so = record {
-      front = so.front ++ c ∷ [];
-      parts = so.parts ∙ ap (λ ws. so.front ++ ws) e ∙ sym (append_assoc so.front (c ∷ []) new);
-      taken = joins s t u [] [] so.front (c ∷ []) so.taken sent;
-    }
+  pub writes_more : ((s t u : S) (P : List (C × R)) (V W : List C) → took s t P V → took t u [] W → took s u P (V ++ W)) → (s t u : S) (all old new : List C) (c : C) → old ≡ c ∷ new → took t u [] (c ∷ []) → TookWrites took s t all old → TookWrites took s u all new
+  writes_more adds s t u all old new c e sent so = record {
+    front = so.front ++ c ∷ [];
+    parts = so.parts ∙ ap (λ ws. so.front ++ ws) e ∙ sym (append_assoc so.front (c ∷ []) new);
+    taken = adds s t u [] so.front (c ∷ []) so.taken sent;
+  }
 
+  module _ (joins : (s t u : S) (P Q : List (C × R)) (W : List C) → took s t P [] → took t u Q W → took s u (P ++ Q) W) where
     -- pairs and then writes
     pub took_run : (s t u : S) (P : List (C × R)) (W : List C) → took s t P [] → took t u [] W → took s u P W
-    took_run s t u P W a b = subst (λ ps. took s u ps W) (append-nil P) (joins s t u P [] [] W a b)
+    took_run s t u P W a b = subst (λ ps. took s u ps W) (append-nil P) (joins s t u P [] W a b)
 
     -- a sink that took all pairs and then was spoiled
     pub broke_after : {spoils : S → S → Type 0} (s t u : S) (P : List (C × R)) → took s t P [] → SpoiledAfter took spoils t u [] [] → BreaksOff took spoils s u P
@@ -103,12 +103,12 @@ module _ {I S C R : Type 0} {did : I → I → List C → Type 0} {took : S → 
       (subst (λ ws. did i j ws) e so.done, subst (λ ws. took s t [] ws) e so.taken)
 
   module _ (does : (i j k : I) (V W : List C) → did i j V → did j k W → did i k (V ++ W)) where
-    pub done_more : ((s t u : S) (P Q : List (C × R)) (V W : List C) → took s t P V → took t u Q W → took s u (P ++ Q) (V ++ W)) → (i j k : I) (s t u : S) (all old new : List C) (c : C) → old ≡ c ∷ new → did j k (c ∷ []) → took t u [] (c ∷ []) → DidWrites did took i j s t all old → DidWrites did took i k s u all new
-    done_more joins i j k s t u all old new c e did_one sent so = record {
+    pub done_more : ((s t u : S) (P : List (C × R)) (V W : List C) → took s t P V → took t u [] W → took s u P (V ++ W)) → (i j k : I) (s t u : S) (all old new : List C) (c : C) → old ≡ c ∷ new → did j k (c ∷ []) → took t u [] (c ∷ []) → DidWrites did took i j s t all old → DidWrites did took i k s u all new
+    done_more adds i j k s t u all old new c e did_one sent so = record {
       front = so.front ++ c ∷ [];
       parts = so.parts ∙ ap (λ ws. so.front ++ ws) e ∙ sym (append_assoc so.front (c ∷ []) new);
       done = does i j k so.front (c ∷ []) so.done did_one;
-      taken = joins s t u [] [] so.front (c ∷ []) so.taken sent;
+      taken = adds s t u [] so.front (c ∷ []) so.taken sent;
     }
 
     -- it stopped at a write that was refused

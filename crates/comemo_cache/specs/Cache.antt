@@ -7,7 +7,7 @@ use Rattle.comemo_base.specs.Answers.{Respects, Agrees}
 use Rattle.comemo_base.specs.Tree.{Stored, IsSamePath}
 use Rattle.comemo_base.specs.Lookup.{under, IsAsked, IsRefused}
 use Rattle.comemo_tree.specs.Change.{HasAnswers, Changes}
-use Rattle.comemo_cache.specs.Meaning.{Meaning, Invocation, Run, run, SameWrites}
+use Rattle.comemo_cache.specs.Meaning.{Meaning, Invocation, Run, run, SameWrites, IsNamedRun}
 
 -- the output of a run, the writes that it did, and how many evictions it outlived since it was stored or last hit
 pub record Kept (O C : Type 0) : Type 0 where
@@ -57,11 +57,13 @@ module _ {K C R O : Type 0} (M : Meaning K C R O) where
   abbrev pub Stands : Run K C R O → Type 0
   Stands ran = (m : C → R) → Respects M.same_call M.same_answer m → Agrees M.same_answer m ran.pairs → M.def ran.key m ran.output ran.writes
 
-  -- what an entry keeps stands, its path has reads alone, and its writes are writes
+  -- what an entry keeps stands, its path has reads alone, and its writes are writes; and where the asked calls are named, its path
+  -- is whole
   pub record IsLegal (e : Stored K C R (Kept O C)) : Type 0 where
     pub stands : Stands (run e.key e.path e.value.output e.value.writes)
     pub reads : All (λ p. M.is_write p.0 ≡ false) e.path
     pub written : All (λ c. M.is_write c ≡ true) e.value.writes
+    pub settled : IsNamedRun M e.key e.path
 
   -- the entry agrees with the answers, and its path, its output and its writes are those of this run, up to clones
   abbrev pub IsEntryOf : (C → R) → Run K C R O → Stored K C R (Kept O C) → Type 0

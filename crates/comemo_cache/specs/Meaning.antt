@@ -1,9 +1,27 @@
 -- What a memoized function means, and how it is called, each as one value.
 use Rattle.std.specs.Prelude.{◌≡◌, Bool, List, [], IsTrue}
 use Rattle.std.specs.List.{AllZip}
+use Rattle.comemo_settled.specs.Runs.{IsRun}
 
--- when two calls, two answers and two keys are equal, which calls are writes, and when an output is a clone of another; and
--- which outputs and writes are right at a key and at answers
+-- which calls a memoized function asks under a key and given answers: it names none, or these
+pub data Naming (K C R : Type 0) : Type 1 where
+  unnamed : Naming K C R
+  names : (K → (C → R) → C → Type 0) → Naming K C R
+
+-- an equal call is asked under an equal key
+abbrev pub AsksAlike : {K C R : Type 0} → (K → K → Bool) → (C → C → Bool) → (K → (C → R) → C → Type 0) → K → (C → R) → C → Type 0
+AsksAlike {K} {C} eqk eq asks key m call = (k : K) × (c : C) × IsTrue (eqk k key) × IsTrue (eq c call) × asks k m c
+
+abbrev pub Names : {K C R : Type 0} → Naming K C R → Type 0
+Names unnamed = ⊥
+Names (names asks) = Unit {0}
+
+abbrev pub IsRunOf : {K C R : Type 0} → (K → K → Bool) → (C → C → Bool) → (R → R → Bool) → Naming K C R → K → List (C × R) → Type 0
+IsRunOf eqk eq same unnamed key pairs = Unit {0}
+IsRunOf eqk eq same (names asks) key pairs = IsRun eq same (AsksAlike eqk eq asks key) pairs
+
+-- when two calls, two answers and two keys are equal, which calls are writes, and when an output is a clone of another;
+-- which outputs and writes are right at a key and at answers; and which calls are asked, where they are named
 pub record Meaning (K C R O : Type 0) : Type 1 where
   pub same_call : C → C → Bool
   pub same_answer : R → R → Bool
@@ -11,6 +29,15 @@ pub record Meaning (K C R O : Type 0) : Type 1 where
   pub is_write : C → Bool
   pub is_clone : O → O → Type 0
   pub def : K → (C → R) → O → List C → Type 0
+  pub naming : Naming K C R
+
+-- the function names the calls that it asks
+abbrev pub IsNamed : {K C R O : Type 0} → Meaning K C R O → Type 0
+IsNamed M = Names M.naming
+
+-- where it does, the pairs are what a run of it under the key asks, in some order: they are causal and complete
+abbrev pub IsNamedRun : {K C R O : Type 0} → Meaning K C R O → K → List (C × R) → Type 0
+IsNamedRun M key pairs = IsRunOf M.same_key M.same_call M.same_answer M.naming key pairs
 
 -- the same, where an output has no clone but itself
 abbrev pub exactly : {K C R O : Type 0} → Meaning K C R O → Meaning K C R O

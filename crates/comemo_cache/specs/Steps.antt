@@ -6,7 +6,7 @@ use Rattle.std.specs.Option.{unwrap_or}
 use Rattle.comemo_base.specs.Sequence.{absorbed}
 use Rattle.comemo_base.specs.Lookup.{under}
 use Rattle.comemo_base.specs.Insertion.{Exists, Misses}
-use Rattle.comemo_cache.specs.Meaning.{Meaning, Invocation, Run, run, invocation, exactly}
+use Rattle.comemo_cache.specs.Meaning.{Meaning, Invocation, Run, run, invocation, exactly, IsNamed, IsNamedRun}
 use Rattle.comemo_cache.specs.Cache.{Entries, Stands, HasNone, HasAged, IsRefusedLook, TouchesAt, Evicts}
 use Rattle.comemo_cache.specs.Storing.{Stores}
 use Rattle.comemo_cache.specs.declared.steps.Step.{Step}
@@ -40,7 +40,7 @@ module _ {X K C R O : Type 0} (M : Meaning K C R O) where
   Keeps es ran reply.NotFound es' = ⊥
   Keeps es ran reply.Stored es' = Stores (exactly M) es ran es'
   Keeps es ran reply.AlreadyExists es' = Exists M.same_call M.same_answer (under M.same_key es ran.key) ran.pairs × (es' ≡ es)
-  Keeps es ran reply.MissingCall es' = Misses M.same_call M.same_answer (under M.same_key es ran.key) ran.pairs × (es' ≡ es)
+  Keeps es ran reply.MissingCall es' = (¬ IsNamed M) × Misses M.same_call M.same_answer (under M.same_key es ran.key) ran.pairs × (es' ≡ es)
   Keeps es ran reply.Memory es' = es' ≡ es
   Keeps es ran reply.Done es' = ⊥
 
@@ -58,10 +58,10 @@ module _ {X K C R O : Type 0} (M : Meaning K C R O) where
   TakesEach (s ∷ ss) es [] es' = ⊥
   TakesEach (s ∷ ss) es (r ∷ rs) es' = (mid : Entries K C R O) × Takes s es r mid × TakesEach ss mid rs es'
 
-  -- what is to be stored stands, by reads, and its writes are writes
+  -- what is to be stored stands, by reads, and its writes are writes; and where the asked calls are named, it is whole
   abbrev pub IsStep : Step X C K R O → Type 0
   IsStep (step.Look key answers other) = Unit {0}
   IsStep (step.Touch key answers) = Unit {0}
   IsStep (step.Store key pairs output writes) =
-      Stands M (run_of M.same_call key pairs.items output writes.items) × All (λ p. M.is_write p.0 ≡ false) (absorbed M.same_call [] pairs.items) × All (λ c. M.is_write c ≡ true) writes.items
+      Stands M (run_of M.same_call key pairs.items output writes.items) × All (λ p. M.is_write p.0 ≡ false) (absorbed M.same_call [] pairs.items) × All (λ c. M.is_write c ≡ true) writes.items × IsNamedRun M key (absorbed M.same_call [] pairs.items)
   IsStep (step.Evict max_age) = Unit {0}

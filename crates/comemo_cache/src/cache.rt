@@ -4,7 +4,8 @@ ghost use Rattle.std.specs.List.{All, Any};
 ghost use Rattle.comemo_base.specs.Answers.{Agrees};
 ghost use Rattle.comemo_base.specs.Lookup.{under, IsAsked, IsRefused, FindsAgreeingPath};
 ghost use Rattle.comemo_base.specs.Insertion.{IsReason};
-ghost use Rattle.comemo_cache.specs.Meaning.{Meaning, exactly, invocation, run};
+ghost use Rattle.comemo_cache.specs.Meaning.{Meaning, Naming, unnamed, IsNamed, IsNamedRun, exactly, invocation, run};
+ghost use Rattle.comemo_base.specs.declared.insertion.InsertError.TheVariants.{MissingCall};
 ghost use Rattle.comemo_cache.specs.Cache.{MemoLaws, Stands, HasNone, Has, HasAged, IsMiss, IsRefusedLook, TouchesAt, Evicts};
 ghost use Rattle.comemo_base.specs.Tree.{IsTree};
 ghost use Rattle.comemo_cache.specs.Storing.{Stores};
@@ -38,6 +39,10 @@ pub trait Memo {
     // at this key and these answers, this output and these writes are right
     ghost def: { Self.Key → (Self.Call → Self.Answer) → Self.Out → List Self.Call → Type 0 };
 
+    // which calls are asked at a key and at answers, where the function names them; a cache keeps then that each path is
+    // causal and complete, and no call is missing where a run is stored
+    ghost naming: { Naming Self.Key Self.Call Self.Answer } = { unnamed };
+
     // clones of keys and of answers are equal, and the definition tells apart neither equal keys nor equal writes, nor an
     // output from its clone
     ghost laws: { MemoLaws Self.Call.eq Self.Answer.eq Self.Key.eq
@@ -59,6 +64,7 @@ impl<M: Memo> Meant for M {
       is_write = M.Call.is_write;
       is_clone = M.Out.is_clone;
       def = M.def;
+      naming = M.naming;
     } };
 }
 
@@ -84,7 +90,7 @@ impl<M: Memo> Model for KeptRun<M> {
 ///
 /// Contracts see it as a list of entries, of whose order no clause speaks. Its type keeps that each entry is legal:
 /// whichever answers agree with its path, its output and its writes are right at its key. It keeps keys, calls, answers
-/// and outputs themselves. All entries under a key share two copies of it, and those whose paths have an equal front share its
+/// and outputs themselves. All entries under a key share one copy of it, and those whose paths have an equal front share its
 /// calls and answers. It drops entries in `evict` alone. comemo's `CacheData`.
 #[derive(Drop)]
 pub struct CacheData<M: Memo> {
@@ -112,6 +118,7 @@ impl<M: Memo> Model for CacheData<M> {
       is_write = M.Call.is_write;
       is_clone = M.Out.is_clone;
       def = M.def;
+      naming = M.naming;
     })) s.tree };
 }
 
@@ -254,10 +261,13 @@ impl<M: Memo> CacheData<M> {
         requires written { All (λ c. M.Call.is_write c ≡ true) writes.items }
         requires stands { Stands ⟦<M as Meant>⟧.meaning
             (run key sequence.pairs output writes.items) }
+        requires settled { IsNamedRun ⟦<M as Meant>⟧.meaning key sequence.pairs }
         ensures stored { OnOk result (Stores (exactly ⟦<M as Meant>⟧.meaning) self.old
             (run key sequence.pairs output writes.items) self.new) }
         ensures reason { IfErr result
             (IsReason M.Call.eq M.Answer.eq (under M.Key.eq self.old key) sequence.pairs) }
+        ensures named { IfErr result (λ error. error ≡ MissingCall
+            → ¬ IsNamed ⟦<M as Meant>⟧.meaning) }
         ensures err { OnErr result (self.new ≡ self.old) }
     {
         sequence.has_distinct_calls();
@@ -305,6 +315,14 @@ impl<M: Memo> CacheData<M> {
                 true
             },
         );
+    }
+
+    /// Tells a proof what every value keeps: where the function names the calls that it asks, each path is causal and
+    /// complete. It does nothing when it runs.
+    pub fn is_settled(&self)
+        ensures { All (λ e. IsNamedRun ⟦<M as Meant>⟧.meaning e.key e.path) self.now }
+    {
+        self.tree.is_parted();
     }
 
     /// What the type of the tree keeps, told to a proof.

@@ -4,7 +4,8 @@ ghost use Rattle.std.specs.List.{All};
 ghost use Rattle.comemo_base.specs.Lookup.{under};
 ghost use Rattle.comemo_base.specs.Insertion.{IsReason};
 ghost use Rattle.comemo_base.specs.Tree.{IsTree};
-ghost use Rattle.comemo_cache.specs.Meaning.{exactly, invocation, run};
+ghost use Rattle.comemo_base.specs.declared.insertion.InsertError.TheVariants.{MissingCall};
+ghost use Rattle.comemo_cache.specs.Meaning.{IsNamed, IsNamedRun, exactly, invocation, run};
 ghost use Rattle.comemo_cache.specs.Cache.{Entries, Stands, HasNone, HasAged, TouchesAt};
 ghost use Rattle.comemo_cache.specs.Storing.{Stores};
 ghost use Rattle.comemo_cache.specs.Held.{Held, Leads, Stays};
@@ -94,11 +95,14 @@ pub trait Hold<M: Memo> {
         requires written { All (λ c. M.Call.is_write c ≡ true) writes.items }
         requires stands { Stands ⟦<M as Meant>⟧.meaning
             (run key (Q.pairs reads) output writes.items) }
+        requires settled { IsNamedRun ⟦<M as Meant>⟧.meaning key (Q.pairs reads) }
         ensures stored { OnOk result (Leads (entries self.old) (entries self.new) (λ es es'.
             Stores (exactly ⟦<M as Meant>⟧.meaning) es
             (run key (Q.pairs reads) output writes.items) es')) }
         ensures reason { IfErr result (λ error. Held (entries self.old) (λ es.
             IsReason M.Call.eq M.Answer.eq (under M.Key.eq es key) (Q.pairs reads) error)) }
+        ensures named { IfErr result (λ error. error ≡ MissingCall
+            → ¬ IsNamed ⟦<M as Meant>⟧.meaning) }
         ensures err { OnErr result (Stays (entries self.old) (entries self.new)) };
 }
 
@@ -129,10 +133,13 @@ impl<M: Memo> Hold<M> for CacheData<M> {
         requires written { All (λ c. M.Call.is_write c ≡ true) writes.items }
         requires stands { Stands ⟦<M as Meant>⟧.meaning
             (run key (Q.pairs reads) output writes.items) }
+        requires settled { IsNamedRun ⟦<M as Meant>⟧.meaning key (Q.pairs reads) }
         ensures stored { OnOk result (Stores (exactly ⟦<M as Meant>⟧.meaning) self.old
             (run key (Q.pairs reads) output writes.items) self.new) }
         ensures reason { IfErr result
             (IsReason M.Call.eq M.Answer.eq (under M.Key.eq self.old key) (Q.pairs reads)) }
+        ensures named { IfErr result (λ error. error ≡ MissingCall
+            → ¬ IsNamed ⟦<M as Meant>⟧.meaning) }
         ensures err { OnErr result (self.new ≡ self.old) }
     {
         CacheData::store(self, key, reads.into_sequence(), output, writes)

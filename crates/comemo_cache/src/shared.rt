@@ -5,7 +5,8 @@ ghost use Rattle.std.specs.Sync.RwLock.{write_guard_value};
 ghost use Rattle.std.specs.List.{All};
 ghost use Rattle.comemo_base.specs.Lookup.{under};
 ghost use Rattle.comemo_base.specs.Insertion.{IsReason};
-ghost use Rattle.comemo_cache.specs.Meaning.{exactly, run};
+ghost use Rattle.comemo_base.specs.declared.insertion.InsertError.TheVariants.{MissingCall};
+ghost use Rattle.comemo_cache.specs.Meaning.{IsNamed, IsNamedRun, exactly, run};
 ghost use Rattle.comemo_cache.specs.Cache.{Entries, Evicts, Stands, TouchesAt};
 ghost use Rattle.comemo_cache.specs.Storing.{Stores};
 ghost use Rattle.comemo_cache.specs.Held.{ChangesBehind, Held, Leads, Stays};
@@ -27,8 +28,8 @@ const LANES: usize = 4;
 /// How many lanes are a row.
 const ROW: usize = 8;
 
-/// How many rows there are, and so 16 parts in all. The first four bits of a hash say which of them is a key's.
-const ROWS: usize = 8;
+/// How many rows there are, and so 64 parts in all. The first six bits of a hash say which of them is a key's.
+const ROWS: usize = 32;
 
 /// A way to the entries of a part, or to none while the part never had one.
 #[derive(Drop)]
@@ -95,11 +96,14 @@ impl<M: Memo> Way<M> {
         requires written { All (λ c. M.Call.is_write c ≡ true) writes.items }
         requires stands { Stands ⟦<M as Meant>⟧.meaning
             (run key reads.pairs output writes.items) }
+        requires settled { IsNamedRun ⟦<M as Meant>⟧.meaning key reads.pairs }
         ensures stored { OnOk result (Leads self.old self.new (λ es es'.
             Stores (exactly ⟦<M as Meant>⟧.meaning) es
             (run key reads.pairs output writes.items) es')) }
         ensures reason { IfErr result (λ error. Held self.old (λ es.
             IsReason M.Call.eq M.Answer.eq (under M.Key.eq es key) reads.pairs error)) }
+        ensures named { IfErr result (λ error. error ≡ MissingCall
+            → ¬ IsNamed ⟦<M as Meant>⟧.meaning) }
         ensures err { OnErr result (self.new ≡ self.old) }
     {
         let Some(data) = &mut self.data else {
@@ -144,8 +148,8 @@ impl<M: Memo> Way<M> {
 #[derive(Drop)]
 struct Lane<M: Memo> {
     way: RwLock<Way<M>>,
-    // As many bytes as processors fetch at once, two lines, so that what is done to one lane disturbs no other.
-    apart: [u64; 16],
+    // So many that a lane is 128 bytes long, as many as processors fetch at once: what is done to one lane disturbs no other.
+    apart: [u64; 10],
 }
 
 impl<M: Memo> Lane<M> {
@@ -153,7 +157,7 @@ impl<M: Memo> Lane<M> {
     fn new() -> Self {
         Lane {
             way: RwLock::new(Way::new()),
-            apart: [0; 16],
+            apart: [0; 10],
         }
     }
 
@@ -169,6 +173,61 @@ impl<M: Memo> Lane<M> {
             Lane::new(),
             Lane::new(),
         ]
+    }
+}
+
+/// The lanes of all parts, one part after the other.
+#[derive(Drop)]
+struct Lanes<M: Memo> {
+    rows: [[Lane<M>; ROW]; ROWS],
+}
+
+impl<M: Memo> Lanes<M> {
+    /// Those of parts without entries. It takes no memory.
+    fn new() -> Self {
+        Lanes {
+            rows: [
+                Lane::row(),
+                Lane::row(),
+                Lane::row(),
+                Lane::row(),
+                Lane::row(),
+                Lane::row(),
+                Lane::row(),
+                Lane::row(),
+                Lane::row(),
+                Lane::row(),
+                Lane::row(),
+                Lane::row(),
+                Lane::row(),
+                Lane::row(),
+                Lane::row(),
+                Lane::row(),
+                Lane::row(),
+                Lane::row(),
+                Lane::row(),
+                Lane::row(),
+                Lane::row(),
+                Lane::row(),
+                Lane::row(),
+                Lane::row(),
+                Lane::row(),
+                Lane::row(),
+                Lane::row(),
+                Lane::row(),
+                Lane::row(),
+                Lane::row(),
+                Lane::row(),
+                Lane::row(),
+            ],
+        }
+    }
+
+    /// All of them as one slice.
+    fn all(&self) -> &[Lane<M>]
+        ensures { length result.now ≡ 256 }
+    {
+        self.rows.as_flattened()
     }
 }
 
@@ -226,15 +285,15 @@ impl<M: Memo> Alone<'_, M> {
 
 /// A cache that threads share, by reference or by `Arc`.
 ///
-/// It has 16 parts, and all entries under a key are in one of them. So calls under keys of different parts do not wait for
+/// It has 64 parts, and all entries under a key are in one of them. So calls under keys of different parts do not wait for
 /// one another. Each part has four lanes, each behind a lock of its own: a look-up takes one, a step that changes the part
 /// takes them all. So look-ups in different lanes do not disturb one another either. Each entry that a thread puts into it is
-/// right for its function, as its type keeps, so each that another thread finds is. It takes 11 KiB where it stands.
+/// right for its function, as its type keeps, so each that another thread finds is. It takes 32 KiB where it stands.
 /// comemo's `Cache`, which is a static of the program and makes its own lock, one for all entries.
 #[derive(Drop)]
 pub struct Cache<M: Memo> {
     alloc: Global,
-    lanes: [[Lane<M>; ROW]; ROWS],
+    lanes: Lanes<M>,
     // How many shares were made, so that they take the lanes by turns.
     shares: AtomicU64,
 }
@@ -246,16 +305,7 @@ impl<M: Memo> Cache<M> {
     pub fn new(alloc: Global) -> Self {
         Cache {
             alloc,
-            lanes: [
-                Lane::row(),
-                Lane::row(),
-                Lane::row(),
-                Lane::row(),
-                Lane::row(),
-                Lane::row(),
-                Lane::row(),
-                Lane::row(),
-            ],
+            lanes: Lanes::new(),
             shares: AtomicU64::new(0),
         }
     }
@@ -277,7 +327,7 @@ impl<M: Memo> Cache<M> {
     ///
     /// comemo's `Cache::evict`.
     pub fn evict<R: Wait>(&self, rt: &R, max_age: usize) {
-        evict_parts(rt, self.lanes.as_flattened(), max_age);
+        evict_parts(rt, self.lanes.all(), max_age);
     }
 
     /// The lanes of the part that has the entries under a key. The key is hashed as a map does it, once more than the map
@@ -287,8 +337,8 @@ impl<M: Memo> Cache<M> {
     {
         let mut hasher = FoldHasher::default();
         key.hash(&mut hasher);
-        let first = (hasher.finish() >> 60) as usize * LANES;
-        &self.lanes.as_flattened()[first..first + LANES]
+        let first = (hasher.finish() >> 58) as usize * LANES;
+        &self.lanes.all()[first..first + LANES]
     }
 }
 
@@ -355,6 +405,7 @@ impl<M: Memo, R: Wait> Hold<M> for Shared<'_, M, R> {
         requires written { All (λ c. M.Call.is_write c ≡ true) writes.items }
         requires stands { Stands ⟦<M as Meant>⟧.meaning
             (run key (Q.pairs reads) output writes.items) }
+        requires settled { IsNamedRun ⟦<M as Meant>⟧.meaning key (Q.pairs reads) }
         ensures stored { let none : Option (Entries M.Key M.Call M.Answer M.Out) = None in
             OnOk result (Leads none none (λ es es'.
             Stores (exactly ⟦<M as Meant>⟧.meaning) es
@@ -362,6 +413,8 @@ impl<M: Memo, R: Wait> Hold<M> for Shared<'_, M, R> {
         ensures reason { let none : Option (Entries M.Key M.Call M.Answer M.Out) = None in
             IfErr result (λ error. Held none (λ es.
             IsReason M.Call.eq M.Answer.eq (under M.Key.eq es key) (Q.pairs reads) error)) }
+        ensures named { IfErr result (λ error. error ≡ MissingCall
+            → ¬ IsNamed ⟦<M as Meant>⟧.meaning) }
         ensures err { let none : Option (Entries M.Key M.Call M.Answer M.Out) = None in
             OnErr result (Stays none none) }
     {

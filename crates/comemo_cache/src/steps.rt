@@ -98,7 +98,7 @@ impl<'a, M: Memo> Input for Listed<'a, M> {
 
     ghost joins = { λ s t u V W a b. b ∙ a };
 
-    ghost keeps = { λ s t W a call reads. equal_if_one M.Answer.Eq.laws _ _
+    ghost keeps = { λ s t W a call reads un. equal_if_one M.Answer.Eq.laws _ _
         (ap (λ v. listed M.Call.eq v.answers.now v.other.now call) a) };
 
     ghost keeps_key = { λ s t W a. equal_if_one M.Key.Eq.laws _ _ (ap (λ v. v.key.now) a) };

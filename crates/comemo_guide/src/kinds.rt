@@ -19,11 +19,17 @@ pub enum TextCall {
 impl Call for TextCall {
     ghost is_write = { λ _. false };
 
+    ghost touches = { λ _ _. false };
+
     ghost same_kind = { λ x y h. refl };
 
     ghost clones = { λ x y h. Prim.search rules };
 
     fn is_mutable(&self) -> bool {
+        false
+    }
+
+    fn touches(&self, _read: &TextCall) -> bool {
         false
     }
 }

@@ -28,11 +28,17 @@ pub enum LibraryCall {
 impl Call for LibraryCall {
     ghost is_write = { λ _. false };
 
+    ghost touches = { λ _ _. false };
+
     ghost same_kind = { λ x y h. refl };
 
     ghost clones = { λ x y h. Prim.search rules };
 
     fn is_mutable(&self) -> bool {
+        false
+    }
+
+    fn touches(&self, _read: &LibraryCall) -> bool {
         false
     }
 }

@@ -21,11 +21,17 @@ pub enum RegionCall {
 impl Call for RegionCall {
     ghost is_write = { λ _. false };
 
+    ghost touches = { λ _ _. false };
+
     ghost same_kind = { λ x y h. refl };
 
     ghost clones = { λ x y h. Prim.search rules };
 
     fn is_mutable(&self) -> bool {
+        false
+    }
+
+    fn touches(&self, _read: &RegionCall) -> bool {
         false
     }
 }

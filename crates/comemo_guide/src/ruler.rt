@@ -39,7 +39,7 @@ pub fn ruled<H: Hold<MemoOfRecursiveMut<Ruler>>>(
 ) -> Result<(), Fault>
     requires agrees { ⟦<Notebook as ToldMut>⟧.agrees (lent book.now.value book.now.recording) }
     ensures agrees { ⟦<Notebook as ToldMut>⟧.agrees (lent book.new.value book.new.recording) }
-    ensures tells { TellsWrites ⟦<Notebook as Written>⟧.did ⟦<Notebook as Told>⟧.fits
+    ensures tells { TellsWrites ⟦<Notebook as ToldMut>⟧.goes ⟦<Notebook as Told>⟧.fits
         (lent book.old.value book.old.recording) (lent book.new.value book.new.recording) result
         (λ _ m writes. writes ≡ marks (m Owner) height) }
 {
@@ -60,7 +60,7 @@ fn draw<H: Hold<MemoOfRecursiveMut<Ruler>>>(
 ) -> Result<(), Fault>
     requires agrees { ⟦<Notebook as ToldMut>⟧.agrees (lent book.now.value book.now.recording) }
     ensures agrees { ⟦<Notebook as ToldMut>⟧.agrees (lent book.new.value book.new.recording) }
-    ensures tells { TellsWrites ⟦<Notebook as Written>⟧.did ⟦<Notebook as Told>⟧.fits
+    ensures tells { TellsWrites ⟦<Notebook as ToldMut>⟧.goes ⟦<Notebook as Told>⟧.fits
         (lent book.old.value book.old.recording) (lent book.new.value book.new.recording) result
         (λ _ m writes. writes ≡ marks (m Owner) height) }
 {
@@ -84,7 +84,7 @@ pub fn rule<H: Hold<MemoOfRecursiveMut<Ruler>>>(
     book: &mut Notebook,
 ) -> Result<(), Fault>
     ensures { IfOk result (λ _. ⟦<Notebook as Written>⟧.did book.old book.new
-        (marks book.new.owner height)) }
+        (marks book.old.owner height)) }
 {
     let mut recording = Constraint::new(alloc);
     let mut recorder = RecorderMut::new(alloc, book, &mut recording);

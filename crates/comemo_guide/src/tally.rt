@@ -14,7 +14,7 @@ impl Memo for Tally {
 
     type Key = ();
 
-    type Answer = MultiAnswer<u64, ()>;
+    type Answer = MultiAnswer<u64, u64>;
 
     type Out = u64;
 

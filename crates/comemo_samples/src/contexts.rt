@@ -18,11 +18,17 @@ pub enum ContextCall {
 impl Call for ContextCall {
     ghost is_write = { λ _. false };
 
+    ghost touches = { λ _ _. false };
+
     ghost same_kind = { λ x y h. refl };
 
     ghost clones = { λ x y h. Prim.search rules };
 
     fn is_mutable(&self) -> bool {
+        false
+    }
+
+    fn touches(&self, _read: &ContextCall) -> bool {
         false
     }
 }
@@ -94,11 +100,17 @@ pub struct Place {
 impl Call for Place {
     ghost is_write = { λ _. false };
 
+    ghost touches = { λ _ _. false };
+
     ghost same_kind = { λ x y h. refl };
 
     ghost clones = { λ x y h. Prim.search rules };
 
     fn is_mutable(&self) -> bool {
+        false
+    }
+
+    fn touches(&self, _read: &Place) -> bool {
         false
     }
 }

@@ -1,33 +1,45 @@
-//! A tracked value that is written alone: a number that grows.
-ghost use Rattle.std.specs.Prelude.{◌≡◌, true, refl};
+//! A tracked value that is read and written: a number that grows.
+ghost use Rattle.std.specs.Prelude.{◌≡◌, true};
 ghost use Rattle.std.proofs.Common.{rules};
+ghost use Rattle.comemo_samples.specs.Writers.{is_add};
 
 use comemo::{Call, Track};
 use std::alloc::AllocError;
 use std::hash::Hash;
 
-/// A call to a counter. Each is a write.
+/// A call to a counter.
 #[derive(Clone, Copy, Drop, Debug, PartialEq, Eq, Hash)]
 pub enum CounterCall {
-    /// Adds a number.
+    /// Its number: a read.
+    Get,
+    /// Adds a number: a write, which touches that read.
     Add(u64),
 }
 
 impl Call for CounterCall {
-    ghost is_write = { λ _. true };
+    ghost is_write = { is_add };
 
-    ghost same_kind = { λ x y h. refl };
+    ghost touches = { λ _ _. true };
+
+    ghost same_kind = { λ x y h. Prim.search rules };
 
     ghost clones = { λ x y h. Prim.search rules };
 
     fn is_mutable(&self) -> bool {
+        match self {
+            CounterCall::Get => false,
+            CounterCall::Add(_) => true,
+        }
+    }
+
+    fn touches(&self, _read: &CounterCall) -> bool {
         true
     }
 }
 
 /// A number that is added to. Past the greatest it goes on from 0.
 ///
-/// It answers no read. A write takes constant time and no memory, and none is refused. This project's own.
+/// Reads and writes take constant time and no memory, and none is refused. This project's own.
 #[derive(Drop)]
 pub struct Counter {
     /// What was added so far, modulo 2^64.
@@ -37,29 +49,31 @@ pub struct Counter {
 impl Track for Counter {
     type Call = CounterCall;
 
-    type Answer = ();
+    type Answer = u64;
 
     ghost use Rattle.std.specs.Prelude.{◌+◌, ◌%◌, ◌^◌};
     ghost use Rattle.comemo_samples.specs.Writers.{added};
 
-    // there is nothing to ask
-    ghost answers = { λ _ _. tt };
+    ghost answers = { λ s _. s.number };
 
     ghost wrote = { λ s call t. t.number ≡ (s.number + added call) % 2 ^ 64 };
 
-    ghost alike = { λ _ _ _ _. refl };
+    ghost alike = { λ s x y h. Prim.search rules };
 
     ghost clones = { λ x y h. Prim.search rules };
 
-    fn ask(&self, _call: &CounterCall) -> Result<(), AllocError> {
-        Err(AllocError)
+    fn ask(&self, _call: &CounterCall) -> Result<u64, AllocError> {
+        Ok(self.number)
     }
 
     fn call_mut(&mut self, call: &CounterCall) -> Result<(), AllocError>
         ensures ok { result ≡ Ok tt }
         ensures number { self.new.number ≡ (self.old.number + added call.now) % 2 ^ 64 }
     {
-        let CounterCall::Add(number) = *call;
+        let number = match *call {
+            CounterCall::Get => 0,
+            CounterCall::Add(number) => number,
+        };
         self.number = self.number.wrapping_add(number);
         Ok(())
     }

@@ -1,5 +1,5 @@
 //! A tracked value that is written alone: a text that grows.
-ghost use Rattle.std.specs.Prelude.{◌≡◌, [], true, refl};
+ghost use Rattle.std.specs.Prelude.{◌≡◌, [], true, false, refl};
 ghost use Rattle.std.proofs.Common.{rules};
 
 use comemo::{Call, Track};
@@ -17,12 +17,18 @@ pub enum EmitterCall {
 impl Call for EmitterCall {
     ghost is_write = { λ _. true };
 
+    ghost touches = { λ _ _. false };
+
     ghost same_kind = { λ x y h. refl };
 
     ghost clones = { λ x y h. Prim.search rules };
 
     fn is_mutable(&self) -> bool {
         true
+    }
+
+    fn touches(&self, _read: &EmitterCall) -> bool {
+        false
     }
 }
 

@@ -1,5 +1,5 @@
 //! A tracked value that is read and written: an owner, and lines that come to an end.
-ghost use Rattle.std.specs.Prelude.{◌≡◌, ◌++◌, []};
+ghost use Rattle.std.specs.Prelude.{◌≡◌, ◌++◌, [], false};
 ghost use Rattle.std.proofs.Common.{rules};
 ghost use Rattle.comemo_samples.specs.Notebooks.{is_note};
 
@@ -20,6 +20,8 @@ pub enum NotebookCall {
 impl Call for NotebookCall {
     ghost is_write = { is_note };
 
+    ghost touches = { λ _ _. false };
+
     ghost same_kind = { λ x y h. Prim.search rules };
 
     ghost clones = { λ x y h. Prim.search rules };
@@ -29,6 +31,10 @@ impl Call for NotebookCall {
             NotebookCall::Owner => false,
             NotebookCall::Note(_) => true,
         }
+    }
+
+    fn touches(&self, _read: &NotebookCall) -> bool {
+        false
     }
 }
 

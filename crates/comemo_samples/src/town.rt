@@ -17,11 +17,17 @@ pub enum TownCall {
 impl Call for TownCall {
     ghost is_write = { λ _. false };
 
+    ghost touches = { λ _ _. false };
+
     ghost same_kind = { λ x y h. refl };
 
     ghost clones = { λ x y h. Prim.search rules };
 
     fn is_mutable(&self) -> bool {
+        false
+    }
+
+    fn touches(&self, _read: &TownCall) -> bool {
         false
     }
 }

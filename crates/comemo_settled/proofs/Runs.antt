@@ -89,7 +89,7 @@ module _ {C R : Type 0} {eq : C → C → Bool} {same : R → R → Bool} (calls
     moves k k' m e c c' f a = law k k' m c c' e f a
 
     -- a run under an equal key is a run
-    IsRun-moved : (k k' : K) (ps : List (C × R)) → IsTrue (eqk k k') → IsRun eq same (asks k) ps → IsRun eq same (asks k') ps
+    pub IsRun-moved : (k k' : K) (ps : List (C × R)) → IsTrue (eqk k k') → IsRun eq same (asks k) ps → IsRun eq same (asks k') ps
     IsRun-moved k k' ps e run = record {
       causal = λ m respects. in_turn m ps (run.causal m respects);
       complete = λ m respects agrees c.
@@ -136,13 +136,13 @@ module _ {C R : Type 0} {eq : C → C → Bool} {same : R → R → Bool} (calls
       own_run Q found = All-any (λ e. IsRun eq same (asks e.key) e.path) _ es settled found
 
       -- no insertion misses a call
-      never_misses : Misses eq same (under eqk es key) s → ⊥
+      pub never_misses : Misses eq same (under eqk es key) s → ⊥
       never_misses misses =
           let miss = Any-from_under eqk es key (λ e. LacksNextCall eq same s e.path) misses in
           goes_on key miss.1.key s miss.1.path miss.4.0 distinct run (own_run (λ e. LacksNextCall eq same s e.path) miss) miss.4.1
 
       -- a path whose pairs are all among those of the sequence has its very pairs
-      HasSet-from_exists : Exists eq same (under eqk es key) s → HasSet eq same (under eqk es key) s
+      pub HasSet-from_exists : Exists eq same (under eqk es key) s → HasSet eq same (under eqk es key) s
       HasSet-from_exists exists =
           let some = Any-from_under eqk es key (λ e. AllAmong eq same s e.path) exists in
           Any-under eqk es key (λ e. HasSamePairs eq same e.path s) (some.0, some.1, some.2, some.3, (some.4.0, (has_all key some.1.key s some.1.path some.4.0 distinct run (own_run (λ e. AllAmong eq same s e.path) some) some.4.1, some.4.1)))
@@ -174,7 +174,7 @@ module _ {C R : Type 0} {eq : C → C → Bool} {same : R → R → Bool} (calls
       HasSamePairs-new path new = subst (λ n. HasSamePairs eq same n s) (sym new.2) (new_run new.0 new.1).0
 
       -- and it is a run
-      IsRun-new : (path : List (C × R)) → IsNewPath eq same (under eqk es key) s path → IsRun eq same (asks key) path
+      pub IsRun-new : (path : List (C × R)) → IsNewPath eq same (under eqk es key) s path → IsRun eq same (asks key) path
       IsRun-new path new = subst (λ n. IsRun eq same (asks key) n) (sym new.2) (new_run new.0 new.1).1
 
       -- so an insertion leaves all paths runs

@@ -1,3 +1,4 @@
+pub mod Settling
 pub mod Runs
 pub mod Sets
 pub mod StepLists

@@ -17,11 +17,17 @@ pub enum SheetCall {
 impl Call for SheetCall {
     ghost is_write = { λ _. false };
 
+    ghost touches = { λ _ _. false };
+
     ghost same_kind = { λ x y h. refl };
 
     ghost clones = { λ x y h. Prim.search rules };
 
     fn is_mutable(&self) -> bool {
+        false
+    }
+
+    fn touches(&self, _read: &SheetCall) -> bool {
         false
     }
 }

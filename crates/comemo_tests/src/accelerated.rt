@@ -185,11 +185,17 @@ impl Clone for Single {
 impl Call for Single {
     ghost is_write = { λ _. false };
 
+    ghost touches = { λ _ _. false };
+
     ghost same_kind = { λ x y h. refl };
 
     ghost clones = { λ x y h. Prim.search rules };
 
     fn is_mutable(&self) -> bool {
+        false
+    }
+
+    fn touches(&self, _read: &Single) -> bool {
         false
     }
 }

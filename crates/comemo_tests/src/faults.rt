@@ -6,7 +6,7 @@ ghost use Rattle.comemo.specs.Meaning.{reading};
 use crate::inputs::LocationMemo;
 use comemo::{
     Both, CacheData, Constraint, Fault, Function, FunctionOf, Memo, MemoOf, MultiAnswer, MultiCall,
-    Recorder, Top, Track, Tracked, memoize, memoized,
+    Recorder, Sink, Top, Track, Tracked, memoize, memoized,
 };
 use comemo_samples::{Context, ContextCall};
 use std::alloc::Global;
@@ -148,6 +148,25 @@ fn is_told_of_closure(alloc: Global, fault: Fault) -> bool {
     reply.err() == Some(fault) && !outer.is_whole()
 }
 
+/// Whether the caller of a closure that gives an output, and spoils its recording, is told that it is incomplete, and its
+/// own recording is spoiled then.
+fn is_told_of_spoiled(alloc: Global) -> bool {
+    let mut cache: CacheData<LocationMemo> = CacheData::new(alloc);
+    let mut outer: Constraint<ContextCall, u64> = Constraint::new(alloc);
+    let reply = memoize(
+        alloc,
+        &mut cache,
+        &mut context().track(alloc),
+        &mut outer,
+        true,
+        |_view: &mut Tracked<'_, Context>, recording: &mut Constraint<ContextCall, u64>| {
+            recording.spoil();
+            Ok(3)
+        },
+    );
+    reply.err() == Some(Fault::Incomplete) && !outer.is_whole() && cache.len() == 0
+}
+
 /// Whether the caller of a function with this key is told this fault, and its own recording is spoiled then.
 fn is_told<F: Function<Key = bool, Of = Context, Out = u64>>(
     alloc: Global,
@@ -195,6 +214,8 @@ fn a_fault_of_a_run_is_told_to_its_caller(rt: HostRuntime) {
     let alloc = rt.alloc();
     let mut refused = CacheData::new(alloc);
     let mut kept = (CacheData::new(alloc), CacheData::new(alloc));
+    let of_spoiled = is_told_of_spoiled(alloc);
+    assert!(rt; of_spoiled);
     let faults: &[(bool, Fault)] = &[(true, Fault::Memory), (false, Fault::Incomplete)];
     for (hands_on, fault) in faults {
         let of_closure = is_told_of_closure(alloc, *fault);

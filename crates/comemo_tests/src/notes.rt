@@ -47,7 +47,7 @@ impl Memo for AddsThree {
 
     type Key = ();
 
-    type Answer = ();
+    type Answer = u64;
 
     type Out = ();
 

@@ -202,7 +202,7 @@ fn add_three(
         &mut counter.track_mut(alloc),
         &mut Top::new(),
         true,
-        |view: &mut TrackedMut<'_, Counter>, recording: &mut Constraint<CounterCall, ()>| {
+        |view: &mut TrackedMut<'_, Counter>, recording: &mut Constraint<CounterCall, u64>| {
             view.write(CounterCall::Add(3), recording)?;
             Ok(())
         },

@@ -68,9 +68,9 @@ module _ {C R : Type 0} {eq : MultiCall ⊤ C → MultiCall ⊤ C → Bool} {sam
       holds n (second_respects eq same m n respects second) (subst (λ f. Agrees same f ps) whole agrees)
 
   -- what a view's `ask_through` says of the recording
-  pub told_read : (m : C → R) → Respects (view_calls eq) (view_answers same) m → (s t : Recording (MultiCall ⊤ C) (MultiAnswer ⊤ R)) (c : C) (a : R) → Agrees same (with_key m) s.pairs → Asks (view_answers same) m c a (Through second_call second_answer (Took eq s t)) → ToldRead eq same m s.pairs c a t.pairs
-  told_read m respects s t c a agrees asks =
-      let asked : Asks same (with_key m) (second_call c) (second_answer a) (Took eq s t) = asked_through same second_call second_answer m (with_key m) c a refl (λ x y. refl) asks in
+  pub told_read : {touches : MultiCall ⊤ C → MultiCall ⊤ C → Bool} (m : C → R) → Respects (view_calls eq) (view_answers same) m → (s t : Recording (MultiCall ⊤ C) (MultiAnswer ⊤ R)) (c : C) (a : R) → Agrees same (with_key m) s.pairs → Asks (view_answers same) m c a (Through second_call second_answer (Took eq touches s t)) → ToldRead eq same m s.pairs c a t.pairs
+  told_read {touches} m respects s t c a agrees asks =
+      let asked : Asks same (with_key m) (second_call c) (second_answer a) (Took eq touches s t) = asked_through same second_call second_answer m (with_key m) c a refl (λ x y. refl) asks in
       let read = told_answer keyed_calls keyed_answers (with_key m) (respects_with_key m respects) s t (second_call c) (second_answer a) agrees asked in
       record {
         agrees = read.agrees;

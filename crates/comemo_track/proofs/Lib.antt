@@ -3,6 +3,7 @@ pub mod Absorbing
 pub mod Sendings
 pub mod Copies
 pub mod Telling
+pub mod Touching
 pub mod Validating
 pub mod Through
 pub mod Joined

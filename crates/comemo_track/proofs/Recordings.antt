@@ -6,6 +6,7 @@ use Rattle.std.specs.declared.alloc.AllocError.{AllocError}
 use Rattle.comemo_base.specs.Sequence.{Sequence, was_seen, held}
 use Rattle.comemo_base.proofs.Pairs.{or_turned, held-push}
 use Rattle.comemo_track.specs.Recording.{Recording, Took, Spoiled, IsRecording}
+use Rattle.comemo_track.specs.RecordingLaws.{or_none}
 
 module _ {C R : Type 0} {eq : C → C → Bool} (laws : IsEquivalence eq) (w : C → Bool) (s : Sequence C R) {W : List C} (is : IsRecording eq w s W) where
   taken : (t : Sequence C R) (call : C) (answer : R) → w call ≡ false → t.pairs ≡ s.pairs ++ (call, answer) ∷ [] → ((other : C) → was_seen eq t other ≡ (eq call other || was_seen eq s other)) → IsRecording eq w t W
@@ -35,10 +36,10 @@ module _ {C R : Type 0} {eq : C → C → Bool} (laws : IsEquivalence eq) (w : C
   }
 
 -- nothing was taken
-pub took_none : {C R : Type 0} (eq : C → C → Bool) (s t : Recording C R) → t.pairs ≡ s.pairs → t.writes ≡ s.writes → t.whole ≡ s.whole → Took eq s t [] []
-took_none eq s t pairs writes whole = record { pairs = pairs; writes = writes ∙ sym (append-nil s.writes); whole = whole }
+pub took_none : {C R : Type 0} (eq touches : C → C → Bool) (s t : Recording C R) → t.pairs ≡ s.pairs → t.writes ≡ s.writes → t.whole ≡ s.whole → t.late ≡ s.late → Took eq touches s t [] []
+took_none eq touches s t pairs writes whole late = record { pairs = pairs; writes = writes ∙ sym (append-nil s.writes); whole = whole; late = late ∙ sym (or_none s.late) }
 
 -- nothing was taken where it was refused, and then it was spoiled
-pub spoiled_at : {T E C R : Type 0} (eq : C → C → Bool) (r : Result T E) (s m t : Recording C R) → OnErr r (Took eq s m [] []) → t.pairs ≡ m.pairs → t.writes ≡ m.writes → OnErr r (t.whole ≡ false) → OnErr r (Spoiled s t)
-spoiled_at eq (Ok x) s m t taken pairs writes whole = tt
-spoiled_at eq (Err e) s m t taken pairs writes whole = record { pairs = pairs ∙ taken.pairs; writes = writes ∙ taken.writes ∙ append-nil s.writes; whole = whole }
+pub spoiled_at : {T E C R : Type 0} (eq touches : C → C → Bool) (r : Result T E) (s m t : Recording C R) → OnErr r (Took eq touches s m [] []) → t.pairs ≡ m.pairs → t.writes ≡ m.writes → t.late ≡ m.late → OnErr r (t.whole ≡ false) → OnErr r (Spoiled s t)
+spoiled_at eq touches (Ok x) s m t taken pairs writes late whole = tt
+spoiled_at eq touches (Err e) s m t taken pairs writes late whole = record { pairs = pairs ∙ taken.pairs; writes = writes ∙ taken.writes ∙ append-nil s.writes; whole = whole; late = late ∙ taken.late ∙ or_none s.late }

@@ -63,11 +63,11 @@ module _ {C R : Type 0} {eq : C → C → Bool} {same : R → R → Bool} (calls
       }
 
   -- what a recording that took some pairs tells of them
-  pub told_pairs : (s t : Recording C R) (P : List (C × R)) (W : List C) → Agrees same m s.pairs → Agrees same m P → Took eq s t P W → Told eq same m s.pairs P t.pairs
+  pub told_pairs : {touches : C → C → Bool} (s t : Recording C R) (P : List (C × R)) (W : List C) → Agrees same m s.pairs → Agrees same m P → Took eq touches s t P W → Told eq same m s.pairs P t.pairs
   told_pairs s t P W a b k = subst (λ ps. Told eq same m s.pairs P ps) (sym k.pairs) (told_absorbed s.pairs P a b)
 
   -- what a view's `ask` says of a recording
-  pub told_answer : (s t : Recording C R) (call : C) (answer : R) → Agrees same m s.pairs → Asks same m call answer (Took eq s t) → ToldAnswer eq same m s.pairs call answer t.pairs
+  pub told_answer : {touches : C → C → Bool} (s t : Recording C R) (call : C) (answer : R) → Agrees same m s.pairs → Asks same m call answer (Took eq touches s t) → ToldAnswer eq same m s.pairs call answer t.pairs
   told_answer s t call answer a k =
       let p : C × R = (call, k.noted) in
       let is = told_pairs s t (p ∷ []) [] a (k.alike, tt) k.sent in

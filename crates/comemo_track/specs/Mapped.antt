@@ -22,3 +22,9 @@ pub record MapsSpoils {S M : Type 0} (spoils : S → S → Type 0) (s t : Mapped
   pub spoiled : spoils s.sink.now t.sink.now
   pub loan : t.sink.ghost_name ≡ s.sink.ghost_name
   pub same_map : t.map ≡ s.map
+
+-- the sink behind was marked late; the loan and the map stay
+pub record MapsLates {S M : Type 0} (lates : S → S → Type 0) (s t : MappedSink S M) : Type 0 where
+  pub marked : lates s.sink.now t.sink.now
+  pub loan : t.sink.ghost_name ≡ s.sink.ghost_name
+  pub same_map : t.map ≡ s.map

@@ -1,5 +1,5 @@
 -- Calls and answers of two joined inputs.
-use Rattle.std.specs.Prelude.{◌≡◌, List, [], ◌∷◌}
+use Rattle.std.specs.Prelude.{◌≡◌, Bool, false, List, [], ◌∷◌}
 use Rattle.comemo_track.specs.declared.multi.MultiCall.{MultiCall}
 use Rattle.comemo_track.specs.declared.multi.MultiCall.TheVariants as call
 use Rattle.comemo_track.specs.declared.multi.MultiAnswer.{MultiAnswer}
@@ -24,6 +24,13 @@ module _ {X Y : Type 0} where
   abbrev pub by_part : {Z : Type 0} → (X → Z) → (Y → Z) → MultiCall X Y → Z
   by_part f g (call.A c) = f c
   by_part f g (call.B c) = g c
+
+  -- a write touches a read of its part where the part says so, and none of the other part
+  abbrev pub part_touches : (X → X → Bool) → (Y → Y → Bool) → MultiCall X Y → MultiCall X Y → Bool
+  part_touches f g (call.A c) (call.A d) = f c d
+  part_touches f g (call.A c) (call.B d) = false
+  part_touches f g (call.B c) (call.A d) = false
+  part_touches f g (call.B c) (call.B d) = g c d
 
   -- the first of a call of the first part, the second of one of the second
   abbrev pub OnCall : (X → Type 0) → (Y → Type 0) → MultiCall X Y → Type 0

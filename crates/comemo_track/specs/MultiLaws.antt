@@ -1,7 +1,8 @@
 -- The laws of joined inputs, which the traits ask. They say nothing that a reader must believe.
-use Rattle.std.proofs.Common.{◌≡◌, Bool, IsTrue, List, [], ◌∷◌, ◌++◌, refl, sym, ap, subst}
+use Rattle.std.proofs.Common.{◌≡◌, Bool, ◌||◌, IsTrue, List, [], ◌∷◌, ◌++◌, refl, sym, ap, subst}
 use Rattle.comemo_base.specs.Answers.{Respects}
-use Rattle.comemo_track.specs.Multi.{second_call, second_answer, firsts, seconds}
+use Rattle.comemo_track.specs.Multi.{second_call, second_answer, firsts, seconds, part_touches}
+use Rattle.comemo_track.specs.Writing.{touched_by}
 use Rattle.comemo_track.specs.declared.multi.MultiCall.{MultiCall}
 use Rattle.comemo_track.specs.declared.multi.MultiCall.TheVariants as call
 use Rattle.comemo_track.specs.declared.multi.MultiAnswer.{MultiAnswer}
@@ -31,6 +32,17 @@ module _ {X Y : Type 0} where
   seconds-append [] W = refl
   seconds-append (call.A c ∷ V) W = seconds-append V W
   seconds-append (call.B c ∷ V) W = ap (λ x. c ∷ x) (seconds-append V W)
+
+  -- a read is touched by writes of its part alone
+  pub touched_firsts : (f : X → X → Bool) (g : Y → Y → Bool) (W : List (MultiCall X Y)) (c : X) → touched_by (part_touches f g) W (call.A c) ≡ touched_by f (firsts W) c
+  touched_firsts f g [] c = refl
+  touched_firsts f g (call.A d ∷ W) c = ap (λ b. f d c || b) (touched_firsts f g W c)
+  touched_firsts f g (call.B d ∷ W) c = touched_firsts f g W c
+
+  pub touched_seconds : (f : X → X → Bool) (g : Y → Y → Bool) (W : List (MultiCall X Y)) (c : Y) → touched_by (part_touches f g) W (call.B c) ≡ touched_by g (seconds W) c
+  touched_seconds f g [] c = refl
+  touched_seconds f g (call.A d ∷ W) c = touched_seconds f g W c
+  touched_seconds f g (call.B d ∷ W) c = ap (λ b. g d c || b) (touched_seconds f g W c)
 
   -- what holds of the calls of either part
   pub by_each : (T : MultiCall X Y → Type 0) → ((c : X) → T (call.A c)) → ((c : Y) → T (call.B c)) → (x : MultiCall X Y) → T x

@@ -1,28 +1,40 @@
 -- What a recording holds, and how it takes more.
-use Rattle.std.specs.Prelude.{◌≡◌, ℕ, Bool, true, false, List, ◌∷◌, ◌++◌, refl}
+use Rattle.std.specs.Prelude.{◌≡◌, ℕ, ◌||◌, Bool, true, false, List, ◌∷◌, ◌++◌, refl}
 use Rattle.std.specs.List.{All}
 use Rattle.std.specs.Coded.{Coded, code_by, coded×, coded_list, coded_bool, coded_ℕ}
 use Rattle.comemo_base.specs.Answers.{Agrees}
 use Rattle.comemo_base.specs.Sequence.{Sequence, was_seen, held, absorbed}
+use Rattle.comemo_track.specs.Writing.{touched}
 
--- reads with their answers, writes, whether nothing was lost, and how many writes more have room
+-- reads with their answers, writes, whether nothing was lost, whether a read came after a write that touches it, and how many
+-- writes more have room
 pub record Recording (C R : Type 0) : Type 0 where
   pub pairs : List (C × R)
   pub writes : List C
   pub whole : Bool
+  pub late : Bool
   pub room : ℕ
 
--- t is s after it took these pairs and these writes
-pub record Took {C R : Type 0} (eq : C → C → Bool) (s t : Recording C R) (P : List (C × R)) (W : List C) : Type 0 where
+-- t is s after it took these pairs, and then these writes; it is late if s was, or one of its writes touches one of the pairs' reads
+pub record Took {C R : Type 0} (eq touches : C → C → Bool) (s t : Recording C R) (P : List (C × R)) (W : List C) : Type 0 where
   pub pairs : t.pairs ≡ absorbed eq s.pairs P
   pub writes : t.writes ≡ s.writes ++ W
   pub whole : t.whole ≡ s.whole
+  pub late : t.late ≡ (s.late || touched touches s.writes P)
 
 -- t is s as it was, but spoiled
 pub record Spoiled {C R : Type 0} (s t : Recording C R) : Type 0 where
   pub pairs : t.pairs ≡ s.pairs
   pub writes : t.writes ≡ s.writes
   pub whole : t.whole ≡ false
+  pub late : t.late ≡ s.late
+
+-- t is s as it was, but late
+pub record MarkedLate {C R : Type 0} (s t : Recording C R) : Type 0 where
+  pub pairs : t.pairs ≡ s.pairs
+  pub writes : t.writes ≡ s.writes
+  pub whole : t.whole ≡ s.whole
+  pub late : t.late ≡ true
 
 -- the answers agree with a front of the pairs that isn't the whole
 abbrev pub AgreesBefore : {C R : Type 0} → (R → R → Bool) → (C → R) → List (C × R) → Type 0
@@ -31,7 +43,7 @@ AgreesBefore {C} {R} same m pairs = (front : List (C × R)) × (next : C × R) �
 -- a recording is coded as the tuple of its fields, by which a proof tells two apart
 abbrev pub recording_code : {C R : Type 0} → Coded C → Coded R → Coded (Recording C R)
 recording_code {C} {R} c r =
-    code_by (List (C × R) × (List C × (Bool × ℕ))) (coded× (coded_list (coded× c r)) (coded× (coded_list c) (coded× coded_bool coded_ℕ))) (λ s. (s.pairs, (s.writes, (s.whole, s.room)))) (λ p. record { pairs = p.0; writes = p.1.0; whole = p.1.1.0; room = p.1.1.1 }) (λ _. refl)
+    code_by (List (C × R) × (List C × (Bool × (Bool × ℕ)))) (coded× (coded_list (coded× c r)) (coded× (coded_list c) (coded× coded_bool (coded× coded_bool coded_ℕ)))) (λ s. (s.pairs, (s.writes, (s.whole, (s.late, s.room))))) (λ p. record { pairs = p.0; writes = p.1.0; whole = p.1.1.0; late = p.1.1.1.0; room = p.1.1.1.1 }) (λ _. refl)
 
 -- how a `Constraint` keeps it: the calls seen are those of the pairs, all of them reads, and the writes are writes
 pub record IsRecording {C R : Type 0} (eq : C → C → Bool) (w : C → Bool) (reads : Sequence C R) (writes : List C) : Type 0 where

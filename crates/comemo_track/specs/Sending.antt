@@ -1,5 +1,5 @@
 -- What a call sends to a sink.
-use Rattle.std.specs.Prelude.{◌≡◌, Bool, List, [], ◌∷◌, ◌++◌, Option, Some, None, IsTrue}
+use Rattle.std.specs.Prelude.{◌≡◌, Bool, true, false, List, [], ◌∷◌, ◌++◌, Option, Some, None, IsTrue}
 
 -- the pairs that a call sends: its own, where it has an answer
 abbrev pub sent_pairs : {C R : Type 0} → C → Option R → List (C × R)
@@ -32,3 +32,8 @@ pub record SpoiledAfter {S C R : Type 0} (took : S → S → List (C × R) → L
   pub mid : S
   pub taken : took s mid pairs writes
   pub spoiled : spoils mid t
+
+-- the sink took these pairs and these writes, and where it is said that it is late, it was marked so then
+abbrev pub TookAs : {S C R : Type 0} → (S → S → List (C × R) → List C → Type 0) → (S → S → Type 0) → Bool → S → S → List (C × R) → List C → Type 0
+TookAs took lates false s t pairs writes = took s t pairs writes
+TookAs {S} took lates true s t pairs writes = (mid : S) × took s mid pairs writes × lates mid t

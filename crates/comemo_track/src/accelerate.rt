@@ -203,7 +203,7 @@ impl<'a, T: Track> Input for Accelerated<'a, T> {
 
     ghost joins = { λ s t u V W a b. (b.0 ∙ a.0, λ call h. b.1 call (a.1 call h)) };
 
-    ghost keeps = { λ s t W a call reads. equal_if_one T.Answer.Eq.laws _ _
+    ghost keeps = { λ s t W a call reads un. equal_if_one T.Answer.Eq.laws _ _
         (ap (λ value. T.answers value call) a.0) };
 
     ghost keeps_key = { λ _ _ _ _. refl };
@@ -259,7 +259,7 @@ impl<'a, T: Track> Input for &mut Accelerated<'a, T> {
 
     ghost joins = { λ s t u V W a b. (b.0 ∙ a.0, (λ call h. b.1 call (a.1 call h)), b.2 ∙ a.2) };
 
-    ghost keeps = { λ s t W a call reads. equal_if_one T.Answer.Eq.laws _ _
+    ghost keeps = { λ s t W a call reads un. equal_if_one T.Answer.Eq.laws _ _
         (ap (λ value. T.answers value call) a.0) };
 
     ghost keeps_key = { λ s t W a. refl };

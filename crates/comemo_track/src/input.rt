@@ -6,6 +6,7 @@ ghost use Rattle.comemo_base.specs.Answers.{Respects};
 ghost use Rattle.comemo_track.specs.InputLaws.{equal_if_one};
 ghost use Rattle.comemo_track.specs.WritingLaws.{done_both, done_keeps};
 ghost use Rattle.comemo_track.specs.Views.{place_of};
+ghost use Rattle.comemo_track.specs.Writing.{touched_by};
 
 use crate::track::{Call, Track, Tracked, Written};
 use crate::writing::TrackedMut;
@@ -16,7 +17,7 @@ use std::marker::Model;
 /// An input of a memoized function.
 ///
 /// What isn't tracked of it is its key; what is tracked answers calls. A contract knows what was done to an input by
-/// `did s t W`: t is s after the writes W, which change the answer of no read, nor the key. comemo's `Input`, with keys
+/// `did s t W`: t is s after the writes W, which change the answer of no read that they don't touch, nor the key. comemo's `Input`, with keys
 /// and answers themselves, which can be refused.
 pub trait Input {
     /// What the input can be asked.
@@ -71,9 +72,10 @@ pub trait Input {
     ghost joins: { (s t u : Self) (V W : List Self.Call)
         → did s t V → did t u W → did s u (V ++ W) };
 
-    // no write changes the answer of a read
+    // no write changes the answer of a read that none touches
     ghost keeps: { (s t : Self) (W : List Self.Call)
         → did s t W → (call : Self.Call) → Self.Call.is_write call ≡ false
+        → touched_by Self.Call.touches W call ≡ false
         → IsTrue (Self.Answer.eq (answers s call) (answers t call)) };
 
     // nor the key
@@ -115,7 +117,7 @@ impl<'a, K: Clone + Eq + Hash, T: Track> Input for Keyed<'a, K, T> {
 
     ghost joins = { λ s t u V W a b. (b.0 ∙ a.0, b.1 ∙ a.1) };
 
-    ghost keeps = { λ s t W a call reads. equal_if_one T.Answer.Eq.laws _ _
+    ghost keeps = { λ s t W a call reads un. equal_if_one T.Answer.Eq.laws _ _
         (ap (λ view. T.answers view call) a.1) };
 
     ghost keeps_key = { λ s t W a. equal_if_one K.Eq.laws _ _ a.0 };
@@ -166,13 +168,13 @@ impl<'a, K: Clone + Eq + Hash, T: Track> Input for KeyedMut<'a, K, T> {
     ghost starts = { λ s. (refl, refl, refl) };
 
     ghost joins = { λ s t u V W a b. (
-      done_both T.wrote T.Call.is_write T.Answer.eq T.answers
+      done_both T.wrote T.Call.is_write T.Call.touches T.Answer.eq T.answers
           s.value.now t.value.now u.value.now V W a.0 b.0,
       b.1 ∙ a.1,
       b.2 ∙ a.2,
     ) };
 
-    ghost keeps = { λ s t W a. done_keeps T.wrote T.Call.is_write T.Answer.eq T.answers
+    ghost keeps = { λ s t W a. done_keeps T.wrote T.Call.is_write T.Call.touches T.Answer.eq T.answers
         T.Answer.Eq.laws s.value.now t.value.now W a.0 };
 
     ghost keeps_key = { λ s t W a. equal_if_one K.Eq.laws _ _ a.2 };
@@ -213,7 +215,7 @@ impl<'a, T: Track> Input for Tracked<'a, T> {
 
     ghost joins = { λ s t u V W a b. b ∙ a };
 
-    ghost keeps = { λ s t W a call reads. equal_if_one T.Answer.Eq.laws _ _
+    ghost keeps = { λ s t W a call reads un. equal_if_one T.Answer.Eq.laws _ _
         (ap (λ view. T.answers view call) a) };
 
     ghost keeps_key = { λ _ _ _ _. refl };
@@ -254,7 +256,7 @@ impl<'a, T: Track> Input for &mut Tracked<'a, T> {
 
     ghost joins = { λ s t u V W a b. (b.0 ∙ a.0, b.1 ∙ a.1) };
 
-    ghost keeps = { λ s t W a call reads. equal_if_one T.Answer.Eq.laws _ _
+    ghost keeps = { λ s t W a call reads un. equal_if_one T.Answer.Eq.laws _ _
         (ap (λ view. T.answers view call) a.0) };
 
     ghost keeps_key = { λ s t W a. refl };
@@ -295,13 +297,13 @@ impl<'a, T: Track> Input for TrackedMut<'a, T> {
     ghost starts = { λ s. (refl, refl) };
 
     ghost joins = { λ s t u V W a b. (
-      done_both T.wrote T.Call.is_write T.Answer.eq T.answers
+      done_both T.wrote T.Call.is_write T.Call.touches T.Answer.eq T.answers
           (place_of s).now (place_of t).now (place_of u).now V W a.0 b.0,
       b.1 ∙ a.1,
     ) };
 
     ghost keeps = { λ s t W a.
-        done_keeps T.wrote T.Call.is_write T.Answer.eq T.answers T.Answer.Eq.laws (place_of s).now (place_of t).now W a.0 };
+        done_keeps T.wrote T.Call.is_write T.Call.touches T.Answer.eq T.answers T.Answer.Eq.laws (place_of s).now (place_of t).now W a.0 };
 
     ghost keeps_key = { λ _ _ _ _. refl };
 
@@ -341,14 +343,14 @@ impl<'a, T: Track> Input for &mut TrackedMut<'a, T> {
     ghost starts = { λ s. (refl, refl, refl) };
 
     ghost joins = { λ s t u V W a b. (
-      done_both T.wrote T.Call.is_write T.Answer.eq T.answers
+      done_both T.wrote T.Call.is_write T.Call.touches T.Answer.eq T.answers
           (place_of s.now).now (place_of t.now).now (place_of u.now).now V W a.0 b.0,
       b.1 ∙ a.1,
       b.2 ∙ a.2,
     ) };
 
     ghost keeps = { λ s t W a.
-        done_keeps T.wrote T.Call.is_write T.Answer.eq T.answers T.Answer.Eq.laws (place_of s.now).now (place_of t.now).now W a.0 };
+        done_keeps T.wrote T.Call.is_write T.Call.touches T.Answer.eq T.answers T.Answer.Eq.laws (place_of s.now).now (place_of t.now).now W a.0 };
 
     ghost keeps_key = { λ _ _ _ _. refl };
 
@@ -403,7 +405,7 @@ impl<T: Clone + Eq + Hash> Input for Hashed<T> {
 
     ghost joins = { λ s t u V W a b. b ∙ a };
 
-    ghost keeps = { λ _ _ _ _ _ _. refl };
+    ghost keeps = { λ _ _ _ _ _ _ _. refl };
 
     ghost keeps_key = { λ s t W a. equal_if_one T.Eq.laws _ _ a };
 

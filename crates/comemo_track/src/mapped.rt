@@ -9,8 +9,8 @@ use std::alloc::AllocError;
 
 /// Sends calls to calls and answers to answers.
 ///
-/// Different calls go to different calls, reads to reads and writes to writes, and different answers to different
-/// answers. This project's own; comemo takes a closure for it.
+/// Different calls go to different calls, reads to reads and writes to writes, which touch the same reads, and different
+/// answers to different answers. This project's own; comemo takes a closure for it.
 pub trait CallMap {
     /// The calls that are sent.
     type From: Call;
@@ -41,6 +41,10 @@ pub trait CallMap {
     // reads go to reads and writes to writes
     ghost same_kind: { (s : Self) (call : Self.From)
         → Self.To.is_write (maps s call) ≡ Self.From.is_write call };
+
+    // a write touches a read exactly where their images do
+    ghost same_touch: { (s : Self) (x y : Self.From)
+        → Self.To.touches (maps s x) (maps s y) ≡ Self.From.touches x y };
 
     // calls are equal exactly where their images are
     ghost apart: { (s : Self) (x y : Self.From)
@@ -89,18 +93,22 @@ impl<'a, S: Sink<Call = M::To, Answer = M::ToAnswer>, M: CallMap> Sink for Mappe
 
     type Answer = M::FromAnswer;
 
-    ghost use Rattle.comemo_track.specs.Mapped.{MapsTook, MapsSpoils};
-    ghost use Rattle.comemo_track.specs.MappedLaws.{maps_nothing, maps_both, maps_keeps, maps_held, maps_holds, maps_spoiled};
+    ghost use Rattle.comemo_track.specs.Mapped.{MapsTook, MapsSpoils, MapsLates};
+    ghost use Rattle.comemo_track.specs.MappedLaws.{maps_nothing, maps_both, maps_more, maps_keeps, maps_held, maps_holds, maps_spoiled, maps_marked};
 
     ghost took = { MapsTook S.took M.maps M.maps_answer };
 
     ghost spoils = { MapsSpoils S.spoils };
+
+    ghost lates = { MapsLates S.lates };
 
     ghost holds = { λ s call. S.holds s.sink.now (M.maps s.map call) };
 
     ghost starts = { maps_nothing S.starts };
 
     ghost joins = { maps_both S.joins };
+
+    ghost adds = { maps_more S.adds };
 
     ghost keeps = { maps_keeps S.keeps };
 
@@ -109,6 +117,8 @@ impl<'a, S: Sink<Call = M::To, Answer = M::ToAnswer>, M: CallMap> Sink for Mappe
     ghost holds_taken = { maps_holds M.From.eq M.To.eq M.apart S.holds_taken };
 
     ghost spoiled_holds = { maps_spoiled M.maps S.spoiled_holds };
+
+    ghost late_holds = { maps_marked M.maps S.late_holds };
 
     ghost room = { λ s. S.room s.sink.now };
 
@@ -142,6 +152,10 @@ impl<'a, S: Sink<Call = M::To, Answer = M::ToAnswer>, M: CallMap> Sink for Mappe
 
     fn spoil(&mut self) {
         self.sink.spoil();
+    }
+
+    fn late(&mut self) {
+        self.sink.late();
     }
 
     fn keeps_nothing(&self) -> bool {

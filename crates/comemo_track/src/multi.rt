@@ -1,6 +1,6 @@
 //! Inputs joined: several arguments of a memoized function as one input.
 ghost use Rattle.std.specs.Prelude.{◌≡◌, refl};
-ghost use Rattle.std.proofs.Common.{ap, ◌∙◌, rules};
+ghost use Rattle.std.proofs.Common.{ap, ◌∙◌, sym, rules};
 
 use crate::input::Input;
 use crate::mapped::CallMap;
@@ -20,10 +20,12 @@ pub enum MultiCall<A, B> {
 }
 
 impl<A: Call, B: Call> Call for MultiCall<A, B> {
-    ghost use Rattle.comemo_track.specs.Multi.{by_part};
+    ghost use Rattle.comemo_track.specs.Multi.{by_part, part_touches};
     ghost use Rattle.comemo_track.specs.MultiLaws.{by_parts};
 
     ghost is_write = { by_part A.is_write B.is_write };
+
+    ghost touches = { part_touches A.touches B.touches };
 
     ghost same_kind = { by_parts _ A.same_kind B.same_kind
         (λ c d h. Prim.search rules) (λ c d h. Prim.search rules) };
@@ -35,6 +37,15 @@ impl<A: Call, B: Call> Call for MultiCall<A, B> {
         match self {
             MultiCall::A(call) => call.is_mutable(),
             MultiCall::B(call) => call.is_mutable(),
+        }
+    }
+
+    /// Calls of different parts don't touch each other.
+    fn touches(&self, read: &MultiCall<A, B>) -> bool {
+        match (self, read) {
+            (MultiCall::A(call), MultiCall::A(read)) => call.touches(read),
+            (MultiCall::B(call), MultiCall::B(read)) => call.touches(read),
+            _ => false,
         }
     }
 }
@@ -78,7 +89,7 @@ impl Input for Multi<()> {
 
     ghost joins = { λ s t u V W a b. b ∙ a };
 
-    ghost keeps = { λ _ _ _ _ _ _. refl };
+    ghost keeps = { λ _ _ _ _ _ _ _. refl };
 
     ghost keeps_key = { λ _ _ _ _. refl };
 
@@ -104,7 +115,7 @@ impl<A: Input, B: Input> Input for Multi<(A, B)> {
     type Answer = MultiAnswer<A::Answer, B::Answer>;
 
     ghost use Rattle.comemo_track.specs.Multi.{part_answers, firsts, seconds};
-    ghost use Rattle.comemo_track.specs.MultiLaws.{by_each, by_parts, both_did};
+    ghost use Rattle.comemo_track.specs.MultiLaws.{by_each, by_parts, both_did, touched_firsts, touched_seconds};
 
     ghost key_of = { λ s. (A.key_of s.0.0, B.key_of s.0.1) };
 
@@ -120,7 +131,10 @@ impl<A: Input, B: Input> Input for Multi<(A, B)> {
     ghost joins = { λ s t u. both_did A.joins B.joins s.0 t.0 u.0 };
 
     ghost keeps = { λ s t W a. by_each _
-        (A.keeps s.0.0 t.0.0 (firsts W) a.0) (B.keeps s.0.1 t.0.1 (seconds W) a.1) };
+        (λ c read un. A.keeps s.0.0 t.0.0 (firsts W) a.0 c read
+            (sym (touched_firsts A.Call.touches B.Call.touches W c) ∙ un))
+        (λ c read un. B.keeps s.0.1 t.0.1 (seconds W) a.1 c read
+            (sym (touched_seconds A.Call.touches B.Call.touches W c) ∙ un)) };
 
     ghost keeps_key = { λ s t W a.
         let first = A.keeps_key s.0.0 t.0.0 (firsts W) a.0 in
@@ -187,6 +201,8 @@ impl<A: Call, B: Call, RA: Clone + Ord, RB: Clone + Ord> CallMap for First<A, B,
 
     ghost same_kind = { λ _ _. refl };
 
+    ghost same_touch = { λ _ _ _. refl };
+
     ghost apart = { λ _ _ _. refl };
 
     ghost answers_apart = { λ _ _ _. refl };
@@ -235,6 +251,8 @@ impl<A: Call, B: Call, RA: Clone + Ord, RB: Clone + Ord> CallMap for Second<A, B
     ghost maps_answer = { λ _. second_answer };
 
     ghost same_kind = { λ _ _. refl };
+
+    ghost same_touch = { λ _ _ _. refl };
 
     ghost apart = { λ _ _ _. refl };
 

@@ -3,7 +3,7 @@ ghost use Rattle.std.specs.Prelude.{◌≡◌, ◌≤◌, ◌+◌, ◌^◌, ◌|
 ghost use Rattle.std.proofs.Common.{◌∙◌, inl};
 ghost use Rattle.comemo_base.specs.Answers.{Respects};
 ghost use Rattle.comemo_base.specs.Sequence.{held};
-ghost use Rattle.comemo_track.specs.Sending.{sent_pairs, sent_writes, Asks, BreaksOff, SpoiledAfter};
+ghost use Rattle.comemo_track.specs.Sending.{sent_pairs, sent_writes, Asks, BreaksOff, SpoiledAfter, TookAs};
 ghost use Rattle.comemo_track.specs.Views.{value_of, sink_of, place_of, place_in, writing_sink_of};
 ghost use Rattle.comemo_track.specs.Writing.{SameReads, Done};
 
@@ -25,6 +25,17 @@ pub trait Call: Clone + Eq + Hash {
     fn is_mutable(&self) -> bool
         ensures { result ≡ is_write self.now };
 
+    // whether a write touches a read, whose answer it may change
+    ghost touches: { Self → Self → Bool };
+
+    /// Whether a write touches a read: it leaves the answers of all reads that it does not touch.
+    ///
+    /// It is asked of a write, and of a read. This project's own: comemo's writes change no read's answer.
+    fn touches(&self, read: &Self) -> bool
+        requires write { is_write self.now ≡ true }
+        requires read { is_write read.now ≡ false }
+        ensures { result ≡ touches self.now read.now };
+
     // equal calls are both reads or both writes
     ghost same_kind: { (x y : Self) → IsTrue (Self.eq x y) → is_write x ≡ is_write y };
 
@@ -38,6 +49,8 @@ impl Call for () {
 
     ghost is_write = { λ _. false };
 
+    ghost touches = { λ _ _. false };
+
     ghost same_kind = { λ _ _ _. refl };
 
     ghost clones = { λ x y h. Prim.search rules };
@@ -45,12 +58,16 @@ impl Call for () {
     fn is_mutable(&self) -> bool {
         false
     }
+
+    fn touches(&self, _read: &()) -> bool {
+        false
+    }
 }
 
 /// What takes note of calls, as a recording does.
 ///
 /// A contract knows a sink by what it took: `took s t P W` says that t is s after it took the pairs P, each a read with
-/// its answer, and the writes W. comemo's `Sink`, by `&mut self`, and it can be refused memory.
+/// its answer, and then the writes W. comemo's `Sink`, by `&mut self`, and it can be refused memory.
 pub trait Sink {
     /// What it takes note of.
     type Call: Call;
@@ -64,6 +81,9 @@ pub trait Sink {
     // t is s as it was, but spoiled
     ghost spoils: { Self → Self → Type 0 };
 
+    // t is s as it was, but late
+    ghost lates: { Self → Self → Type 0 };
+
     // whether a read is held, so that it is not taken again
     ghost holds: { Self → Self.Call → Bool };
 
@@ -72,7 +92,7 @@ pub trait Sink {
 
     /// Takes note of a call: a read with its answer, or a write with `None`.
     ///
-    /// It answers false for a read that is held already, which changes nothing, and else true: a write is always added.
+    /// It answers false for a read that is held already, which is not taken again, and else true: a write is always added.
     /// An error says that there was no memory, and changes nothing; the call and its answer are gone then. It never
     /// comes for a write while there is room. comemo's `Sink::emit`.
     fn emit(&mut self, call: Self::Call, answer: Option<Self::Answer>) -> Result<bool, AllocError>
@@ -97,6 +117,11 @@ pub trait Sink {
     fn spoil(&mut self)
         ensures { spoils self.old self.new };
 
+    /// Marks what the sink holds as late, and changes nothing else: a recording that is late is never stored. It takes no
+    /// memory. This project's own.
+    fn late(&mut self)
+        ensures { lates self.old self.new };
+
     /// Whether the sink is the same whatever it takes, so that a caller need not make clones for it.
     ///
     /// A sink that keeps what it takes need not say so. This project's own.
@@ -111,19 +136,25 @@ pub trait Sink {
     // nothing taken is nothing done
     ghost starts: { (s : Self) → took s s [] [] };
 
-    // what is taken in two parts is taken
+    // what is taken after reads alone is taken with them
     ghost joins: { (s t u : Self)
-        (P Q : List (Self.Call × Self.Answer)) (V W : List Self.Call)
-        → took s t P V → took t u Q W → took s u (P ++ Q) (V ++ W) };
+        (P Q : List (Self.Call × Self.Answer)) (W : List Self.Call)
+        → took s t P [] → took t u Q W → took s u (P ++ Q) W };
+
+    // writes that are taken afterwards are taken with what was taken before
+    ghost adds: { (s t u : Self)
+        (P : List (Self.Call × Self.Answer)) (V W : List Self.Call)
+        → took s t P V → took t u [] W → took s u P (V ++ W) };
 
     // what is held stays held
     ghost keeps: { (s t : Self)
         (P : List (Self.Call × Self.Answer)) (W : List Self.Call) (call : Self.Call)
         → took s t P W → IsTrue (holds s call) → IsTrue (holds t call) };
 
-    // a read that is held changes nothing
-    ghost held_again: { (s t : Self) (call : Self.Call) (answer : Self.Answer)
-        → IsTrue (holds s call) → took s t ((call, answer) ∷ []) [] → took s t [] [] };
+    // of a read that is held it takes no answer
+    ghost held_again: { (s t : Self) (call : Self.Call) (answer other : Self.Answer)
+        → IsTrue (holds s call) → took s t ((call, answer) ∷ []) []
+        → took s t ((call, other) ∷ []) [] };
 
     // what is held was held before, or was taken
     ghost holds_taken: { (s t : Self)
@@ -134,6 +165,10 @@ pub trait Sink {
     // a sink that is spoiled holds what it held
     ghost spoiled_holds: { (s t : Self) (call : Self.Call)
         → spoils s t → holds t call ≡ holds s call };
+
+    // so does a sink that is marked late
+    ghost late_holds: { (s t : Self) (call : Self.Call)
+        → lates s t → holds t call ≡ holds s call };
 }
 
 /// What a sink is after something broke off, for contracts to cite, as `⟦<S as Breaking>⟧.breaks_off`.
@@ -146,12 +181,18 @@ pub trait Breaking: Sink {
     // t is s after it took these pairs and these writes, and then was spoiled
     ghost spoiled_after: { Self → Self
         → List (Self.Call × Self.Answer) → List Self.Call → Type 0 };
+
+    // t is s after it took these pairs and these writes, and where they are late, was marked so
+    ghost took_as: { Bool → Self → Self
+        → List (Self.Call × Self.Answer) → List Self.Call → Type 0 };
 }
 
 impl<S: Sink> Breaking for S {
     ghost breaks_off = { BreaksOff S.took S.spoils };
 
     ghost spoiled_after = { SpoiledAfter S.took S.spoils };
+
+    ghost took_as = { TookAs S.took S.lates };
 }
 
 /// A sink by reference: what it is sent goes to the sink that it refers to. It takes no memory of its own.
@@ -166,19 +207,26 @@ impl<S: Sink> Sink for &mut S {
 
     ghost spoils = { λ s t. S.spoils s.now t.now × (t.ghost_name ≡ s.ghost_name) };
 
+    ghost lates = { λ s t. S.lates s.now t.now × (t.ghost_name ≡ s.ghost_name) };
+
     ghost holds = { λ s call. S.holds s.now call };
 
     ghost starts = { λ s. (S.starts s.now, refl) };
 
-    ghost joins = { λ s t u P Q V W a b. (S.joins s.now t.now u.now P Q V W a.0 b.0, b.1 ∙ a.1) };
+    ghost joins = { λ s t u P Q W a b. (S.joins s.now t.now u.now P Q W a.0 b.0, b.1 ∙ a.1) };
+
+    ghost adds = { λ s t u P V W a b. (S.adds s.now t.now u.now P V W a.0 b.0, b.1 ∙ a.1) };
 
     ghost keeps = { λ s t P W call a h. S.keeps s.now t.now P W call a.0 h };
 
-    ghost held_again = { λ s t call answer h a. (S.held_again s.now t.now call answer h a.0, a.1) };
+    ghost held_again = { λ s t call answer other h a.
+        (S.held_again s.now t.now call answer other h a.0, a.1) };
 
     ghost holds_taken = { λ s t P W call a h. S.holds_taken s.now t.now P W call a.0 h };
 
     ghost spoiled_holds = { λ s t call a. S.spoiled_holds s.now t.now call a.0 };
+
+    ghost late_holds = { λ s t call a. S.late_holds s.now t.now call a.0 };
 
     ghost room = { λ s. S.room s.now };
 
@@ -208,6 +256,10 @@ impl<S: Sink> Sink for &mut S {
 
     fn spoil(&mut self) {
         (**self).spoil();
+    }
+
+    fn late(&mut self) {
+        (**self).late();
     }
 
     fn keeps_nothing(&self) -> bool {
@@ -244,19 +296,25 @@ impl<C: Call, R: Clone + Ord> Sink for Top<C, R> {
 
     ghost spoils = { λ _ _. ⊤ };
 
+    ghost lates = { λ _ _. ⊤ };
+
     ghost holds = { λ _ _. false };
 
     ghost starts = { λ _. tt };
 
-    ghost joins = { λ _ _ _ _ _ _ _ _ _. tt };
+    ghost joins = { λ _ _ _ _ _ _ _ _. tt };
+
+    ghost adds = { λ _ _ _ _ _ _ _ _. tt };
 
     ghost keeps = { λ _ _ _ _ _ _ h. h };
 
-    ghost held_again = { λ _ _ _ _ _ _. tt };
+    ghost held_again = { λ _ _ _ _ _ _ _. tt };
 
     ghost holds_taken = { λ _ _ _ _ _ _ h. inl h };
 
     ghost spoiled_holds = { λ _ _ _ _. refl };
+
+    ghost late_holds = { λ _ _ _ _. refl };
 
     // more than can be asked for
     ghost room = { λ _. 2 ^ 64 };
@@ -274,6 +332,8 @@ impl<C: Call, R: Clone + Ord> Sink for Top<C, R> {
     }
 
     fn spoil(&mut self) {}
+
+    fn late(&mut self) {}
 
     fn keeps_nothing(&self) -> bool
         ensures { result ≡ true }
@@ -309,15 +369,17 @@ pub trait Track {
     // what a write does: the value before it, the write, and the value after it
     ghost wrote: { Self → Self.Call → Self → Type 0 } = { λ _ _ _. ⊤ };
 
-    /// Does a write, which changes no read's answer. An error says that it was refused, and then nothing changes. What it
-    /// does with a read is left open, but that it changes no read's answer either: it is handed none.
+    /// Does a write, which changes the answer of no read that it does not touch. An error says that it was refused, and
+    /// then nothing changes. What it does with a read is left open, but that it changes no such answer either: it is
+    /// handed none.
     ///
     /// A type without writes does not write this method. comemo's `Track::call_mut`, which can't be refused.
     fn call_mut(&mut self, call: &Self::Call) -> Result<(), AllocError>
         ensures ok { Self.Call.is_write call.now ≡ true
             → OnOk result (wrote self.old call.now self.new) }
         ensures reads { OnOk result
-            (SameReads Self.Call.is_write Self.Answer.eq (answers self.old) (answers self.new)) }
+            (SameReads Self.Call.is_write (Self.Call.touches call.now) Self.Answer.eq
+            (answers self.old) (answers self.new)) }
         ensures err { OnErr result (self.new ≡ self.old) }
     {
         let _ = call;
@@ -399,12 +461,12 @@ pub trait Track {
 ///
 /// There is nothing to implement. This project's own.
 pub trait Written: Track {
-    // t is s after these writes, in order, of which none changed the answer of a read
+    // t is s after these writes, in order, of which none changed the answer of a read that it does not touch
     ghost did: { Self → Self → List Self.Call → Type 0 };
 }
 
 impl<T: Track> Written for T {
-    ghost did = { Done T.wrote T.Call.is_write T.Answer.eq T.answers };
+    ghost did = { Done T.wrote T.Call.is_write T.Call.touches T.Answer.eq T.answers };
 }
 
 /// Nothing: what is tracked of a function that asks nothing. It takes no memory and refuses nothing.

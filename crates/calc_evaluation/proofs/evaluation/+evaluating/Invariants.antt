@@ -2,9 +2,10 @@ use Rattle.std.proofs.Common.{◌≡◌, ◌<◌, ◌+◌, ◌-◌, ◌*◌, len
 use Rattle.comemo.specs.Function.{Learns}
 use Rattle.calc_scripts.proofs.Calls.{Led}
 use Rattle.calc_scripts.proofs.Totals.{Leaves}
-use Rattle.calc_files.specs.Files.{OnFiles, answers_of}
+use Rattle.comemo.specs.Settling.{Settles}
+use Rattle.calc_files.specs.Files.{answers_of}
 use Rattle.calc_files.specs.Joined.{same_call, same_answer}
-use Rattle.calc_evaluation.specs.Evaluations.{At}
+use Rattle.calc_evaluation.specs.Evaluations.{At, In, ScriptAsks, LeftAsk}
 use Rattle.calc_files.specs.Joined.{FilesFit}
 use Rattle.calc_evaluation.specs.Calls.{moves}
 use Rattle.calc_evaluation.proofs.evaluation.+evaluating.Given as goal
@@ -19,13 +20,15 @@ abbrev pub decreases-evaluate_within : goal.decreases-evaluate_within
 decreases-evaluate_within l = 3 * l.limit
 
 -- the parts so far are no higher than the limit allows, and the files fit what is recorded, with no write; whichever answers
--- fit it, what the parts left come to after those so far, the script comes to; and where the parts left lead, the run leads
+-- fit it, what the parts left come to after those so far, the script comes to; what the script asks for is recorded, or the parts
+-- left ask for it; and where the parts left lead, the run leads
 abbrev pub invariant-run_script-loop-part : goal.invariant-run_script-loop-part
 invariant-run_script-loop-part l = record {
   low : l.total.height < l.limit;
   fits : FilesFit l.files l.recording;
   writes : l.recording.writes ≡ l.fn.recording.writes;
-  learns : Learns same_call same_answer l.fn.recording l.recording (OnFiles (λ n. Leaves (At n) l.script l.parts l.total));
+  learns : Learns same_call same_answer l.fn.recording l.recording (λ m. Leaves (In m) l.script l.parts l.total);
+  asks : Settles same_call same_answer (ScriptAsks l.script) (LeftAsk l.parts l.total.sum) l.fn.recording.pairs l.recording.pairs;
   led : Led (At (answers_of l.files)) (moves l.files) l.script l.parts l.total l.fn.cache l.cache;
 }
 

@@ -43,7 +43,7 @@ pub returns-then-outcome-limit-clause-deep : goal.returns-then-outcome-limit-cla
 returns-then-outcome-limit-clause-deep g c = λ _.
     let m = answers_of c.args.files.now in
     let (hit, touched) = rw (c.in-Ok-Hit.is, c.in-Ok-Hit.field-0-is, c.fork.ensures) at c.begin.ensures.hit in
-    let means = hit.right.1 m (λ c. refl) in
+    let means = hit.right.1 in
     deep_of_height (At m) (subst (λ script. Means (At m) script c.in-Ok-Hit.outcome.value c.in-Ok-Hit.outcome.height) c.in-Ok.ensures.ok means) c.args.limit c.if-outcome-limit.true
 
 pub returns-in-Ok-Hit-clause-begun : goal.returns-in-Ok-Hit-clause-begun

@@ -1,10 +1,12 @@
-use Rattle.std.proofs.Common.{refl, ap, Err}
-use Rattle.comemo.proofs.Calls.{reply_by_run, broke_at_end}
+use Rattle.std.proofs.Common.{refl, sym, subst, ap, Err}
+use Rattle.comemo.specs.Runs.{IsRun}
+use Rattle.comemo.proofs.Calls.{broke_at_end}
+use Rattle.calc_evaluation.proofs.Asking.{script_run, script_settled, settled_hit, replied_run}
 use Rattle.comemo.proofs.KeyedViews.{keyed_calls, keyed_answers}
 use Rattle.calc_scripts.specs.Calls.{is_refused, is_broken, has_no_end}
 use Rattle.calc_files.specs.Files.{answers_of, with_key}
-use Rattle.calc_files.specs.Joined.{same_answer}
-use Rattle.calc_evaluation.specs.Evaluations.{evaluating}
+use Rattle.calc_files.specs.Joined.{same_call, same_answer}
+use Rattle.calc_evaluation.specs.Evaluations.{ScriptAsks, evaluating}
 use Rattle.calc_evaluation.proofs.Evaluations.{script_given, run_stands, of_files, exact_at_ok, exact_at_fault}
 use Rattle.calc_files.proofs.WhatReadsTell.{broke_at_once}
 use Rattle.calc_evaluation.proofs.Calls.{missed_by_run, led_by_reply}
@@ -19,7 +21,7 @@ returns-in-Ok-Hit-clause-outcome g c =
 pub returns-in-Ok-Hit-clause-reply : goal.returns-in-Ok-Hit-clause-reply
 returns-in-Ok-Hit-clause-reply g c =
     let (key, same, hit) = rw (c.in-Ok-Hit.is, c.in-Ok-Hit.field-0-is) at c.begin_script.ensures.begun in
-    record { key = key; names = same; mid = c.args.cache.now; calls = λ not. absurd (not refl); is_reply = hit.1 }
+    record { key = key; names = same; mid = c.args.cache.now; calls = λ not. absurd (not refl); is_reply = hit.1; settled = settled_hit c.args.files.now same c.is_settled.ensures hit.1 }
 
 pub returns-in-Ok-Hit-clause-led : goal.returns-in-Ok-Hit-clause-led
 returns-in-Ok-Hit-clause-led g c = led_by_reply c.args.files.now (returns-in-Ok-Hit-clause-reply g c)
@@ -29,10 +31,15 @@ returns-in-Ok-Hit-clause-too_deep g c =
     let (key, same, hit) = rw (c.in-Ok-Hit.is, c.in-Ok-Hit.field-0-is) at c.begin_script.ensures.begun in
     exact_at_ok c.args.files.now (script_given c.args.files.now same hit.1) hit.0
 
-pub finish-requires : goal.finish-requires
-finish-requires g c = λ whole.
+pub finish-requires-clause-settled : goal.finish-requires-clause-settled
+finish-requires-clause-settled g c = λ whole early.
     let (key, same, run) = rw (c.in-Ok-Run.is, c.in-Ok-Run.field-0-is) at c.begin_script.ensures.begun in
-    run_stands _ _ _ key c.in-Ok-Run.pending.key _ same run.2.has_key (rw c.recording.ensures.value run.2.writes) c.in-Ok.ensures.writes c.in-Ok.ensures.learns whole
+    script_settled key c.in-Ok-Run.pending.key _ same run.2.has_key (script_run _ _ (rw c.recording.ensures.value run.2.pairs) c.in-Ok.ensures.asks)
+
+pub finish-requires-clause-stands : goal.finish-requires-clause-stands
+finish-requires-clause-stands g c = λ whole early.
+    let (key, same, run) = rw (c.in-Ok-Run.is, c.in-Ok-Run.field-0-is) at c.begin_script.ensures.begun in
+    run_stands _ _ _ key c.in-Ok-Run.pending.key _ same run.2.has_key (rw c.recording.ensures.value run.2.writes) c.in-Ok.ensures.writes c.in-Ok.ensures.learns whole early
 
 pub returns-in-Ok-finish-clause-outcome : goal.returns-in-Ok-finish-clause-outcome
 returns-in-Ok-finish-clause-outcome g c =
@@ -43,14 +50,8 @@ pub returns-in-Ok-finish-clause-reply : goal.returns-in-Ok-finish-clause-reply
 returns-in-Ok-finish-clause-reply g c =
     let (key, same, run) = rw (c.in-Ok-Run.is, c.in-Ok-Run.field-0-is) at c.begin_script.ensures.begun in
     let ran = c.in-Ok.ensures in
-    let stands = run_stands _ _ _ key c.in-Ok-Run.pending.key _ same run.2.has_key (rw c.recording.ensures.value run.2.writes) ran.writes ran.learns ran.fits.whole in
-    record {
-      key = key;
-      names = same;
-      mid = c.run_script.new.cache;
-      calls = λ _. rw (rw (c.in-Ok-Run.is, c.in-Ok-Run.field-0-is) at c.begin_script.ensures.kept) at ran.led;
-      is_reply = reply_by_run run.2 ran.fits.agrees stands (rw (c.in-Ok-finish.is, run.1) at c.finish.ensures.finished);
-    }
+    let stands = run_stands _ _ _ key c.in-Ok-Run.pending.key _ same run.2.has_key (rw c.recording.ensures.value run.2.writes) ran.writes ran.learns ran.fits.whole ran.fits.early in
+    replied_run c.args.files.now g.S.Sink.took g.S.Sink.lates same run.2 (rw (rw (c.in-Ok-Run.is, c.in-Ok-Run.field-0-is) at c.begin_script.ensures.kept) at ran.led) ran.fits.early ran.fits.agrees stands (rw (c.in-Ok-finish.is, run.1) at c.finish.ensures.finished) (script_run _ _ (rw c.recording.ensures.value run.2.pairs) ran.asks)
 
 pub returns-in-Ok-finish-clause-led : goal.returns-in-Ok-finish-clause-led
 returns-in-Ok-finish-clause-led g c = led_by_reply c.args.files.now (returns-in-Ok-finish-clause-reply g c)

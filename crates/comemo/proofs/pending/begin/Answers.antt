@@ -12,6 +12,7 @@ returns-in-Ok-Run-clause-run g c =
         pairs = c.new.ensures.pairs;
         writes = c.new.ensures.writes;
         whole = c.new.ensures.whole;
+        early = c.new.ensures.late;
         none = has.none;
       }) run.0,
       run.1,

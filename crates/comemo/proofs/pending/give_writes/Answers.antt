@@ -9,5 +9,5 @@ loop-call-preserved g c =
       serves = (tt, tt);
       writes = writes_left g.S.Call.Call.is_write _ _ c.in-Some.call step i.writes;
       room = room_left _ _ c.in-Some.call _ _ step i.room c.in-Ok-emit.ensures.room;
-      so_far = writes_more g.met.S.Sink.joins _ _ _ _ _ _ c.in-Some.call step c.in-Ok-emit.ensures.ok i.so_far;
+      so_far = writes_more g.met.S.Sink.adds _ _ _ _ _ _ c.in-Some.call step c.in-Ok-emit.ensures.ok i.so_far;
     }

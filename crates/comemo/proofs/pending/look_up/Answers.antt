@@ -16,7 +16,7 @@ use Rattle.comemo.proofs.pending.look_up.Goals.{then-enabled+in-Ok-None, else-en
 
 pub returns-in-Ok-Some-clause-hit : goal.returns-in-Ok-Some-clause-hit
 returns-in-Ok-Some-clause-hit g c =
-    let M : Meaning g.row.M-Key.Denot g.row.M-Call.Denot g.row.M-Answer.Denot g.row.M-Out.Denot = record { same_call = g.M.Call.PartialEq.eq; same_answer = g.M.Answer.PartialEq.eq; same_key = g.M.Key.PartialEq.eq; is_write = g.M.Call.Call.is_write; is_clone = g.M.Out.Clone.is_clone; def = g.M.Memo.def } in
+    let M : Meaning g.row.M-Key.Denot g.row.M-Call.Denot g.row.M-Answer.Denot g.row.M-Out.Denot = record { same_call = g.M.Call.PartialEq.eq; same_answer = g.M.Answer.PartialEq.eq; same_key = g.M.Key.PartialEq.eq; is_write = g.M.Call.Call.is_write; is_clone = g.M.Out.Clone.is_clone; def = g.M.Memo.def; naming = g.M.Memo.naming } in
     let m = g.In.Input.answers c.args.input.now in
     let alike = turned g.met.M.Key.Eq.laws _ _ c.in-Ok.ensures in
     let stands = rw (c.in-Ok-Some.is, c.in-Ok-Some.field-0-is) at c.look.ensures.stands in
@@ -44,7 +44,7 @@ returns-in-Ok-Some-clause-hit g c =
 
 pub returns-clause-run : goal.returns-clause-run
 returns-clause-run g c =
-    let M : Meaning g.row.M-Key.Denot g.row.M-Call.Denot g.row.M-Answer.Denot g.row.M-Out.Denot = record { same_call = g.M.Call.PartialEq.eq; same_answer = g.M.Answer.PartialEq.eq; same_key = g.M.Key.PartialEq.eq; is_write = g.M.Call.Call.is_write; is_clone = g.M.Out.Clone.is_clone; def = g.M.Memo.def } in
+    let M : Meaning g.row.M-Key.Denot g.row.M-Call.Denot g.row.M-Answer.Denot g.row.M-Out.Denot = record { same_call = g.M.Call.PartialEq.eq; same_answer = g.M.Answer.PartialEq.eq; same_key = g.M.Key.PartialEq.eq; is_write = g.M.Call.Call.is_write; is_clone = g.M.Out.Clone.is_clone; def = g.M.Memo.def; naming = g.M.Memo.naming } in
     let m = g.In.Input.answers c.args.input.now in
     let alike = turned g.met.M.Key.Eq.laws _ _ c.in-Ok.ensures in
     let did : g.In.Input.did c.args.input.now c.if-enabled.input [] =
@@ -78,7 +78,7 @@ returns-in-Err-clause-err g c = (c.look.ensures.stays, c.look.ensures.same, held
 
 pub returns-in_err-output-in-Ok-Some-clause-err : goal.returns-in_err-output-in-Ok-Some-clause-err
 returns-in_err-output-in-Ok-Some-clause-err g c =
-    let M : Meaning g.row.M-Key.Denot g.row.M-Call.Denot g.row.M-Answer.Denot g.row.M-Out.Denot = record { same_call = g.M.Call.PartialEq.eq; same_answer = g.M.Answer.PartialEq.eq; same_key = g.M.Key.PartialEq.eq; is_write = g.M.Call.Call.is_write; is_clone = g.M.Out.Clone.is_clone; def = g.M.Memo.def } in
+    let M : Meaning g.row.M-Key.Denot g.row.M-Call.Denot g.row.M-Answer.Denot g.row.M-Out.Denot = record { same_call = g.M.Call.PartialEq.eq; same_answer = g.M.Answer.PartialEq.eq; same_key = g.M.Key.PartialEq.eq; is_write = g.M.Call.Call.is_write; is_clone = g.M.Out.Clone.is_clone; def = g.M.Memo.def; naming = g.M.Memo.naming } in
     let m = g.In.Input.answers c.args.input.now in
     let alike = turned g.met.M.Key.Eq.laws _ _ c.in-Ok.ensures in
     let stands = rw (c.in-Ok-Some.is, c.in-Ok-Some.field-0-is) at c.look.ensures.stands in

@@ -9,7 +9,7 @@ loop-write-preserved g c =
       serves = (tt, tt);
       writes = writes_left g.In.Call.Call.is_write _ _ c.in-Some.write step i.writes;
       room = room_left _ _ c.in-Some.write _ _ step i.room c.in-Ok-emit.ensures.room;
-      so_far = done_more g.met.In.Input.joins g.met.S.Sink.joins _ _ _ _ _ _ _ _ _ c.in-Some.write step (c.in-Ok.ensures.ok (head_write g.In.Call.Call.is_write _ _ c.in-Some.write step i.writes)) c.in-Ok-emit.ensures.ok i.so_far;
+      so_far = done_more g.met.In.Input.joins g.met.S.Sink.adds _ _ _ _ _ _ _ _ _ c.in-Some.write step (c.in-Ok.ensures.ok (head_write g.In.Call.Call.is_write _ _ c.in-Some.write step i.writes)) c.in-Ok-emit.ensures.ok i.so_far;
     }
 
 pub returns-in_default-clause-err : goal.returns-in_default-clause-err

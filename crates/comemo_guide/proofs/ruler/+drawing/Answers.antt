@@ -11,8 +11,8 @@ draw-returns-in_err-owner-clause-tells g t c = failed_after c.in_ok-ruled.ensure
 pub draw-returns-clause-tells : goal.draw-returns-clause-tells
 draw-returns-clause-tells g t c =
     let low : suc (c.args.height - 1) ≡ c.args.height = omega (arith, c.if-height-eq0.false) in
-    let middle = writes_both (wrote c.in_ok-write.ensures.tells _ _ c.in_ok-write.ensures.sent) _ (writes_both (wrote c.in_ok-write-2.ensures.tells _ _ c.in_ok-write-2.ensures.sent) _ c.ruled-2.ensures.tells) in
-    writes_as c.ruled-2.result (writes_both c.in_ok-ruled.ensures.tells _ (writes_both (asked c.in_ok-owner.ensures.tells _ _ _ _ c.in_ok-owner.ensures.asks) _ middle)) (λ _ m W f h.
+    let middle = writes_both (wrote c.in_ok-write.ensures.tells _ _ _ c.in_ok-write.ensures.sent) _ (writes_both (wrote c.in_ok-write-2.ensures.tells _ _ _ c.in_ok-write-2.ensures.sent) _ c.ruled-2.ensures.tells) in
+    writes_as c.ruled-2.result (writes_both c.in_ok-ruled.ensures.tells _ (writes_both (asked c.in_ok-owner.ensures.tells _ _ _ _ _ c.in_ok-owner.ensures.asks) _ middle)) (λ _ m W f h.
     rw (h.2, h.3, h.4.2, h.4.3.0, h.4.4.2, h.4.4.3, h.4.4.4.2, h.4.4.4.3, h.4.4.4.4) (search (rules, low, h.4.3.1)))
 
 pub ruled-finish-requires-clause-right : goal.ruled-finish-requires-clause-right

@@ -4,12 +4,12 @@ use Rattle.comemo.proofs.function.Recorder.ask.Goals as goal
 pub invariant_of-self : goal.invariant_of-self
 invariant_of-self g c =
     let i = c.self.inside in
-    rw c.ask.ensures.same (asked_keeps g.met.T.Call.Eq.laws g.met.T.Answer.Eq.laws (g.T.Track.answers i.view) (g.met.T.Track.alike i.view) i.recording c.ask.new.sink c.self.invariant c.args.call c.ask.result c.ask.ensures.ok c.ask.ensures.err)
+    rw c.ask.ensures.same (asked_keeps g.T.Call.Call.touches g.met.T.Call.Eq.laws g.met.T.Answer.Eq.laws (g.T.Track.answers i.view) (g.met.T.Track.alike i.view) i.recording c.ask.new.sink c.self.invariant c.args.call c.ask.result c.ask.ensures.ok c.ask.ensures.err)
 
 pub invariant_of-self-2 : goal.invariant_of-self-2
 invariant_of-self-2 g c =
     let i = c.self.inside in
-    rw c.ask.ensures.same (asked_keeps g.met.T.Call.Eq.laws g.met.T.Answer.Eq.laws (g.T.Track.answers i.view) (g.met.T.Track.alike i.view) i.recording c.ask.new.sink c.self.invariant c.args.call c.ask.result c.ask.ensures.ok c.ask.ensures.err)
+    rw c.ask.ensures.same (asked_keeps g.T.Call.Call.touches g.met.T.Call.Eq.laws g.met.T.Answer.Eq.laws (g.T.Track.answers i.view) (g.met.T.Track.alike i.view) i.recording c.ask.new.sink c.self.invariant c.args.call c.ask.result c.ask.ensures.ok c.ask.ensures.err)
 
 pub returns-clause-tells : goal.returns-clause-tells
 returns-clause-tells g c =

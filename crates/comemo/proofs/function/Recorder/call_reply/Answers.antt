@@ -6,12 +6,12 @@ use Rattle.comemo.proofs.function.Recorder.call_reply.Goals as goal
 pub invariant_of-self : goal.invariant_of-self
 invariant_of-self g c =
     let i = c.self.inside in
-    held_keeps _ g.met.T.Call.Eq.laws g.met.T.Answer.Eq.laws _ _ _ _ (g.met.T.Track.alike i.view) i.recording c.memoized.new.sink c.self.invariant (λ output writes d. g.met.G.FunctionOf.reads c.args.key (g.T.Track.answers i.view) output writes d) _ c.memoized.result c.memoized.ensures.reply c.memoized.ensures.err
+    held_keeps _ g.T.Call.Call.touches g.met.T.Call.Eq.laws g.met.T.Answer.Eq.laws _ _ _ _ (g.met.T.Track.alike i.view) i.recording c.memoized.new.sink c.self.invariant (λ output writes d. g.met.G.FunctionOf.reads c.args.key (g.T.Track.answers i.view) output writes d) _ c.memoized.result c.memoized.ensures.reply c.memoized.ensures.err
 
 pub invariant_of-self-2 : goal.invariant_of-self-2
 invariant_of-self-2 g c =
     let i = c.self.inside in
-    held_keeps _ g.met.T.Call.Eq.laws g.met.T.Answer.Eq.laws _ _ _ _ (g.met.T.Track.alike i.view) i.recording c.memoized.new.sink c.self.invariant (λ output writes d. g.met.G.FunctionOf.reads c.args.key (g.T.Track.answers i.view) output writes d) _ c.memoized.result c.memoized.ensures.reply c.memoized.ensures.err
+    held_keeps _ g.T.Call.Call.touches g.met.T.Call.Eq.laws g.met.T.Answer.Eq.laws _ _ _ _ (g.met.T.Track.alike i.view) i.recording c.memoized.new.sink c.self.invariant (λ output writes d. g.met.G.FunctionOf.reads c.args.key (g.T.Track.answers i.view) output writes d) _ c.memoized.result c.memoized.ensures.reply c.memoized.ensures.err
 
 pub returns-clause-tells : goal.returns-clause-tells
 returns-clause-tells g c =

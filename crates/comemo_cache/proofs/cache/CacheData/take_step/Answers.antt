@@ -25,6 +25,13 @@ store-requires-clause-stands g c =
     let asks = rw c.in-Store.is at c.requires in
     rw (took.pairs, all) asks.0
 
+pub store-requires-clause-settled : goal.store-requires-clause-settled
+store-requires-clause-settled g c =
+    let (it, given, gives, drains, took) = c.in-Ok.ensures in
+    let all = drained c.in-Store.pairs.items given it gives.0 (gives.1 ∙ c.in-Store.pairs.ok.0) drains in
+    let asks = rw c.in-Store.is at c.requires in
+    rw (took.pairs, all) asks.3
+
 pub returns-in-Ok-store : goal.returns-in-Ok-store
 returns-in-Ok-store g c =
     let (it, given, gives, drains, took) = c.in-Ok.ensures in
@@ -41,4 +48,4 @@ pub returns-in-Err-MissingCall : goal.returns-in-Err-MissingCall
 returns-in-Err-MissingCall g c =
     let (it, given, gives, drains, took) = c.in-Ok.ensures in
     let all = drained c.in-Store.pairs.items given it gives.0 (gives.1 ∙ c.in-Store.pairs.ok.0) drains in
-    rw c.in-Store.is (rw (c.in-Err-MissingCall.field-0-is, took.pairs, all) at c.in-Err-MissingCall.ensures.reason, c.in-Err-MissingCall.ensures.err)
+    rw c.in-Store.is (c.in-Err-MissingCall.ensures.named c.in-Err-MissingCall.field-0-is, rw (c.in-Err-MissingCall.field-0-is, took.pairs, all) at c.in-Err-MissingCall.ensures.reason, c.in-Err-MissingCall.ensures.err)

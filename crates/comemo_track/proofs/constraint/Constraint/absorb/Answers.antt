@@ -7,4 +7,4 @@ use Rattle.comemo_track.proofs.constraint.Constraint.absorb.Goals as goal
 pub returns-then-is_err-clause-err : goal.returns-then-is_err-clause-err
 returns-then-is_err-clause-err g c =
     let r = c.absorb_parts-absorbed.result in
-    spoiled_at g.C.PartialEq.eq r c.args.self.now c.absorb_parts-absorbed.new.self _ c.absorb_parts-absorbed.ensures.err (ap (λ (s : Recording _ _). s.pairs) c.self.view_is) (ap (λ (s : Recording _ _). s.writes) c.self.view_is) (on_err r refl)
+    spoiled_at g.C.PartialEq.eq g.C.Call.touches r c.args.self.now c.absorb_parts-absorbed.new.self _ c.absorb_parts-absorbed.ensures.err (ap (λ (s : Recording _ _). s.pairs) c.self.view_is) (ap (λ (s : Recording _ _). s.writes) c.self.view_is) (ap (λ (s : Recording _ _). s.late) c.self.view_is) (on_err r refl)

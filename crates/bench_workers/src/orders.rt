@@ -1,0 +1,105 @@
+//! Runs of one function that ask the same questions at once, each in another order.
+ghost use Rattle.std.specs.Prelude.{◌≢◌, ⊤};
+ghost use Rattle.std.proofs.Common.{rules};
+
+use crate::gate::{Gate, Meeting, TURNS};
+use comemo::{Begun, Cache, Fault, Hold, How, Keyed, Memo, Reply, Top, Track, begin};
+use comemo_samples::{Context, ContextCall};
+use std::alloc::Global;
+use std::rt::Clock;
+use std::sync::Wait;
+use std::thread::{Threads, join};
+
+/// Nothing, of a run that asks where a context is and how it is set.
+struct Whole;
+
+impl Memo for Whole {
+    type Call = ContextCall;
+
+    type Key = ();
+
+    type Answer = u64;
+
+    type Out = ();
+
+    ghost use Rattle.comemo.specs.Meaning.{names};
+
+    ghost def = { λ _ _ _ _. ⊤ };
+
+    // both calls are asked, whatever is answered
+    ghost naming = { names (λ _ _ _. ⊤) };
+
+    ghost laws = { Prim.search rules };
+}
+
+/// A run that asks one question, waits at a gate, and then asks the other; none where the gate wasn't opened.
+fn whole_by<H: Hold<Whole>, G: Gate>(
+    alloc: Global,
+    cache: &mut H,
+    first: ContextCall,
+    second: ContextCall,
+    gate: &G,
+) -> Result<Option<Reply<()>>, Fault>
+    requires { first ≢ second }
+{
+    let context = Context {
+        location: 0,
+        styles: 40,
+    };
+    let mut input = Keyed {
+        key: (),
+        view: context.track(alloc),
+    };
+    let mut sink = Top::new();
+    match begin(alloc, cache, &mut input, &mut sink, true)? {
+        Begun::Hit(output) => Ok(Some(Reply {
+            output,
+            how: How::Hit,
+        })),
+        Begun::Run(mut pending) => {
+            let one = context.track(alloc).ask(first, pending.recording());
+            let other = context.track(alloc).ask(second, pending.recording());
+            if one.is_err() || other.is_err() || !gate.reach(1) {
+                pending.give_up(&mut sink);
+                return Ok(None);
+            }
+            let reply = pending.finish(cache, &mut sink, ())?;
+            Ok(Some(reply))
+        }
+    }
+}
+
+/// Whether of two runs that are open at once and ask the same questions in other orders one is stored, and the other is told that
+/// it is.
+pub fn two_runs_that_ask_in_turned_order<R: Threads + Wait + Clock + Sync>(
+    rt: &R,
+    alloc: Global,
+) -> Result<bool, Fault> {
+    let cache: Cache<Whole> = Cache::new(alloc);
+    let gate = Meeting::new(rt, 2, TURNS);
+    let (left, right) = join(
+        rt,
+        || whole_by(
+            alloc,
+            &mut cache.hold(rt),
+            ContextCall::Location,
+            ContextCall::Styles,
+            &gate,
+        ),
+        || whole_by(
+            alloc,
+            &mut cache.hold(rt),
+            ContextCall::Styles,
+            ContextCall::Location,
+            &gate,
+        ),
+    );
+    let (Some(left), Some(right)) = (left?, right?) else {
+        return Ok(false);
+    };
+    Ok(match left.how {
+        How::Stored => right.how == How::AlreadyExists,
+        How::AlreadyExists => right.how == How::Stored,
+        _ => false,
+    })
+}

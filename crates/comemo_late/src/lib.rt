@@ -1,0 +1,145 @@
+//! Functions that read a counter and write to it, before or after: those that read what they wrote are late.
+#![tactic(auto)]
+
+ghost use Rattle.std.specs.Prelude.{◌≡◌, [], ◌∷◌};
+ghost use Rattle.std.proofs.Common.{rules};
+ghost use Rattle.comemo.specs.MeaningLaws.{exact_laws};
+
+use comemo::{
+    BothMut, CacheData, Fault, FunctionMut, FunctionMutOf, Memo, MemoOfMut, MultiAnswer, MultiCall,
+    RecorderMut,
+};
+use comemo_samples::{Counter, CounterCall};
+
+#[cfg(test)]
+mod rows;
+
+/// Gives a counter's number, and then adds to it.
+pub struct Bump;
+
+impl FunctionMut for Bump {
+    type Key = u64;
+
+    type Of = Counter;
+
+    type Out = u64;
+
+    type Needs = ();
+
+    ghost use Rattle.comemo_samples.specs.declared.counter.CounterCall.TheVariants.{Get, Add};
+
+    ghost means = { λ k m out writes. (out ≡ m Get) × (writes ≡ Add k ∷ []) };
+
+    ghost laws = { exact_laws (λ x y h. Prim.search rules) (λ x y h. Prim.search rules)
+        (λ x y h. Prim.search rules) (λ a b h. Prim.search rules) };
+
+    fn run(
+        k: &u64,
+        counter: &mut RecorderMut<'_, '_, Counter>,
+        _needs: &mut (),
+    ) -> Result<u64, Fault> {
+        let number = counter.ask(CounterCall::Get)?;
+        counter.write(CounterCall::Add(*k))?;
+        Ok(number)
+    }
+}
+
+/// Adds to a counter, and then gives its number.
+pub struct Readback;
+
+impl FunctionMut for Readback {
+    type Key = u64;
+
+    type Of = Counter;
+
+    type Out = u64;
+
+    type Needs = ();
+
+    ghost use Rattle.comemo_samples.specs.declared.counter.CounterCall.TheVariants.{Add};
+
+    ghost means = { λ k _ _ writes. writes ≡ Add k ∷ [] };
+
+    ghost laws = { exact_laws (λ x y h. Prim.search rules) (λ x y h. Prim.search rules)
+        (λ x y h. Prim.search rules) (λ a b h. Prim.search rules) };
+
+    fn run(
+        k: &u64,
+        counter: &mut RecorderMut<'_, '_, Counter>,
+        _needs: &mut (),
+    ) -> Result<u64, Fault> {
+        counter.write(CounterCall::Add(*k))?;
+        let number = counter.ask(CounterCall::Get)?;
+        Ok(number)
+    }
+}
+
+/// Gives the sum of what `Bump` gives twice.
+pub struct Twice;
+
+impl FunctionMut for Twice {
+    type Key = u64;
+
+    type Of = Counter;
+
+    type Out = u64;
+
+    type Needs = CacheData<MemoOfMut<Bump>>;
+
+    ghost use Rattle.comemo_samples.specs.declared.counter.CounterCall.TheVariants.{Add};
+
+    ghost means = { λ k _ _ writes. writes ≡ Add k ∷ Add k ∷ [] };
+
+    ghost laws = { exact_laws (λ x y h. Prim.search rules) (λ x y h. Prim.search rules)
+        (λ x y h. Prim.search rules) (λ a b h. Prim.search rules) };
+
+    fn run(
+        k: &u64,
+        counter: &mut RecorderMut<'_, '_, Counter>,
+        kept: &mut CacheData<MemoOfMut<Bump>>,
+    ) -> Result<u64, Fault> {
+        let first = counter.call_mut(kept, &mut (), *k)?;
+        let second = counter.call_mut(kept, &mut (), *k)?;
+        Ok(first.wrapping_add(second))
+    }
+}
+
+/// Adds 1 to the first of two counters, and gives the number of the second.
+pub struct AddsAndGets;
+
+impl Memo for AddsAndGets {
+    type Call = MultiCall<CounterCall, CounterCall>;
+
+    type Key = ();
+
+    type Answer = MultiAnswer<u64, u64>;
+
+    type Out = u64;
+
+    ghost use Rattle.comemo.specs.Multi.{first_call, second_call, second_answer};
+    ghost use Rattle.comemo.specs.MeaningLaws.{exact_memo_laws};
+    ghost use Rattle.comemo_samples.specs.declared.counter.CounterCall.TheVariants.{Get, Add};
+
+    ghost def = { λ _ m out writes. (m (second_call Get) ≡ second_answer out)
+        × (writes ≡ first_call (Add 1) ∷ []) };
+
+    ghost laws = { exact_memo_laws (λ x y h. Prim.search rules) (λ x y h. Prim.search rules)
+        (λ x y h. Prim.search rules) (λ a b h. Prim.search rules)
+        (λ x y h. Prim.search rules) };
+}
+
+impl<'a> FunctionMutOf<BothMut<'a, Counter, Counter>> for AddsAndGets {
+    type Needs = ();
+
+    fn run(
+        _key: &(),
+        both: &mut RecorderMut<'_, '_, BothMut<'a, Counter, Counter>>,
+        _needs: &mut (),
+    ) -> Result<u64, Fault> {
+        both.write(MultiCall::A(CounterCall::Add(1)))?;
+        match both.ask(MultiCall::B(CounterCall::Get))? {
+            MultiAnswer::A(_) => Ok(0),
+            MultiAnswer::B(number) => Ok(number),
+        }
+    }
+}

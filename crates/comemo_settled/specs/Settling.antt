@@ -1,0 +1,22 @@
+-- Lists of pairs that grow while a function runs, and what it asks.
+use Rattle.std.specs.Prelude.{◌≡◌, ◌⊎◌, Bool, List, ◌++◌, IsTrue}
+use Rattle.comemo_base.specs.Sequence.{held}
+use Rattle.comemo_base.specs.Answers.{Respects, Agrees}
+use Rattle.comemo_settled.specs.Runs.{IsAskedInTurn}
+
+module _ {C R : Type 0} (eq : C → C → Bool) (same : R → R → Bool) where
+  -- the call is asked under all answers that agree with the pairs, which stand before it
+  abbrev pub IsAskedAfter : ((C → R) → C → Type 0) → List (C × R) → C → Type 0
+  IsAskedAfter asked ps c = (m : C → R) → Respects eq same m → Agrees same m ps → asked m c
+
+  -- t is s and then pairs which are asked in turn under all answers that agree with s; and under all that agree with t, what is
+  -- asked is held, or is left to be asked
+  pub record Settles (asked left : (C → R) → C → Type 0) (s t : List (C × R)) : Type 0 where
+    pub added : List (C × R)
+    pub parts : t ≡ s ++ added
+    pub in_turn : (m : C → R) → Respects eq same m → Agrees same m s → IsAskedInTurn eq same (asked m) m added
+    pub complete : (m : C → R) → Respects eq same m → Agrees same m t → (c : C) → asked m c → IsTrue (held eq t c) ⊎ left m c
+
+-- nothing is left to be asked
+abbrev pub nothing_left : {C R : Type 0} → (C → R) → C → Type 0
+nothing_left m c = ⊥

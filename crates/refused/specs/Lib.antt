@@ -1,0 +1,2 @@
+pub mod PlaceAnswers
+pub mod Emitting

@@ -1,0 +1,84 @@
+//! A tracked value of which two things are asked, and which counts how often.
+ghost use Rattle.std.specs.Prelude.{false, refl};
+ghost use Rattle.std.proofs.Common.{rules};
+
+use comemo::{Call, Track};
+use std::alloc::{AllocError, Global};
+use std::cell::Cell;
+use std::hash::Hash;
+
+/// A read of a place.
+#[derive(Clone, Copy, Drop, Debug, PartialEq, Eq, Hash)]
+pub(crate) enum PlaceCall {
+    /// Where it is.
+    Location,
+    /// How it is set.
+    Styles,
+}
+
+impl Call for PlaceCall {
+    ghost is_write = { λ _. false };
+
+    ghost same_kind = { λ x y h. refl };
+
+    ghost clones = { λ x y h. Prim.search rules };
+
+    fn is_mutable(&self) -> bool {
+        false
+    }
+}
+
+/// What a place answers.
+#[derive(Clone, Drop, Debug, PartialEq, Eq, PartialOrd, Ord)]
+pub(crate) enum PlaceAnswer {
+    /// To where it is.
+    At(u64),
+    /// To how it is set.
+    Set(String),
+}
+
+/// A place, which counts how often it is asked.
+#[derive(Drop)]
+pub(crate) struct Place {
+    location: u64,
+    styles: String,
+    asked: Cell<u64>,
+}
+
+impl Place {
+    /// The place at a location, with the styles `styles`. It was not asked yet.
+    pub(crate) fn at(alloc: Global, location: u64) -> Result<Place, AllocError> {
+        Ok(Place {
+            location,
+            styles: String::from_str(alloc, "styles")?,
+            asked: Cell::new(0),
+        })
+    }
+
+    /// How often it was asked so far.
+    pub(crate) fn asked(&self) -> u64 {
+        self.asked.get()
+    }
+}
+
+impl Track for Place {
+    type Call = PlaceCall;
+
+    type Answer = PlaceAnswer;
+
+    ghost use Rattle.refused.specs.PlaceAnswers.{place_answer};
+
+    ghost answers = { λ s call. place_answer s.location s.styles call };
+
+    ghost alike = { λ s x y h. Prim.search rules };
+
+    ghost clones = { λ x y h. Prim.search rules };
+
+    fn ask(&self, call: &PlaceCall) -> Result<PlaceAnswer, AllocError> {
+        self.asked.set(self.asked.get().wrapping_add(1));
+        match call {
+            PlaceCall::Location => Ok(PlaceAnswer::At(self.location)),
+            PlaceCall::Styles => Ok(PlaceAnswer::Set(self.styles.clone()?)),
+        }
+    }
+}
