@@ -35,7 +35,7 @@ row_numbers =
     codes "1" ∷ codes "2" ∷ codes "3" ∷ codes "4" ∷ codes "5" ∷ codes "6" ∷ codes "7" ∷ codes "8" ∷ codes "9"
     ∷ codes "10" ∷ codes "11" ∷ codes "12" ∷ codes "13" ∷ codes "14" ∷ codes "15" ∷ codes "16" ∷ codes "17" ∷ codes "18"
     ∷ codes "19" ∷ codes "21" ∷ codes "22" ∷ codes "23" ∷ codes "24" ∷ codes "25" ∷ codes "R8" ∷ codes "R10"
-    ∷ codes "R11" ∷ codes "R12" ∷ codes "R13" ∷ codes "R14" ∷ []
+    ∷ codes "R11" ∷ codes "R12" ∷ codes "R13" ∷ codes "R14" ∷ codes "R15" ∷ []
 
 -- what is printed where the row of this number failed first, or none did
 abbrev pub verdict : Option (List ℕ) → List ℕ

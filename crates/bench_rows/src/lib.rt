@@ -29,6 +29,7 @@ mod comparison;
 mod exact;
 mod fibonacci;
 mod hashes;
+mod late;
 mod limits;
 mod list;
 mod numbers;

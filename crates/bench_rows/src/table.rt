@@ -6,6 +6,7 @@ use crate::ages::{hits_stay_young, touches_go_by_answers, touches_stay_young};
 use crate::chains::chains_share_what_is_kept;
 use crate::exact::{keys_of_one_hash_are_kept_apart, what_is_said_to_be_kept_is_found};
 use crate::hashes::{a_kept_hash_follows_its_item, two_pieces_hash_as_the_whole};
+use crate::late::late_runs;
 use crate::limits::a_limit_holds_for_a_hit;
 use crate::numbers::numbers_are_kept;
 use crate::orders::runs_in_another_order;
@@ -82,5 +83,6 @@ pub fn run_rows<R: Threads + Wait + Clock + Sync>(rt: &R, alloc: Global) -> Outc
     rows.row("R14", keys_of_one_hash_are_kept_apart(alloc));
     rows.row("R14", what_is_said_to_be_kept_is_found(alloc));
     rows.row("R14", turned_orders(rt, alloc));
+    rows.row("R15", late_runs(rt, alloc));
     rows
 }

@@ -1,5 +1,5 @@
 //! One cache for many threads: a lock around a cache, and what holds it for a call.
-ghost use Rattle.std.specs.Prelude.{◌≡◌, [], Option, None, Some, true, false, length, IfErr, IfSome, OnOk, OnErr};
+ghost use Rattle.std.specs.Prelude.{◌≡◌, [], Option, None, Some, true, false, IfErr, IfSome, OnOk, OnErr};
 ghost use Rattle.std.specs.Option.{unwrap_or};
 ghost use Rattle.std.specs.Sync.RwLock.{write_guard_value};
 ghost use Rattle.std.specs.List.{All};
@@ -17,19 +17,17 @@ use comemo_base::{CallSequence, InsertError};
 use comemo_track::input::Input;
 use comemo_track::track::Call;
 use std::alloc::{AllocError, Global};
+use std::array;
 use std::hash::{FoldHasher, Hash, Hasher};
-use std::marker::Model;
+use std::marker::{Model, PhantomData};
 use std::sync::atomic::{AtomicU64, Ordering};
 use std::sync::{Arc, RwLock, RwLockWriteGuard, Wait};
 
 /// How many lanes a part has.
 const LANES: usize = 4;
 
-/// How many lanes are a row.
-const ROW: usize = 8;
-
-/// How many rows there are, and so 64 parts in all. The first six bits of a hash say which of them is a key's.
-const ROWS: usize = 32;
+/// How many parts a cache has. The first six bits of a hash say which of them is a key's.
+const PARTS: usize = 64;
 
 /// A way to the entries of a part, or to none while the part never had one.
 #[derive(Drop)]
@@ -161,73 +159,9 @@ impl<M: Memo> Lane<M> {
         }
     }
 
-    /// A row of them. They are written out, since the checker doesn't cover an array that is made by a closure.
-    fn row() -> [Self; ROW] {
-        [
-            Lane::new(),
-            Lane::new(),
-            Lane::new(),
-            Lane::new(),
-            Lane::new(),
-            Lane::new(),
-            Lane::new(),
-            Lane::new(),
-        ]
-    }
-}
-
-/// The lanes of all parts, one part after the other.
-#[derive(Drop)]
-struct Lanes<M: Memo> {
-    rows: [[Lane<M>; ROW]; ROWS],
-}
-
-impl<M: Memo> Lanes<M> {
-    /// Those of parts without entries. It takes no memory.
-    fn new() -> Self {
-        Lanes {
-            rows: [
-                Lane::row(),
-                Lane::row(),
-                Lane::row(),
-                Lane::row(),
-                Lane::row(),
-                Lane::row(),
-                Lane::row(),
-                Lane::row(),
-                Lane::row(),
-                Lane::row(),
-                Lane::row(),
-                Lane::row(),
-                Lane::row(),
-                Lane::row(),
-                Lane::row(),
-                Lane::row(),
-                Lane::row(),
-                Lane::row(),
-                Lane::row(),
-                Lane::row(),
-                Lane::row(),
-                Lane::row(),
-                Lane::row(),
-                Lane::row(),
-                Lane::row(),
-                Lane::row(),
-                Lane::row(),
-                Lane::row(),
-                Lane::row(),
-                Lane::row(),
-                Lane::row(),
-                Lane::row(),
-            ],
-        }
-    }
-
-    /// All of them as one slice.
-    fn all(&self) -> &[Lane<M>]
-        ensures { length result.now ≡ 256 }
-    {
-        self.rows.as_flattened()
+    /// Those of one part.
+    fn part(_: PhantomData<M>) -> [Self; LANES] {
+        [Lane::new(), Lane::new(), Lane::new(), Lane::new()]
     }
 }
 
@@ -242,9 +176,7 @@ struct Alone<'a, M: Memo> {
 
 impl<'a, M: Memo> Alone<'a, M> {
     /// Takes the locks of a part's lanes, in their order, so that no two who do so wait for each other.
-    fn new<R: Wait>(rt: &R, part: &'a [Lane<M>]) -> Self
-        requires { length part.now ≡ 4 }
-    {
+    fn new<R: Wait>(rt: &R, part: &'a [Lane<M>; LANES]) -> Self {
         Alone {
             first: part[0].way.write(rt),
             second: part[1].way.write(rt),
@@ -293,7 +225,7 @@ impl<M: Memo> Alone<'_, M> {
 #[derive(Drop)]
 pub struct Cache<M: Memo> {
     alloc: Global,
-    lanes: Lanes<M>,
+    parts: [[Lane<M>; LANES]; PARTS],
     // How many shares were made, so that they take the lanes by turns.
     shares: AtomicU64,
 }
@@ -303,9 +235,11 @@ impl<M: Memo> Cache<M> {
     ///
     /// comemo's `Cache::new`.
     pub fn new(alloc: Global) -> Self {
+        // The closure has it, since the checker covers one whose result is of a type parameter only so.
+        let of: PhantomData<M> = PhantomData;
         Cache {
             alloc,
-            lanes: Lanes::new(),
+            parts: array::from_fn(move |_| Lane::part(of)),
             shares: AtomicU64::new(0),
         }
     }
@@ -327,30 +261,26 @@ impl<M: Memo> Cache<M> {
     ///
     /// comemo's `Cache::evict`.
     pub fn evict<R: Wait>(&self, rt: &R, max_age: usize) {
-        evict_parts(rt, self.lanes.all(), max_age);
+        evict_parts(rt, &self.parts, max_age);
     }
 
     /// The lanes of the part that has the entries under a key. The key is hashed as a map does it, once more than the map
     /// does; a map folds away the bits that tell the part.
-    fn part(&self, key: &M::Key) -> &[Lane<M>]
-        ensures { length result.now ≡ 4 }
-    {
+    fn part(&self, key: &M::Key) -> &[Lane<M>; LANES] {
         let mut hasher = FoldHasher::default();
         key.hash(&mut hasher);
-        let first = (hasher.finish() >> 58) as usize * LANES;
-        &self.lanes.all()[first..first + LANES]
+        &self.parts[(hasher.finish() >> 58) as usize]
     }
 }
 
-/// Drops old entries of the parts with these lanes, under the locks of all of them, which are taken from the first one on.
+/// Drops old entries of these parts, under the locks of all of them, which are taken from the first one on.
 ///
 /// A call takes the locks of one part alone, and evictions take them in one order, so none of them waits for another in a
 /// circle. A part is evicted after the locks of all that follow it were taken, and let go at once.
-fn evict_parts<M: Memo, R: Wait>(rt: &R, lanes: &[Lane<M>], max_age: usize) {
-    if lanes.len() < LANES {
+fn evict_parts<M: Memo, R: Wait>(rt: &R, parts: &[[Lane<M>; LANES]], max_age: usize) {
+    let Some((part, rest)) = parts.split_first() else {
         return;
-    }
-    let (part, rest) = lanes.split_at(LANES);
+    };
     let mut alone = Alone::new(rt, part);
     evict_parts(rt, rest, max_age);
     alone.close();

@@ -29,6 +29,7 @@ pub mod chains;
 pub mod double;
 pub mod greetings;
 pub mod kinds;
+pub mod late;
 pub mod loader;
 pub mod numbers;
 pub mod orders;

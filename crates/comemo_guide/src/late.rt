@@ -1,18 +1,14 @@
-//! Functions that read a counter and write to it, before or after: those that read what they wrote are late.
-#![tactic(auto)]
-
+//! Functions that read a counter and write to it. A run that reads what it wrote is late.
 ghost use Rattle.std.specs.Prelude.{◌≡◌, [], ◌∷◌};
 ghost use Rattle.std.proofs.Common.{rules};
 ghost use Rattle.comemo.specs.MeaningLaws.{exact_laws};
 
 use comemo::{
-    BothMut, CacheData, Fault, FunctionMut, FunctionMutOf, Memo, MemoOfMut, MultiAnswer, MultiCall,
+    BothMut, Fault, FunctionMut, FunctionMutOf, Hold, Memo, MemoOfMut, MultiAnswer, MultiCall,
     RecorderMut,
 };
 use comemo_samples::{Counter, CounterCall};
-
-#[cfg(test)]
-mod rows;
+use std::marker::PhantomData;
 
 /// Gives a counter's number, and then adds to it.
 pub struct Bump;
@@ -74,17 +70,19 @@ impl FunctionMut for Readback {
     }
 }
 
-/// Gives the sum of what `Bump` gives twice.
-pub struct Twice;
+/// Gives the sum of what `Bump` gives twice, through a cache `H`.
+pub struct Twice<H> {
+    held: PhantomData<H>,
+}
 
-impl FunctionMut for Twice {
+impl<H: Hold<MemoOfMut<Bump>>> FunctionMut for Twice<H> {
     type Key = u64;
 
     type Of = Counter;
 
     type Out = u64;
 
-    type Needs = CacheData<MemoOfMut<Bump>>;
+    type Needs = H;
 
     ghost use Rattle.comemo_samples.specs.declared.counter.CounterCall.TheVariants.{Add};
 
@@ -96,7 +94,7 @@ impl FunctionMut for Twice {
     fn run(
         k: &u64,
         counter: &mut RecorderMut<'_, '_, Counter>,
-        kept: &mut CacheData<MemoOfMut<Bump>>,
+        kept: &mut H,
     ) -> Result<u64, Fault> {
         let first = counter.call_mut(kept, &mut (), *k)?;
         let second = counter.call_mut(kept, &mut (), *k)?;

@@ -1,0 +1,103 @@
+//! The row of runs that read before they wrote, or after.
+
+use comemo::{BothMut, Cache, CacheData, Fault, Hold, How, MemoOfMut, Top, memoized_mut};
+use comemo_guide::late::{AddsAndGets, Bump, Readback, Twice};
+use comemo_samples::Counter;
+use std::alloc::Global;
+use std::sync::Wait;
+
+use crate::broken::Broken;
+
+/// Whether a call of `Bump` comes to this, and adds 3.
+fn bumps<H: Hold<MemoOfMut<Bump>>>(
+    alloc: Global,
+    cache: &mut H,
+    counter: &mut Counter,
+    how: How,
+) -> Result<bool, Fault> {
+    let number = counter.number;
+    let reply = memoized_mut(alloc, cache, &mut (), 3, counter, &mut Top::new(), true)?;
+    Ok(reply.how == how && reply.output == number && counter.number == number.wrapping_add(3))
+}
+
+/// Whether a call of `Readback` on a new counter is late.
+fn reads_back<H: Hold<MemoOfMut<Readback>>>(alloc: Global, cache: &mut H) -> Result<bool, Fault> {
+    let mut counter = Counter { number: 0 };
+    let reply = memoized_mut(alloc, cache, &mut (), 3, &mut counter, &mut Top::new(), true)?;
+    Ok(reply.how == How::Late && reply.output == 3 && counter.number == 3)
+}
+
+/// Whether a call of `Twice` on a new counter is late.
+fn bumps_twice<B: Hold<MemoOfMut<Bump>>, H: Hold<MemoOfMut<Twice<B>>>>(
+    alloc: Global,
+    cache: &mut H,
+    bumps: &mut B,
+) -> Result<bool, Fault> {
+    let mut counter = Counter { number: 0 };
+    let reply = memoized_mut(alloc, cache, bumps, 3, &mut counter, &mut Top::new(), true)?;
+    Ok(reply.how == How::Late && reply.output == 3 && counter.number == 6)
+}
+
+/// Whether a call that adds to one counter and reads another is stored.
+fn adds_and_gets<H: Hold<AddsAndGets>>(alloc: Global, cache: &mut H) -> Result<bool, Fault> {
+    let mut first = Counter { number: 0 };
+    let mut second = Counter { number: 0 };
+    let mut both = BothMut { first: &mut first, second: &mut second };
+    let reply = memoized_mut(alloc, cache, &mut (), (), &mut both, &mut Top::new(), true)?;
+    Ok(reply.how == How::Stored && reply.output == 0 && first.number == 1 && second.number == 0)
+}
+
+/// Whether the calls of the row come to what they should, through these caches.
+fn calls_come_to_that<B, R, T, A>(
+    alloc: Global,
+    bump: &mut B,
+    readback: &mut R,
+    twice: &mut T,
+    adding: &mut A,
+) -> Result<bool, Fault>
+where
+    B: Hold<MemoOfMut<Bump>>,
+    R: Hold<MemoOfMut<Readback>>,
+    T: Hold<MemoOfMut<Twice<B>>>,
+    A: Hold<AddsAndGets>,
+{
+    let mut counter = Counter { number: 0 };
+    let mut other = Counter { number: 0 };
+    Ok(bumps(alloc, bump, &mut counter, How::Stored)?
+        && bumps(alloc, bump, &mut counter, How::Stored)?
+        && bumps(alloc, bump, &mut other, How::Hit)?
+        && reads_back(alloc, readback)?
+        && reads_back(alloc, readback)?
+        && bumps_twice(alloc, twice, bump)?
+        && adds_and_gets(alloc, adding)?)
+}
+
+/// Whether runs that read what they wrote are late, and others are stored, through a cache of one owner.
+fn late_runs_are_not_kept(alloc: Global) -> Result<bool, Fault> {
+    let mut bump: CacheData<MemoOfMut<Bump>> = CacheData::new(alloc);
+    let mut readback = CacheData::new(alloc);
+    let mut twice = CacheData::new(alloc);
+    let mut adding = CacheData::new(alloc);
+    let came = calls_come_to_that(alloc, &mut bump, &mut readback, &mut twice, &mut adding)?;
+    Ok(came && bump.len() == 2 && readback.len() == 0 && twice.len() == 0 && adding.len() == 1)
+}
+
+/// The same of one thread through shared caches.
+fn late_runs_are_not_shared<R: Wait>(rt: &R, alloc: Global) -> Result<bool, Fault> {
+    let bump: Cache<MemoOfMut<Bump>> = Cache::new(alloc);
+    let readback = Cache::new(alloc);
+    let twice = Cache::new(alloc);
+    let adding = Cache::new(alloc);
+    calls_come_to_that(
+        alloc,
+        &mut bump.hold(rt),
+        &mut readback.hold(rt),
+        &mut twice.hold(rt),
+        &mut adding.hold(rt),
+    )
+}
+
+/// Whether runs that read what they wrote are late, through caches of either kind.
+pub(crate) fn late_runs<R: Wait>(rt: &R, alloc: Global) -> Result<bool, Broken> {
+    Ok(late_runs_are_not_kept(alloc)? && late_runs_are_not_shared(rt, alloc)?)
+}

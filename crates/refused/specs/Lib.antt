@@ -1,2 +1,0 @@
-pub mod PlaceAnswers
-pub mod Emitting
