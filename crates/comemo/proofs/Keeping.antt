@@ -9,7 +9,7 @@ use Rattle.comemo_base.specs.Insertion.{AllAmong}
 use Rattle.comemo_base.specs.Tree.{Stored, stored}
 use Rattle.comemo_base.proofs.Paths.{joined, turned}
 use Rattle.comemo_base.proofs.Under.{Any-here, Any-later, Any-split, Any-weaker, Any-from_under}
-use Rattle.comemo_settled.proofs.Sets.{Agrees-among}
+use Rattle.comemo_base.proofs.Sets.{Agrees-among}
 use Rattle.comemo_cache.specs.Meaning.{Meaning, Invocation, Run, run}
 use Rattle.comemo_cache.specs.Cache.{Kept, Entries, young}
 use Rattle.comemo.specs.Called.{IsReply, Grows}

@@ -23,7 +23,7 @@ pub use Rattle.comemo_cache.proofs.Touching
 pub use Rattle.comemo_cache.proofs.Aging
 pub use Rattle.comemo_cache.proofs.Stepping
 pub use Rattle.comemo_cache.proofs.Named
-pub use Rattle.comemo_settled.proofs.Settling
+pub use Rattle.comemo_base.proofs.Settling
 pub use Rattle.comemo_base.proofs.Paths
 pub use Rattle.comemo_base.proofs.Under
 pub use Rattle.comemo_track.proofs.Telling

@@ -1,7 +1,7 @@
 -- What a run that ended has recorded, where the calls that are asked are named.
 use Rattle.std.proofs.Common.{◌≡◌, Bool, true, false, Result, Ok, OnOk, subst}
 use Rattle.comemo_track.specs.Recording.{Recording}
-use Rattle.comemo_settled.specs.Runs.{IsRun}
+use Rattle.comemo_base.specs.Runs.{IsRun}
 use Rattle.comemo_cache.specs.Meaning.{Naming, unnamed, names, AsksAlike, IsRunOf}
 use Rattle.comemo.specs.Function.{SettlesAs}
 use Rattle.comemo.specs.declared.pending.Fault.{Fault}

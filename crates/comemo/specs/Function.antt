@@ -3,7 +3,7 @@ use Rattle.std.specs.Prelude.{◌≡◌, Bool, true, false, IsTrue, [], Result, 
 use Rattle.std.specs.Coded.{Coded, code_by, coded×}
 use Rattle.comemo_base.specs.Answers.{Respects, Agrees}
 use Rattle.comemo_track.specs.Recording.{Recording, recording_code}
-use Rattle.comemo_settled.specs.Runs.{IsRun}
+use Rattle.comemo_base.specs.Runs.{IsRun}
 use Rattle.comemo_cache.specs.Meaning.{Naming, unnamed, names, AsksAlike}
 use Rattle.comemo.specs.declared.pending.Fault.{Fault}
 use Rattle.comemo.specs.declared.pending.Fault.TheVariants as fault

@@ -27,9 +27,9 @@ pub use Rattle.comemo_track.specs.Mapped
 pub use Rattle.comemo_track.specs.MultiLaws
 pub use Rattle.comemo_track.specs.MappedLaws
 pub use Rattle.comemo_tree.specs.Change
-pub use Rattle.comemo_settled.specs.Runs
-pub use Rattle.comemo_settled.specs.Settling
-pub use Rattle.comemo_settled.specs.Sets
+pub use Rattle.comemo_base.specs.Runs
+pub use Rattle.comemo_base.specs.Settling
+pub use Rattle.comemo_base.specs.Sets
 pub use Rattle.comemo_settled.specs.StepLists
 pub use Rattle.comemo_base.specs.Answers
 pub use Rattle.comemo_base.specs.Tree

@@ -10,3 +10,6 @@ pub mod Asked
 pub mod Paths
 pub mod Pairs
 pub mod Steps
+pub mod Sets
+pub mod Runs
+pub mod Settling

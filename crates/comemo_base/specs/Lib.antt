@@ -8,3 +8,6 @@ pub mod Tree
 pub mod Lookup
 pub mod Insertion
 pub mod Steps
+pub mod Runs
+pub mod Settling
+pub mod Sets

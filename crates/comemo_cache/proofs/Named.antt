@@ -9,9 +9,9 @@ use Rattle.comemo_base.specs.Insertion.{Misses, IsNewPath, IsReason}
 use Rattle.comemo_base.specs.declared.insertion.InsertError.{InsertError}
 use Rattle.comemo_base.specs.declared.insertion.InsertError.TheVariants.{AlreadyExists, MissingCall, Memory}
 use Rattle.comemo_base.proofs.Paths.{turned, joined}
-use Rattle.comemo_settled.specs.Runs.{AsksRespect, IsRun}
-use Rattle.comemo_settled.proofs.Settling.{run_of_alike, run_alike}
-use Rattle.comemo_settled.proofs.Runs.{IsRun-moved, IsRun-new, never_misses}
+use Rattle.comemo_base.specs.Runs.{AsksRespect, IsRun}
+use Rattle.comemo_base.proofs.Settling.{run_of_alike, run_alike}
+use Rattle.comemo_base.proofs.Runs.{IsRun-moved, IsRun-new, never_misses}
 use Rattle.comemo_cache.specs.Meaning.{Meaning, Naming, unnamed, names, Names, AsksAlike, IsRunOf, IsNamedRun}
 use Rattle.comemo_cache.specs.Cache.{Entries, IsLegal}
 

@@ -1,7 +1,7 @@
 -- What a memoized function means, and how it is called, each as one value.
 use Rattle.std.specs.Prelude.{◌≡◌, Bool, List, [], IsTrue}
 use Rattle.std.specs.List.{AllZip}
-use Rattle.comemo_settled.specs.Runs.{IsRun}
+use Rattle.comemo_base.specs.Runs.{IsRun}
 
 -- which calls a memoized function asks under a key and given answers: it names none, or these
 pub data Naming (K C R : Type 0) : Type 1 where

@@ -1,12 +1,13 @@
 -- Lemmas on what is left of a tree's entries after each value was shown to a test.
-use Rattle.std.proofs.Common.{Bool, List, [], ◌∷◌, inl, inr, sym, subst, IsTrue}
+use Rattle.std.proofs.Common.{Bool, List, [], ◌∷◌, inl, inr, refl, sym, subst, IsTrue}
 use Rattle.std.proofs.lemmas.Bool.{cases_Bool}
 use Rattle.std.proofs.lemmas.List.Elements.{All-cons, All-head, All-tail}
+use Rattle.std.proofs.lemmas.List.Sorted.{All-permutation}
 use Rattle.std.specs.List.{All, Any}
 use Rattle.comemo_base.specs.Tree.{Stored, stored}
 use Rattle.comemo_base.proofs.Under.{Any-here, Any-later, Any-split, none-from_nothing}
-use Rattle.comemo_tree.specs.Retain.{Leaves}
-use Rattle.std.proofs.Common.{refl}
+use Rattle.comemo_base.specs.Runs.{IsRun, IsSettled}
+use Rattle.comemo_tree.specs.Retain.{Leaves, Retains}
 
 module _ {K C R T : Type 0} (keeps : T → Bool → T → Type 0) where
   -- what holds of an entry by its key and path, holds of what is left
@@ -39,3 +40,8 @@ module _ {K C R T : Type 0} (Q : K → List (C × R) → Type 0) (S : T → Type
             let rest = Any-left es h.3 h.4 later in
             elim (cases_Bool h.0) [ inl b ↦ rw b (Any-later P (stored e.key e.path h.1) h.3 rest) | inr b ↦ rw b rest ]
       ])
+
+-- what is left of runs are runs
+pub IsSettled-retain : {K C R T : Type 0} (eq : C → C → Bool) (same : R → R → Bool) (asks : K → (C → R) → C → Type 0) (keeps : T → Bool → T → Type 0) (es es' : List (Stored K C R T)) → Retains keeps es es' → IsSettled eq same asks es → IsSettled eq same asks es'
+IsSettled-retain eq same asks keeps es es' h settled =
+    All-permutation (λ e. IsRun eq same (asks e.key) e.path) h.0 es' h.2 (All-left keeps (λ k path. IsRun eq same (asks k) path) es h.0 h.1 settled)

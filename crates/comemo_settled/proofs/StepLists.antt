@@ -9,14 +9,14 @@ use Rattle.comemo_base.specs.Tree.{Stored, stored}
 use Rattle.comemo_base.specs.Lookup.{under}
 use Rattle.comemo_base.proofs.Paths.{joined}
 use Rattle.comemo_base.proofs.Under.{Any-here, Any-later, Any-split, none-from_nothing, Any-under, Any-from_under}
-use Rattle.comemo_settled.specs.Sets.{HasSamePairs, HasSet, AddsSet}
+use Rattle.comemo_base.specs.Sets.{HasSamePairs, HasSet, AddsSet}
 use Rattle.comemo_settled.specs.StepLists.{IsStep, AreSteps, InsertsSet, IsInsert, FoundRoom, StoresAllSets, StaysThrough, KeepsSets}
 use Rattle.comemo_settled.specs.declared.steps.TreeOp.{TreeOp}
 use Rattle.comemo_settled.specs.declared.steps.TreeOp.TheVariants.{Insert, Retain}
 use Rattle.comemo_settled.specs.declared.steps.TreeReply.{TreeReply}
 use Rattle.comemo_settled.specs.declared.steps.TreeReply.TheVariants.{Inserted, AlreadyExists, Memory, Retained}
 use Rattle.comemo_settled.proofs.Left.{Any-left}
-use Rattle.comemo_settled.proofs.Sets.{HasSamePairs-turned, HasSamePairs-joined}
+use Rattle.comemo_base.proofs.Sets.{HasSamePairs-turned, HasSamePairs-joined}
 
 module _ {K C R T P : Type 0} (eq : C → C → Bool) (same : R → R → Bool) (eqk : K → K → Bool) (keeps : P → T → Bool → T → Type 0) where
   -- some steps were done, with their replies: from now on what is left of the steps completes all of them

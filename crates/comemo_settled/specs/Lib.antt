@@ -1,4 +1,1 @@
-pub mod Settling
-pub mod Runs
-pub mod Sets
 pub mod StepLists

@@ -4,8 +4,8 @@ use Rattle.std.specs.List.{All, Any}
 use Rattle.comemo_base.specs.Tree.{Stored}
 use Rattle.comemo_base.specs.Lookup.{under}
 use Rattle.comemo_tree.specs.Retain.{Retains}
-use Rattle.comemo_settled.specs.Runs.{IsRun}
-use Rattle.comemo_settled.specs.Sets.{HasSamePairs, HasSet, AddsSet}
+use Rattle.comemo_base.specs.Runs.{IsRun}
+use Rattle.comemo_base.specs.Sets.{HasSamePairs, HasSet, AddsSet}
 use Rattle.comemo_settled.specs.declared.steps.TreeOp.{TreeOp}
 use Rattle.comemo_settled.specs.declared.steps.TreeOp.TheVariants.{Insert, Retain}
 use Rattle.comemo_settled.specs.declared.steps.TreeReply.{TreeReply}

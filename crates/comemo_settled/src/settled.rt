@@ -7,8 +7,8 @@ ghost use Rattle.comemo_base.specs.Insertion.{Adds};
 ghost use Rattle.comemo_base.specs.Lookup.{under, AnswersAs, CanBeAsked, LooksUp, IsLookupRefused, FindsAgreeing};
 ghost use Rattle.comemo_tree.specs.Retain.{Retains, ReturnsAtMut};
 ghost use Rattle.comemo_tree.specs.Shape.{IsShape};
-ghost use Rattle.comemo_settled.specs.Runs.{AsksLaws, IsRun, IsSettled, IsRunReason};
-ghost use Rattle.comemo_settled.specs.Sets.{HasSet, FindsSet, HasEachSetOnce, AddsSet};
+ghost use Rattle.comemo_base.specs.Runs.{AsksLaws, IsRun, IsSettled, IsRunReason};
+ghost use Rattle.comemo_base.specs.Sets.{HasSet, FindsSet, HasEachSetOnce, AddsSet};
 ghost use Rattle.comemo_settled.specs.StepLists.{InsertsRun, IsStep, AreSteps, KeepsSets, StoresAllSets};
 
 use crate::steps::{Keep, TreeOp, TreeReply};
@@ -53,7 +53,7 @@ impl<A: Asks, T> Model for Settled<A, T> {
     ghost use Rattle.std.specs.Prelude.{List};
     ghost use Rattle.std.specs.Coded.{coded_list};
     ghost use Rattle.comemo_base.specs.Tree.{Stored, stored_code};
-    ghost use Rattle.comemo_settled.specs.Runs.{IsSettled};
+    ghost use Rattle.comemo_base.specs.Runs.{IsSettled};
 
     ghost Value = { List (Stored A.Key A.Call A.Answer T) };
 

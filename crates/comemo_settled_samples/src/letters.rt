@@ -2,7 +2,7 @@
 ghost use Rattle.std.specs.Prelude.{◌≢◌, [], nat_eq, IfErr, IfOk};
 ghost use Rattle.comemo_base.specs.Sequence.{absorbed};
 ghost use Rattle.comemo_base.specs.declared.insertion.InsertError.TheVariants.{MissingCall};
-ghost use Rattle.comemo_settled.specs.Runs.{IsRun};
+ghost use Rattle.comemo_base.specs.Runs.{IsRun};
 ghost use Rattle.comemo_settled_samples.specs.LetterCalls.{AsksLetter};
 ghost use Rattle.comemo_settled_samples.specs.declared.letters.Letter.TheVariants.{A, B, C};
 ghost use Rattle.std.proofs.Common.{rules};

@@ -1,7 +1,7 @@
 //! A function of a place for examples: it asks for the location, and for the styles too where that is 5.
 ghost use Rattle.std.specs.Prelude.{◌≡◌, ◌==◌, ◌%◌, nat_eq, IfOk};
 ghost use Rattle.std.specs.List.{All};
-ghost use Rattle.comemo_settled.specs.Runs.{IsRun};
+ghost use Rattle.comemo_base.specs.Runs.{IsRun};
 ghost use Rattle.comemo_settled.specs.StepLists.{InsertsRun};
 ghost use Rattle.comemo_settled_samples.specs.PlaceCalls.{AsksPlace};
 ghost use Rattle.comemo_settled_samples.specs.declared.places.PlaceCall.TheVariants.{Location, Styles};

@@ -5,7 +5,7 @@ use Rattle.std.specs.Cmp.{nat_eq_equiv}
 use Rattle.comemo_base.specs.Sequence.{Sequence, was_seen, held}
 use Rattle.comemo_base.specs.Answers.{Agrees}
 use Rattle.comemo_base.proofs.Pairs.{held-push, or_turned}
-use Rattle.comemo_settled.specs.Runs.{IsAskedInTurn, IsRun}
+use Rattle.comemo_base.specs.Runs.{IsAskedInTurn, IsRun}
 use Rattle.comemo_settled_tests.specs.CountedCalls.{AsksCounted, IsDraft, bound_of}
 
 Agrees-front : (m : ℕ → ℕ) (ps qs : List (ℕ × ℕ)) → Agrees nat_eq m (ps ++ qs) → Agrees nat_eq m ps

@@ -1,7 +1,7 @@
 -- What a function for random steps asks, and sequences that become runs of it.
 use Rattle.std.specs.Prelude.{◌≡◌, ◌+◌, ◌<◌, ℕ, cond, nat_eq}
 use Rattle.comemo_base.specs.Sequence.{Sequence, was_seen, held}
-use Rattle.comemo_settled.specs.Runs.{IsCausal}
+use Rattle.comemo_base.specs.Runs.{IsCausal}
 
 -- how many calls are asked under a key, where the call 0 has this answer
 abbrev pub bound_of : ℕ → ℕ → ℕ

@@ -2,7 +2,7 @@
 ghost use Rattle.std.specs.Prelude.{◌≡◌, ◌+◌, ◌<◌, ◌≤◌, ◌^◌, ℕ, nat_eq, IsTrue, IfOk, OnOk};
 ghost use Rattle.comemo_base.specs.Sequence.{held};
 ghost use Rattle.comemo_base.specs.Answers.{Agrees};
-ghost use Rattle.comemo_settled.specs.Runs.{IsRun};
+ghost use Rattle.comemo_base.specs.Runs.{IsRun};
 ghost use Rattle.comemo_settled_tests.specs.CountedCalls.{AsksCounted, IsDraft, bound_of};
 ghost use Rattle.std.proofs.Common.{rules};
 

@@ -1,5 +1,5 @@
 use Rattle.std.specs.Prelude.{option_copied}
-use Rattle.comemo_settled.proofs.Runs.{get-found}
+use Rattle.comemo_base.proofs.Runs.{get-found}
 use Rattle.comemo_settled.proofs.settled.Settled.get.Goals as goal
 
 pub get-requires : goal.get-requires

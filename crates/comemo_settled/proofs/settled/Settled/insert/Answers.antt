@@ -1,4 +1,4 @@
-use Rattle.comemo_settled.proofs.Runs.{insert-set, insert-reason, insert-settled, insert-there}
+use Rattle.comemo_base.proofs.Runs.{insert-set, insert-reason, insert-settled, insert-there}
 use Rattle.comemo_settled.proofs.settled.Settled.insert.Goals as goal
 
 pub invariant_of-self : goal.invariant_of-self

@@ -1,4 +1,4 @@
-use Rattle.comemo_settled.proofs.Runs.{HasEachSetOnce-from_tree}
+use Rattle.comemo_base.proofs.Runs.{HasEachSetOnce-from_tree}
 use Rattle.comemo_settled.proofs.settled.Settled.is_settled.Goals as goal
 
 pub returns-clause-settled : goal.returns-clause-settled

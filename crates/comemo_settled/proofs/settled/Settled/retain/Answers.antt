@@ -1,5 +1,5 @@
 use Rattle.comemo_tree.specs.Retain.{ReturnsAtMut}
-use Rattle.comemo_settled.proofs.Runs.{IsSettled-retain}
+use Rattle.comemo_settled.proofs.Left.{IsSettled-retain}
 use Rattle.comemo_settled.proofs.settled.Settled.retain.Goals as goal
 
 pub invariant_of-self : goal.invariant_of-self

@@ -2,7 +2,7 @@ use Rattle.std.proofs.Common.{◌≡◌, ◌+◌, ◌≤◌, length, vec_len, ve
 use Rattle.std.specs.List.{All}
 use Rattle.std.specs.Vec.Iter.{into_iter_items, into_iter_len}
 use Rattle.comemo_settled.specs.StepLists.{InsertsRun}
-use Rattle.comemo_settled.specs.Runs.{IsSettled}
+use Rattle.comemo_base.specs.Runs.{IsSettled}
 use Rattle.comemo_settled.proofs.StepLists.{Completes}
 use Rattle.comemo_settled.proofs.settled.Settled.run.Given as goal
 

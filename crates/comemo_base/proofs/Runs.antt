@@ -16,20 +16,13 @@ use Rattle.comemo_base.specs.declared.insertion.InsertError.TheVariants.{Already
 use Rattle.comemo_base.proofs.Paths.{turned, joined, get_or_same}
 use Rattle.comemo_base.proofs.Steps.{outside-nothing}
 use Rattle.comemo_base.proofs.Under.{Any-under, Any-from_under, All-from_under}
-use Rattle.comemo_tree.specs.Retain.{Retains}
-use Rattle.comemo_settled.specs.Runs.{AsksRespect, IsAskedInTurn, IsCausal, IsRun, IsSettled, IsRunReason}
-use Rattle.comemo_settled.specs.Sets.{HasSamePairs, HasSet, FindsSet, HasEachSetOnce, AddsSet}
-use Rattle.comemo_settled.proofs.Left.{All-left}
-use Rattle.comemo_settled.proofs.Sets.{held-from_has, AllAmong-itself, held-through, Has-part, Has-answer, HasSamePairs-outside, Agrees-has, Agrees-among, answers_of, answers_of-respects, answers_of-agrees}
+use Rattle.comemo_base.specs.Runs.{AsksRespect, IsAskedInTurn, IsCausal, IsRun, IsSettled, IsRunReason}
+use Rattle.comemo_base.specs.Sets.{HasSamePairs, HasSet, FindsSet, HasEachSetOnce, AddsSet}
+use Rattle.comemo_base.proofs.Sets.{held-from_has, AllAmong-itself, held-through, Has-part, Has-answer, HasSamePairs-outside, Agrees-has, Agrees-among, answers_of, answers_of-respects, answers_of-agrees}
 
 -- what holds of each element holds of one that was found
 All-any : {X : Type 0} (P Q : X → Type 0) (xs : List X) → All P xs → (found : Any Q xs) → P found.1
 All-any P Q xs h found = subst P found.3 (h found.0 found.1 found.2)
-
--- what is left of runs are runs
-pub IsSettled-retain : {K C R T : Type 0} (eq : C → C → Bool) (same : R → R → Bool) (asks : K → (C → R) → C → Type 0) (keeps : T → Bool → T → Type 0) (es es' : List (Stored K C R T)) → Retains keeps es es' → IsSettled eq same asks es → IsSettled eq same asks es'
-IsSettled-retain eq same asks keeps es es' h settled =
-    All-permutation (λ e. IsRun eq same (asks e.key) e.path) h.0 es' h.2 (All-left keeps (λ k path. IsRun eq same (asks k) path) es h.0 h.1 settled)
 
 module _ {C R : Type 0} {eq : C → C → Bool} {same : R → R → Bool} (calls : IsEquivalence eq) (answers : IsEquivalence same) where
   -- the second list has no call of the first at another answer

@@ -11,7 +11,7 @@ use Rattle.comemo_base.specs.Answers.{Respects, Agrees}
 use Rattle.comemo_base.specs.Insertion.{Has, AllAmong, outside}
 use Rattle.comemo_base.proofs.Paths.{turned, joined}
 use Rattle.comemo_base.proofs.Steps.{lookup-outside}
-use Rattle.comemo_settled.specs.Sets.{HasSamePairs}
+use Rattle.comemo_base.specs.Sets.{HasSamePairs}
 
 has_some : {R : Type 0} (o : Option R) (P : R → Type 0) → IsSomeAnd o P → is_some o ≡ true
 has_some None P h = absurd h

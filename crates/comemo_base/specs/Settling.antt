@@ -2,7 +2,7 @@
 use Rattle.std.specs.Prelude.{◌≡◌, ◌⊎◌, Bool, List, ◌++◌, IsTrue}
 use Rattle.comemo_base.specs.Sequence.{held}
 use Rattle.comemo_base.specs.Answers.{Respects, Agrees}
-use Rattle.comemo_settled.specs.Runs.{IsAskedInTurn}
+use Rattle.comemo_base.specs.Runs.{IsAskedInTurn}
 
 module _ {C R : Type 0} (eq : C → C → Bool) (same : R → R → Bool) where
   -- the call is asked under all answers that agree with the pairs, which stand before it

@@ -7,9 +7,9 @@ use Rattle.comemo_base.specs.Answers.{Respects, Agrees}
 use Rattle.comemo_base.specs.Tree.{IsSamePath}
 use Rattle.comemo_base.specs.Insertion.{Has, AllAmong}
 use Rattle.comemo_base.proofs.Paths.{turned, joined, Agrees-same}
-use Rattle.comemo_settled.specs.Runs.{IsAskedInTurn, IsCausal, IsRun}
-use Rattle.comemo_settled.specs.Settling.{IsAskedAfter, Settles, nothing_left}
-use Rattle.comemo_settled.proofs.Sets.{Agrees-has, Agrees-among, held-alike}
+use Rattle.comemo_base.specs.Runs.{IsAskedInTurn, IsCausal, IsRun}
+use Rattle.comemo_base.specs.Settling.{IsAskedAfter, Settles, nothing_left}
+use Rattle.comemo_base.proofs.Sets.{Agrees-has, Agrees-among, held-alike}
 
 agrees_parts : {C R : Type 0} (same : R → R → Bool) (m : C → R) (ps qs : List (C × R)) → Agrees same m (ps ++ qs) → Agrees same m ps × Agrees same m qs
 agrees_parts same m [] qs a = (tt, a)
