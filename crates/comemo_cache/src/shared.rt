@@ -160,7 +160,7 @@ impl<M: Memo> Lane<M> {
     }
 
     /// Those of one part.
-    fn part(_: PhantomData<M>) -> [Self; LANES] {
+    fn part(_: PhantomData<Self>) -> [Self; LANES] {
         [Lane::new(), Lane::new(), Lane::new(), Lane::new()]
     }
 }
@@ -235,8 +235,8 @@ impl<M: Memo> Cache<M> {
     ///
     /// comemo's `Cache::new`.
     pub fn new(alloc: Global) -> Self {
-        // The closure has it, since the checker covers one whose result is of a type parameter only so.
-        let of: PhantomData<M> = PhantomData;
+        // The borrow checker covers a closure that gives lanes only where it holds something of their type.
+        let of: PhantomData<Lane<M>> = PhantomData;
         Cache {
             alloc,
             parts: array::from_fn(move |_| Lane::part(of)),
