@@ -1,7 +1,7 @@
 pub mod Endings
 pub mod PartsAsked
 pub mod Recorders
-pub mod Settled
+pub mod NamedRuns
 pub mod RecordersMut
 pub mod Calls
 pub mod Closures

@@ -3,7 +3,7 @@ use Rattle.comemo_base.specs.Answers.{Agrees}
 use Rattle.comemo.specs.Function.{Recorded}
 use Rattle.comemo_cache.proofs.Sendings.{breaks_at_once}
 use Rattle.comemo.proofs.Calls.{broke_by_run, finished_itself, finished_early}
-use Rattle.comemo.proofs.Settled.{settled_end}
+use Rattle.comemo.proofs.NamedRuns.{settled_end}
 use Rattle.comemo_cache.proofs.Sendings.{mapped}
 use Rattle.comemo.proofs.Closures.{fault_of_end}
 use Rattle.comemo_cache.proofs.Holding.{leads_map}

@@ -8,7 +8,7 @@ use Rattle.comemo.proofs.Calls.{run_seen, reply_by_done_hit, reply_by_done_run, 
 use Rattle.comemo.proofs.RecordersMut.{done_at, spoiled_any, broke_at_begin_mut, broke_by_run_mut}
 use Rattle.comemo_cache.specs.Meaning.{IsRunOf}
 use Rattle.comemo_cache.proofs.Named.{named_moved}
-use Rattle.comemo.proofs.Settled.{settled_end}
+use Rattle.comemo.proofs.NamedRuns.{settled_end}
 use Rattle.comemo_cache.proofs.Sendings.{mapped}
 use Rattle.comemo.proofs.Closures.{mapped_by, mapped_err, err_with, fault_of_end}
 use Rattle.comemo_cache.proofs.Holding.{held_leads, some_held, some_led, of_led, stayed, led_by, led_from, leads_same, leads_map}
