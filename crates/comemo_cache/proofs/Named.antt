@@ -44,6 +44,10 @@ module _ {C R : Type 0} {eq : C → C → Bool} {same : R → R → Bool} (calls
   named_alike unnamed key ps qs s run = tt
   named_alike (names asks) key ps qs s run = run_alike calls answers (AsksAlike eqk eq asks key) (λ m c d e a. alike_respects asks key key m c d (keys.refl key) e a) ps qs s run
 
+  -- what was kept under an equal key, up to equality, is a run
+  pub named_found : (N : Naming K C R) (k key : K) (ps qs : List (C × R)) → IsTrue (eqk k key) → IsSamePath eq same qs ps → IsRunOf eqk eq same N k ps → IsRunOf eqk eq same N key qs
+  named_found N k key ps qs e s run = named_alike N key ps qs s (named_moved N k key ps e run)
+
   module _ {T : Type 0} (es : List (Stored K C R T)) (key : K) (s : List (C × R)) (distinct : HasDistinctCalls eq s) where
     -- the path that an insertion stores is a run under each equal key
     pub named_new : (N : Naming K C R) → All (λ e. IsRunOf eqk eq same N e.key e.path) es → IsRunOf eqk eq same N key s → (own : K) (path : List (C × R)) → IsTrue (eqk own key) → IsNewPath eq same (under eqk es key) s path → IsRunOf eqk eq same N own path

@@ -224,6 +224,8 @@ impl<M: Memo> CacheData<M> {
             All (λ p. M.Call.is_write p.0 ≡ false) f.pairs.items)) }
         ensures written { IfOk result (λ found. IfSome found (λ f.
             All (λ c. M.Call.is_write c ≡ true) f.writes.items)) }
+        ensures settled { IfOk result (λ found. IfSome found (λ f.
+            IsNamedRun ⟦<M as Meant>⟧.meaning key.now f.pairs.items)) }
         ensures err { OnErr result
             (IsRefusedLook ⟦<M as Meant>⟧.meaning self.now
             (invocation key.now (In.answers input.old) true)) }

@@ -76,7 +76,9 @@ pub trait Hold<M: Memo> {
         ensures reads { IfOk result (λ found. IfSome found (λ f.
             All (λ p. M.Call.is_write p.0 ≡ false) f.pairs.items)) }
         ensures written { IfOk result (λ found. IfSome found (λ f.
-            All (λ c. M.Call.is_write c ≡ true) f.writes.items)) };
+            All (λ c. M.Call.is_write c ≡ true) f.writes.items)) }
+        ensures settled { IfOk result (λ found. IfSome found (λ f.
+            IsNamedRun ⟦<M as Meant>⟧.meaning key.now f.pairs.items)) };
 
     /// Sets an entry's age to 0, as `CacheData::touch` does.
     fn touch(&mut self, key: &M::Key, answers: &[M::Answer])
