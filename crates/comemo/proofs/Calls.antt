@@ -85,7 +85,7 @@ finished_itself {M = M} {es} {es'} {pending} {sent} {output} {reply} done = subs
 
 -- a run that isn't late sent what it recorded to the sink
 pub finished_early : {K C R O : Type 0} {M : Meaning K C R O} {es es' : Entries K C R O} {pending : PendingRun K C R} {S : Type 0} (took : S → S → List (C × R) → List C → Type 0) (lates : S → S → Type 0) {i j : S} {output : O} {reply : Reply O} → pending.recording.late ≡ false → Finished M es pending (TookAs took lates pending.recording.late i j) output reply es' → Finished M es pending (took i j) output reply es'
-finished_early {pending = pending} took lates early done = record { whole = done.whole; same = done.same; ends = done.ends; late = done.late; disabled = done.disabled; gives = gives_early took lates pending.recording.late early done.gives }
+finished_early {pending = pending} took lates early done = record { whole = done.whole; same = done.same; ends = done.ends; late = done.late; disabled = done.disabled; settled = done.settled; gives = gives_early took lates pending.recording.late early done.gives }
 
 -- a run that is late left the entries
 ended_late : {K C R O : Type 0} (M : Meaning K C R O) (es es' : Entries K C R O) (ran : Run K C R O) {h : How} → h ≡ how.Late → Ends M es ran h es' → es' ≡ es
@@ -103,6 +103,7 @@ module _ {K C R O : Type 0} {M : Meaning K C R O} {es : Entries K C R O} {call :
     writes = hit.writes;
     agrees = hit.agrees;
     stands = hit.stands;
+    settled = hit.settled;
     gives = gives_itself calls answers hit.pairs hit.writes hit.are_sent;
     came = inl (refl, record { is_enabled = hit.is_enabled; kept = hit.kept; reads = hit.reads; written = hit.written; touched = touched });
   }
@@ -119,6 +120,7 @@ module _ {K C R O : Type 0} {M : Meaning K C R O} {es : Entries K C R O} {call :
       writes = t.writes;
       agrees = agrees;
       stands = subst (λ o. Stands M (run call.key t.pairs o t.writes)) (sym done.same) (stands_at_call is t.pairs output t.writes stands);
+      settled = is.named t.pairs (done.settled early);
       gives = gives_early took lates t.late early done.gives;
       came = inr (record {
         none = is.none;
@@ -140,6 +142,7 @@ module _ {K C R O : Type 0} {M : Meaning K C R O} {es : Entries K C R O} {call :
         writes = t.writes;
         agrees = ran.agrees;
         stands = λ n r a. has.right n reply.output t.writes r (stands n r a);
+        settled = has.named t.pairs (ran.finished.settled ran.early);
         gives = ran.finished.gives;
         came = inr (record {
           none = has.none;
@@ -158,6 +161,7 @@ module _ {K C R O : Type 0} {M : Meaning K C R O} {es : Entries K C R O} {call :
     writes = is.writes;
     agrees = is.agrees;
     stands = is.stands;
+    settled = is.settled;
     gives = record { given = is.gives.given; alike = is.gives.alike; agreeing = is.gives.agreeing; are_sent = (is.gives.are_sent, subst (λ v. did i v is.writes) (sym e) done) };
     came = is.came;
   }
@@ -193,6 +197,7 @@ module _ {K C R O : Type 0} {M : Meaning K C R O} {es : Entries K C R O} {call :
     writes = is.writes;
     agrees = is.agrees;
     stands = is.stands;
+    settled = is.settled;
     gives = record { given = is.gives.given; alike = is.gives.alike; agreeing = is.gives.agreeing; are_sent = f is.gives.given is.writes is.gives.are_sent };
     came = is.came;
   }

@@ -86,6 +86,7 @@ module _ {K C R O : Type 0} {M : Meaning K C R O} {es : Entries K C R O} {call :
       own = begun.key;
       has_key = is.has_key;
       stands = λ early. subst (λ o. Stands M (run call.key t.pairs o t.writes)) (sym done.same) (stands_at_call is t.pairs output t.writes (stands early));
+      settled = λ early. is.named t.pairs (done.settled early);
       ends = subst (λ x. Ends M mid (run begun.key t.pairs x t.writes) reply.how es') (sym done.same) done.ends;
       late = done.late;
       disabled = (λ d. (sym is.is_enabled ∙ (done.disabled.0 d).0, (done.disabled.0 d).1), λ d. done.disabled.1 (is.is_enabled ∙ d.0, d.1));

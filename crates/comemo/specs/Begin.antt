@@ -4,7 +4,7 @@ use Rattle.std.specs.List.{All}
 use Rattle.std.specs.Coded.{Coded, code_by, coded×, coded_bool}
 use Rattle.comemo_base.specs.Answers.{Respects, Agrees}
 use Rattle.comemo_track.specs.Recording.{Recording, recording_code}
-use Rattle.comemo_cache.specs.Meaning.{Meaning, Invocation, Run, run}
+use Rattle.comemo_cache.specs.Meaning.{Meaning, Invocation, Run, run, IsNamedRun}
 use Rattle.comemo_cache.specs.Cache.{Entries, Stands, HasNone, Has}
 
 -- some writes lead from a value to another, by this word for what writes do
@@ -31,6 +31,7 @@ module _ {K C R O : Type 0} (M : Meaning K C R O) (es : Entries K C R O) (call :
   pub record HasToRun (own : K) : Type 0 where
     pub has_key : IsTrue (M.same_key call.key own)
     pub right : (n : C → R) (output : O) (writes : List C) → Respects M.same_call M.same_answer n → M.def own n output writes → M.def call.key n output writes
+    pub named : (pairs : List (C × R)) → IsNamedRun M own pairs → IsNamedRun M call.key pairs
     pub none : call.enabled ≡ true → HasNone M es call
 
   -- a run begins with the key, up to equality, and an empty recording that is whole and not late, and where it is enabled no kept entry
@@ -38,6 +39,7 @@ module _ {K C R O : Type 0} (M : Meaning K C R O) (es : Entries K C R O) (call :
   pub record IsRun (begun : PendingRun K C R) : Type 0 where
     pub has_key : IsTrue (M.same_key call.key begun.key)
     pub right : (n : C → R) (output : O) (writes : List C) → Respects M.same_call M.same_answer n → M.def begun.key n output writes → M.def call.key n output writes
+    pub named : (pairs : List (C × R)) → IsNamedRun M begun.key pairs → IsNamedRun M call.key pairs
     pub is_enabled : begun.enabled ≡ call.enabled
     pub pairs : begun.recording.pairs ≡ []
     pub writes : begun.recording.writes ≡ []
@@ -46,7 +48,8 @@ module _ {K C R O : Type 0} (M : Meaning K C R O) (es : Entries K C R O) (call :
     pub none : call.enabled ≡ true → HasNone M es call
 
   -- a hit: an entry was kept that has the key and agrees with the answers; its path, which has reads alone, and its writes, in order,
-  -- went to the sink, the writes were done on the input, and the output is right wherever the path agrees, so also at the answers
+  -- went to the sink, the writes were done on the input, and the output is right wherever the path agrees, so also at the answers; and
+  -- where the asked calls are named, the path is a run of them
   pub record IsHit (done : List C → Type 0) (sent : List (C × R) → List C → Type 0) (output : O) : Type 0 where
     pub pairs : List (C × R)
     pub writes : List C
@@ -56,6 +59,7 @@ module _ {K C R O : Type 0} (M : Meaning K C R O) (es : Entries K C R O) (call :
     pub stands : Stands M (run call.key pairs output writes)
     pub reads : All (λ p. M.is_write p.0 ≡ false) pairs
     pub written : All (λ c. M.is_write c ≡ true) writes
+    pub settled : IsNamedRun M call.key pairs
     pub are_done : done writes
     pub are_sent : sent pairs writes
     pub right : M.def call.key call.answers output writes

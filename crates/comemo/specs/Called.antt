@@ -3,7 +3,7 @@ use Rattle.std.specs.Prelude.{◌≡◌, ◌↔◌, ◌⊎◌, ◌++◌, [], Boo
 use Rattle.std.specs.List.{All}
 use Rattle.std.specs.List.Sorted.{IsPermutation}
 use Rattle.comemo_base.specs.Answers.{Agrees}
-use Rattle.comemo_cache.specs.Meaning.{Meaning, Invocation, Run, run}
+use Rattle.comemo_cache.specs.Meaning.{Meaning, Invocation, Run, run, IsNamedRun}
 use Rattle.comemo_cache.specs.Cache.{Entries, Stands, HasNone, Has, Touches, young}
 use Rattle.comemo_cache.specs.Held.{LeadsBy}
 use Rattle.comemo_track.specs.Recording.{Recording}
@@ -46,13 +46,14 @@ module _ {K C R O : Type 0} (M : Meaning K C R O) (call : Invocation K C R) wher
     pub stands : Stands M (run call.key recording.pairs reply.output [])
     pub finished : Finished M es (record { key = call.key; enabled = call.enabled; recording = recording }) sent reply.output reply es'
 
-  -- the reply to a call: it rests on reads that the call's answers agree with, and on writes, by which alone its output is
-  -- right at the key, and which went to the sink. It came by a hit, or by a run, which began at the entries es and ended at mid
+  -- the reply to a call: it rests on reads that the call's answers agree with, which are a run where the asked calls are named, and
+  -- on writes, by which alone its output is right at the key, and which went to the sink. It came by a hit, or by a run, which began at the entries es and ended at mid
   pub record IsReply (es mid : Entries K C R O) (sent : List (C × R) → List C → Type 0) (reply : Reply O) (es' : Entries K C R O) : Type 0 where
     pub pairs : List (C × R)
     pub writes : List C
     pub agrees : Agrees M.same_answer call.answers pairs
     pub stands : Stands M (run call.key pairs reply.output writes)
+    pub settled : IsNamedRun M call.key pairs
     pub gives : Gives M sent pairs writes
     pub came : ((reply.how ≡ how.Hit) × CameByHit es (run call.key pairs reply.output writes) es') ⊎ CameByRun es mid (run call.key pairs reply.output writes) reply.how es'
 

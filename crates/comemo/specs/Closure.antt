@@ -2,7 +2,7 @@
 use Rattle.std.specs.Prelude.{◌≡◌, ◌↔◌, ◌⊎◌, ⊤, Bool, true, false, List, [], IsTrue, Result, Ok, Err, IfOk}
 use Rattle.std.specs.Borrow.{MutBor}
 use Rattle.comemo_track.specs.Recording.{Recording}
-use Rattle.comemo_cache.specs.Meaning.{Meaning, Invocation, run}
+use Rattle.comemo_cache.specs.Meaning.{Meaning, Invocation, run, IsNamedRun}
 use Rattle.comemo_cache.specs.Cache.{Entries, Stands, HasNone, Touches}
 use Rattle.comemo.specs.Begin.{IsBrokenOff, IsStopped}
 use Rattle.comemo.specs.Finish.{Ends, Gives, BreaksOffRun}
@@ -64,6 +64,7 @@ module _ {K C R O : Type 0} (M : Meaning K C R O) (es : Entries K C R O) (call :
     pub own : K
     pub has_key : IsTrue (M.same_key call.key own)
     pub stands : recording.late ≡ false → Stands M (run call.key recording.pairs output recording.writes)
+    pub settled : recording.late ≡ false → IsNamedRun M call.key recording.pairs
     pub ends : Ends M es (run own recording.pairs output recording.writes) reply es'
     pub late : (reply ≡ how.Late) ↔ (recording.late ≡ true)
     pub disabled : (reply ≡ how.Disabled) ↔ ((call.enabled ≡ false) × (recording.late ≡ false))

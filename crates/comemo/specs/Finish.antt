@@ -4,7 +4,7 @@ use Rattle.comemo_base.specs.Answers.{Respects, Agrees}
 use Rattle.comemo_base.specs.Tree.{IsSamePath}
 use Rattle.comemo_base.specs.Lookup.{under}
 use Rattle.comemo_base.specs.Insertion.{Exists, Misses}
-use Rattle.comemo_cache.specs.Meaning.{Meaning, Run, IsNamed}
+use Rattle.comemo_cache.specs.Meaning.{Meaning, Run, IsNamed, IsNamedRun}
 use Rattle.comemo_cache.specs.Cache.{Entries}
 use Rattle.comemo_cache.specs.Storing.{Stores}
 use Rattle.comemo.specs.Begin.{PendingRun, came_to}
@@ -33,13 +33,15 @@ pub record Gives {K C R O : Type 0} (M : Meaning K C R O) (sent : List (C × R) 
   pub are_sent : sent given writes
 
 -- the run was finished with this output, which is the reply's: its recording, which is whole, went to the sink, and became of
--- the entries what the reply says; it is late exactly where the recording is, and disabled exactly where it isn't and began so
+-- the entries what the reply says; it is late exactly where the recording is, and disabled exactly where it isn't and began so; and
+-- where the asked calls are named, a recording that isn't late is a run of them
 pub record Finished {K C R O : Type 0} (M : Meaning K C R O) (es : Entries K C R O) (pending : PendingRun K C R) (sent : List (C × R) → List C → Type 0) (output : O) (reply : Reply O) (es' : Entries K C R O) : Type 0 where
   pub whole : pending.recording.whole ≡ true
   pub same : reply.output ≡ output
   pub ends : Ends M es (came_to pending output) reply.how es'
   pub late : (reply.how ≡ how.Late) ↔ (pending.recording.late ≡ true)
   pub disabled : (reply.how ≡ how.Disabled) ↔ ((pending.enabled ≡ false) × (pending.recording.late ≡ false))
+  pub settled : pending.recording.late ≡ false → IsNamedRun M pending.key pending.recording.pairs
   pub gives : Gives M sent pending.recording.pairs pending.recording.writes
 
 -- a sink, broken off, took a beginning of these pairs, up to equality

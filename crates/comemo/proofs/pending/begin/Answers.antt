@@ -8,6 +8,7 @@ returns-in-Ok-Run-clause-run g c =
       held_map (g.H.Hold.entries c.args.cache.now) _ _ (λ es has. record {
         has_key = has.has_key;
         right = has.right;
+        named = has.named;
         is_enabled = refl;
         pairs = c.new.ensures.pairs;
         writes = c.new.ensures.writes;

@@ -11,6 +11,7 @@ use Rattle.comemo_cache.specs.Held.{Held, Leads}
 use Rattle.comemo_cache.specs.Cache.{HasAged, HasNone}
 use Rattle.comemo_cache.specs.Found.{TouchesFound}
 use Rattle.comemo_cache.proofs.Holding.{held_any, held_map, leads_map, stays_same, stayed, has_so, hit_held}
+use Rattle.comemo_cache.proofs.Named.{named_moved}
 use Rattle.comemo.proofs.pending.look_up.Goals as goal
 use Rattle.comemo.proofs.pending.look_up.Goals.{then-enabled+in-Ok-None, else-enabled}
 
@@ -35,6 +36,7 @@ returns-in-Ok-Some-clause-hit g c =
         stands = λ n r a. g.met.M.Memo.laws.keys c.in-Ok.key _ n c.in-Ok-Some.found.output c.in-Ok-Some.found.writes.items r alike (stands n r a);
         reads = rw (c.in-Ok-Some.is, c.in-Ok-Some.field-0-is) at c.look.ensures.reads;
         written = rw (c.in-Ok-Some.is, c.in-Ok-Some.field-0-is) at c.look.ensures.written;
+        settled = named_moved g.met.M.Call.Eq.laws g.met.M.Answer.Eq.laws g.met.M.Key.Eq.laws g.M.Memo.naming c.in-Ok.key _ c.in-Ok-Some.found.pairs.items alike (rw (c.in-Ok-Some.is, c.in-Ok-Some.field-0-is) at c.look.ensures.settled);
         are_done = g.met.In.Input.joins _ _ _ [] c.in-Ok-Some.found.writes.items c.look.ensures.same c.in_ok-output-in-Ok-Some.ensures.done;
         are_sent = c.in_ok-output-in-Ok-Some.ensures.sent;
         right = g.met.M.Memo.laws.keys c.in-Ok.key _ m c.in-Ok-Some.found.output c.in-Ok-Some.found.writes.items respects alike (stands m respects agrees);
@@ -60,6 +62,7 @@ returns-clause-run g c =
       held_map (g.H.Hold.entries c.args.cache.now) _ _ (λ es n. record {
         has_key = c.in-Ok.ensures;
         right = λ n output writes r d. g.met.M.Memo.laws.keys c.in-Ok.key _ n output writes r alike d;
+        named = λ pairs run. named_moved g.met.M.Call.Eq.laws g.met.M.Answer.Eq.laws g.met.M.Key.Eq.laws g.M.Memo.naming c.in-Ok.key _ pairs alike run;
         none = n;
       }) none,
       did,
