@@ -27,7 +27,7 @@ use Rattle.comemo_track.specs.declared.multi.MultiAnswer.{MultiAnswer}
 use Rattle.comemo_track.specs.declared.multi.MultiAnswer.TheVariants as answer
 use Rattle.comemo.proofs.Under.{Any-from_under}
 use Rattle.comemo.proofs.Paths.{IsSamePath-turned, Agrees-same}
-use Rattle.comemo.proofs.Calls.{recorded, stands_at_call}
+use Rattle.comemo.proofs.Calls.{recorded, reply_by_run}
 use Rattle.comemo.proofs.Endings.{gives_early}
 use Rattle.comemo.proofs.Named.{run_named, run_from_named, named_moved, named_alike}
 use Rattle.comemo.proofs.Settling.{settles_not, settles_on, settles_absorbed, run_of_one, run_from_settles, run_alike}
@@ -208,43 +208,20 @@ pub script_settled : {script : List ℕ} (key : String Global) (own : String Glo
 script_settled {script = script} key own ps named has whole =
     run_named (keyed_calls tests) (keyed_answers tests) keys EvalAsks asks_respect own ps (subst (λ x. IsRun same_call same_answer (ScriptAsks x) ps) (sym named ∙ key_bytes key own.0 has) whole)
 
--- what a hit rests on is what the script asks for, where the paths of the entries are runs
-pub settled_hit : (files : Files) {script : List ℕ} {key : String Global} {es mid es' : Outcomes} {sent : List (JoinedCall × JoinedAnswer) → List JoinedCall → Type 0} {output : Outcome} → string_bytes key ≡ script → All (λ e. IsNamedRun evaluating e.key e.path) es → (replied : IsReply evaluating (with_files key files) es mid sent (record { output = output; how = how.Hit }) es') → IsRun same_call same_answer (ScriptAsks script) replied.pairs
-settled_hit files {key = key} {es = es} named settled replied =
-    elim replied.came [
-      | inl hit ↦
-          let found = Any-from_under same_key es (key, tt) _ hit.1.kept in
-          let own = subst (λ e. IsNamedRun evaluating e.key e.path) found.3 (settled found.0 found.1 found.2) in
-          let moved = named_moved (keyed_calls tests) (keyed_answers tests) keys (names EvalAsks) found.1.key (key, tt) found.1.path found.4.0 own in
-          let alike = named_alike (keyed_calls tests) (keyed_answers tests) keys (names EvalAsks) (key, tt) found.1.path replied.pairs found.4.1.1 moved in
-          subst (λ x. IsRun same_call same_answer (ScriptAsks x) replied.pairs) named (run_from_named (keyed_calls tests) (keyed_answers tests) keys EvalAsks asks_respect (key, tt) replied.pairs alike)
-      | inr came ↦ absurd came.ends
-    ]
+-- what a reply rests on is what the script asks for
+pub settled_reply : (files : Files) {script : List ℕ} {key : String Global} {es mid es' : Outcomes} {sent : List (JoinedCall × JoinedAnswer) → List JoinedCall → Type 0} {reply : Reply Outcome} → string_bytes key ≡ script → (replied : IsReply evaluating (with_files key files) es mid sent reply es') → IsRun same_call same_answer (ScriptAsks script) replied.pairs
+settled_reply files {key = key} named replied =
+    subst (λ x. IsRun same_call same_answer (ScriptAsks x) replied.pairs) named (run_from_named (keyed_calls tests) (keyed_answers tests) keys EvalAsks asks_respect (key, tt) replied.pairs replied.settled)
 
 -- the reply to a run, which rests on what it recorded
 pub replied_run : (files : Files) {script : List ℕ} {key : String Global} {es mid es' : Outcomes} {begun : PendingRun (String Global × ⊤) JoinedCall JoinedAnswer} {t : Recording JoinedCall JoinedAnswer} {S : Type 0} (took : S → S → List (JoinedCall × JoinedAnswer) → List JoinedCall → Type 0) (lates : S → S → Type 0) {i j : S} {output : Outcome} {reply : Reply Outcome} → string_bytes key ≡ script → Begins evaluating es (with_files key files) begun → RunLeads (At (answers_of files)) (moves files) script es mid
-    → t.late ≡ false → Agrees same_answer (with_key (answers_of files)) t.pairs → Stands evaluating (came_to (recorded begun t) output) → Finished evaluating mid (recorded begun t) (TookAs took lates t.late i j) output reply es' → IsRun same_call same_answer (ScriptAsks script) t.pairs → EvalReply files script es (took i j) reply es'
-replied_run files {key = key} {mid = mid} {es' = es'} {begun = begun} {t = t} took lates {output = output} {reply = reply} named is calls early agrees stands done settled = record {
+    → t.late ≡ false → Agrees same_answer (with_key (answers_of files)) t.pairs → Stands evaluating (came_to (recorded begun t) output) → Finished evaluating mid (recorded begun t) (TookAs took lates t.late i j) output reply es' → EvalReply files script es (took i j) reply es'
+replied_run files {key = key} {mid = mid} {t = t} took lates named is calls early agrees stands done = record {
   key = key;
   names = named;
   mid = mid;
   calls = λ _. calls;
-  is_reply = record {
-    pairs = t.pairs;
-    writes = t.writes;
-    agrees = agrees;
-    stands = subst (λ o. Stands evaluating (run (key, tt) t.pairs o t.writes)) (sym done.same) (stands_at_call is t.pairs output t.writes stands);
-    gives = gives_early took lates t.late early done.gives;
-    came = inr (record {
-      none = is.none;
-      own = begun.key;
-      has_key = is.has_key;
-      ends = subst (λ o. Ends evaluating mid (run begun.key t.pairs o t.writes) reply.how es') (sym done.same) done.ends;
-      disabled = (λ d. sym is.is_enabled ∙ (done.disabled.0 d).0, λ d. done.disabled.1 (is.is_enabled ∙ d, early));
-      early = λ l. let no : false ≡ true = sym early ∙ done.late.0 l in cc;
-    });
-  };
-  settled = settled;
+  is_reply = reply_by_run took lates {t = t} is early agrees stands done;
 }
 
 -- what a read tells of all answers that fit

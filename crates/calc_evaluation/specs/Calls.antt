@@ -56,12 +56,11 @@ abbrev pub moves : Files → Moves Outcomes
 moves files = record { hit = HitLed files; missed = Missed files; ended = RunEnded files; refused = OnlyTouches files }
 
 -- the reply to a call of a script: by an entry of es that agrees with the files; or none of them did, the scripts that the run
--- called, one after the other, led from es to mid, and the run ended at mid, after which the entries are es'. The reads that it
--- rests on are what the script asks for
+-- called, one after the other, led from es to mid, and the run ended at mid, after which the entries are es'. As a reply of a
+-- function that names its calls, it rests on reads that are what the script asks for
 pub record EvalReply (files : Files) (script : List ℕ) (es : Outcomes) (sent : List (JoinedCall × JoinedAnswer) → List JoinedCall → Type 0) (reply : Reply Outcome) (es' : Outcomes) : Type 0 where
   pub key : String Global
   pub names : string_bytes key ≡ script
   pub mid : Outcomes
   pub calls : reply.how ≢ how.Hit → RunLeads (At (answers_of files)) (moves files) script es mid
   pub is_reply : IsReply evaluating (with_files key files) es mid sent reply es'
-  pub settled : IsRun same_call same_answer (ScriptAsks script) is_reply.pairs

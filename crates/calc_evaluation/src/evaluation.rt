@@ -112,8 +112,7 @@ fn begin_script<S: Sink<Call = JoinedCall, Answer = JoinedAnswer>>(
 /// What the script comes to that was begun so: `evaluate` for any sink, and for the recording of a run around it. It is
 /// written once as a macro, since a function can't call itself for another sink.
 macro_rules! evaluate_script {
-    ($alloc:ident, $cache:ident, $files:ident, $script:ident, $limit:ident, $sink:ident) => {{
-        $cache.is_settled();
+    ($alloc:ident, $cache:ident, $files:ident, $script:ident, $limit:ident, $sink:ident) => {
         match begin_script($alloc, $cache, $files, $script, $limit, $sink) {
             Ok(Begun::Hit(output)) => Ok(Reply {
                 output,
@@ -133,7 +132,7 @@ macro_rules! evaluate_script {
             }
             Err(fault) => Err(fault),
         }
-    }};
+    };
 }
 
 /// What one part of a script comes to, with the scripts that it calls under a limit.

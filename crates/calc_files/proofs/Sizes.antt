@@ -80,6 +80,7 @@ size_by_run files {es = es} {es' = es'} {key = key} {begun = begun} {t = t} took
         writes = t.writes;
         agrees = fits.agrees;
         stands = subst (λ o. Stands sizing (came (key, tt) t.pairs o t.writes)) (sym finished.same) (stands_at_call run t.pairs output t.writes stands);
+        settled = tt;
         gives = gives_early took lates t.late fits.early finished.gives;
         came = inr (record {
           none = run.none;

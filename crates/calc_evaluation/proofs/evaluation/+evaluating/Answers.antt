@@ -3,7 +3,7 @@ use Rattle.comemo.specs.Runs.{IsRun}
 use Rattle.comemo.specs.Multi.{second_answer}
 use Rattle.calc_files.specs.Joined.{same_call, same_answer, touches}
 use Rattle.comemo.specs.Recording.{Took, MarkedLate}
-use Rattle.calc_evaluation.proofs.Asking.{script_run, script_settled, settled_hit, replied_run, settles_part, settles_none, settles_start, settles_rest, settles_last, settles_end, learns_text, told_text}
+use Rattle.calc_evaluation.proofs.Asking.{script_run, script_settled, settled_reply, replied_run, settles_part, settles_none, settles_start, settles_rest, settles_last, settles_end, learns_text, told_text}
 use Rattle.calc_scripts.specs.Meaning.{is_bad}
 use Rattle.calc_scripts.specs.Calls.{no_call, one_call, is_refused, is_broken, has_no_end, not_read, failed_call}
 use Rattle.calc_scripts.specs.Taken.{Taken}
@@ -73,7 +73,7 @@ evaluate_within-returns-in-Ok-Hit-clause-outcome t c =
 pub evaluate_within-returns-in-Ok-Hit-clause-reply : goal.evaluate_within-returns-in-Ok-Hit-clause-reply
 evaluate_within-returns-in-Ok-Hit-clause-reply t c =
     let (key, same, hit) = rw (c.in-Ok-Hit.is, c.in-Ok-Hit.field-0-is) at c.begin_script.ensures.begun in
-    record { key = key; names = same; mid = c.args.cache.now; calls = λ not. absurd (not refl); is_reply = hit.1; settled = settled_hit c.args.files.now same c.is_settled.ensures hit.1 }
+    record { key = key; names = same; mid = c.args.cache.now; calls = λ not. absurd (not refl); is_reply = hit.1 }
 
 pub evaluate_within-returns-in-Ok-Hit-clause-led : goal.evaluate_within-returns-in-Ok-Hit-clause-led
 evaluate_within-returns-in-Ok-Hit-clause-led t c = led_by_reply c.args.files.now (evaluate_within-returns-in-Ok-Hit-clause-reply t c)
@@ -98,7 +98,7 @@ evaluate_within-returns-in-Ok-finish-clause-reply t c =
     let (key, same, run) = rw (c.in-Ok-Run.is, c.in-Ok-Run.field-0-is) at c.begin_script.ensures.begun in
     let ran = c.in-Ok.ensures in
     let stands = run_stands _ _ _ key c.in-Ok-Run.pending.key _ same run.2.has_key (rw c.recording.ensures.value run.2.writes) ran.writes ran.learns ran.fits.whole ran.fits.early in
-    replied_run c.args.files.now (Took same_call touches) MarkedLate same run.2 (rw (rw (c.in-Ok-Run.is, c.in-Ok-Run.field-0-is) at c.begin_script.ensures.kept) at ran.led) ran.fits.early ran.fits.agrees stands (rw (c.in-Ok-finish.is, run.1) at c.finish.ensures.finished) (script_run _ _ (rw c.recording.ensures.value run.2.pairs) ran.asks)
+    replied_run c.args.files.now (Took same_call touches) MarkedLate same run.2 (rw (rw (c.in-Ok-Run.is, c.in-Ok-Run.field-0-is) at c.begin_script.ensures.kept) at ran.led) ran.fits.early ran.fits.agrees stands (rw (c.in-Ok-finish.is, run.1) at c.finish.ensures.finished)
 
 pub evaluate_within-returns-in-Ok-finish-clause-led : goal.evaluate_within-returns-in-Ok-finish-clause-led
 evaluate_within-returns-in-Ok-finish-clause-led t c = led_by_reply c.args.files.now (evaluate_within-returns-in-Ok-finish-clause-reply t c)
@@ -181,7 +181,7 @@ evaluate_part-returns-in_ok-reply-in-Eval-clause-asks t c = λ bytes is.
     let (own, named, asks) = c.in-Ok.ensures in
     let replied = c.in_ok-reply-in-Eval.ensures.reply in
     let fits = fits_read files asks c.requires in
-    settles_part files asks c.requires fits (told_text files asks c.requires fits.whole fits.early) replied.is_reply (rw c.as_str.ensures at replied.settled) (rw c.in-Eval.is at is) named
+    settles_part files asks c.requires fits (told_text files asks c.requires fits.whole fits.early) replied.is_reply (rw c.as_str.ensures at settled_reply files replied.names replied.is_reply) (rw c.in-Eval.is at is) named
 
 pub run_script-returns-in-Err-clause-asks : goal.run_script-returns-in-Err-clause-asks
 run_script-returns-in-Err-clause-asks t c =

@@ -1,7 +1,7 @@
 use Rattle.std.proofs.Common.{refl, sym, subst, ap, Err}
 use Rattle.comemo.specs.Runs.{IsRun}
 use Rattle.comemo.proofs.Calls.{broke_at_end}
-use Rattle.calc_evaluation.proofs.Asking.{script_run, script_settled, settled_hit, replied_run}
+use Rattle.calc_evaluation.proofs.Asking.{script_run, script_settled, replied_run}
 use Rattle.comemo.proofs.KeyedViews.{keyed_calls, keyed_answers}
 use Rattle.calc_scripts.specs.Calls.{is_refused, is_broken, has_no_end}
 use Rattle.calc_files.specs.Files.{answers_of, with_key}
@@ -21,7 +21,7 @@ returns-in-Ok-Hit-clause-outcome g c =
 pub returns-in-Ok-Hit-clause-reply : goal.returns-in-Ok-Hit-clause-reply
 returns-in-Ok-Hit-clause-reply g c =
     let (key, same, hit) = rw (c.in-Ok-Hit.is, c.in-Ok-Hit.field-0-is) at c.begin_script.ensures.begun in
-    record { key = key; names = same; mid = c.args.cache.now; calls = λ not. absurd (not refl); is_reply = hit.1; settled = settled_hit c.args.files.now same c.is_settled.ensures hit.1 }
+    record { key = key; names = same; mid = c.args.cache.now; calls = λ not. absurd (not refl); is_reply = hit.1 }
 
 pub returns-in-Ok-Hit-clause-led : goal.returns-in-Ok-Hit-clause-led
 returns-in-Ok-Hit-clause-led g c = led_by_reply c.args.files.now (returns-in-Ok-Hit-clause-reply g c)
@@ -51,7 +51,7 @@ returns-in-Ok-finish-clause-reply g c =
     let (key, same, run) = rw (c.in-Ok-Run.is, c.in-Ok-Run.field-0-is) at c.begin_script.ensures.begun in
     let ran = c.in-Ok.ensures in
     let stands = run_stands _ _ _ key c.in-Ok-Run.pending.key _ same run.2.has_key (rw c.recording.ensures.value run.2.writes) ran.writes ran.learns ran.fits.whole ran.fits.early in
-    replied_run c.args.files.now g.S.Sink.took g.S.Sink.lates same run.2 (rw (rw (c.in-Ok-Run.is, c.in-Ok-Run.field-0-is) at c.begin_script.ensures.kept) at ran.led) ran.fits.early ran.fits.agrees stands (rw (c.in-Ok-finish.is, run.1) at c.finish.ensures.finished) (script_run _ _ (rw c.recording.ensures.value run.2.pairs) ran.asks)
+    replied_run c.args.files.now g.S.Sink.took g.S.Sink.lates same run.2 (rw (rw (c.in-Ok-Run.is, c.in-Ok-Run.field-0-is) at c.begin_script.ensures.kept) at ran.led) ran.fits.early ran.fits.agrees stands (rw (c.in-Ok-finish.is, run.1) at c.finish.ensures.finished)
 
 pub returns-in-Ok-finish-clause-led : goal.returns-in-Ok-finish-clause-led
 returns-in-Ok-finish-clause-led g c = led_by_reply c.args.files.now (returns-in-Ok-finish-clause-reply g c)
