@@ -27,6 +27,8 @@ use comemo_base::{CallSequence, InsertError};
 use slab::Slab;
 use std::alloc::{AllocError, Global};
 use std::collections::HashMap;
+use std::fmt;
+use std::fmt::Debug;
 use std::hash::Hash;
 use std::marker::Model;
 use std::snapshot::Snapshot;
@@ -60,6 +62,19 @@ pub(crate) struct LeafNode<K, T> {
     pub(crate) depth: usize,
 }
 
+/// It prints all but its key, of which it has no bytes.
+impl<K, T: Debug> Debug for LeafNode<K, T> {
+    ghost debug_output = { λ _. None };
+
+    fn fmt<W: fmt::Write>(&self, f: &mut fmt::Formatter<W>) -> fmt::Result {
+        f.debug_struct("LeafNode")
+            .field("value", &self.value)
+            .field("parent", &self.parent)
+            .field("depth", &self.depth)
+            .finish()
+    }
+}
+
 /// Where the paths of a key begin.
 #[derive(Debug, Drop)]
 pub(crate) struct Start {
@@ -72,7 +87,7 @@ pub(crate) struct Start {
 /// Contracts see it as a list of entries, of whose order no clause speaks. Any two paths under one key part: after an
 /// equal front they go on with the same call and different answers. So at most one path under a key agrees with given
 /// answers. comemo's `CallTree`, with keys and answers themselves in the place of their hashes.
-#[derive(Drop)]
+#[derive(Debug, Drop)]
 pub struct CallTree<K: Eq + Hash, C: Eq + Hash, R: Ord, T> {
     inner: Slab<InnerNode<C, R>>,
     leaves: Slab<LeafNode<K, T>>,
