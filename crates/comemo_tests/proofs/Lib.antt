@@ -1,3 +1,4 @@
 pub mod Numbers
 pub mod Contains
 pub mod Failing
+pub mod TouchedAlike
