@@ -181,7 +181,7 @@ evaluate_part-returns-in_ok-reply-in-Eval-clause-asks t c = λ bytes is.
     let (own, named, asks) = c.in-Ok.ensures in
     let replied = c.in_ok-reply-in-Eval.ensures.reply in
     let fits = fits_read files asks c.requires in
-    settles_part files asks c.requires fits (told_text files asks c.requires fits.whole fits.early) replied.is_reply (rw c.as_str.ensures at settled_reply files replied.names replied.is_reply) (rw c.in-Eval.is at is) named
+    settles_part files asks c.requires fits (told_text files asks c.requires fits.whole fits.early) replied.is_reply (settled_reply files (replied.names ∙ c.as_str.ensures) replied.is_reply) (rw c.in-Eval.is at is) named
 
 pub run_script-returns-in-Err-clause-asks : goal.run_script-returns-in-Err-clause-asks
 run_script-returns-in-Err-clause-asks t c =
