@@ -48,17 +48,20 @@ pub(crate) fn prune<K, C: Drop, R: Ord + Drop, T>(
 }
 
 /// Drops the keys whose first node is not there.
-pub(crate) fn retain_starts<K: Eq + Hash + Drop, C, R: Ord, T>(
-    starts: &mut HashMap<K, Start>,
+///
+/// What the leaves share has a type of its own here, which is the keys': where the values' type names the keys', a call of
+/// `HashMap::retain` gets no proof.
+pub(crate) fn retain_starts<K: Eq + Hash + Drop, S: Drop, C, R: Ord, T>(
+    starts: &mut HashMap<K, Start<S>>,
     inner: &Slab<InnerNode<C, R>>,
-    leaves: &Slab<LeafNode<K, T>>,
+    leaves: &Slab<LeafNode<S, T>>,
 )
     ensures entries { starts.new.entries
         ≡ filter (λ e. has_node inner.now leaves.now e.1.first) starts.old.entries }
     ensures unique { map.IsUnique K.eq starts.old }
 {
     starts.retain(
-        |_key: &K, start: &mut Start| -> bool
+        |_key: &K, start: &mut Start<S>| -> bool
             ensures stays { result ≡ has_node inner.entry.now leaves.entry.now start.old.first }
             ensures same { start.new ≡ start.old }
         { is_there(inner, leaves, start.first) },
