@@ -1,5 +1,5 @@
 -- How a run ends, where a clone of its output is kept.
-use Rattle.std.proofs.Common.{◌≡◌, Bool, true, false, List, [], ◌∷◌, sym, subst}
+use Rattle.std.proofs.Common.{◌≡◌, Bool, true, false, List, sym, subst}
 use Rattle.std.specs.Cmp.{IsEquivalence}
 use Rattle.comemo_base.specs.Tree.{IsSamePath}
 use Rattle.comemo_base.proofs.Paths.{Agrees-same, IsSamePath-turned}
@@ -7,13 +7,10 @@ use Rattle.comemo_track.specs.Sending.{TookAs}
 use Rattle.comemo_cache.specs.Meaning.{Meaning, run, exactly, SameWrites}
 use Rattle.comemo_cache.specs.Cache.{Entries}
 use Rattle.comemo.specs.Finish.{Ends, Gives, BreaksOffRun}
+use Rattle.comemo_cache.proofs.Entries.{IsSamePath-itself}
 use Rattle.comemo_cache.proofs.Writings.{SameWrites-joined}
 use Rattle.comemo.specs.declared.pending.How.{How}
 use Rattle.comemo.specs.declared.pending.How.TheVariants as how
-
-pub IsSamePath-itself : {C R : Type 0} {eq : C → C → Bool} {same : R → R → Bool} → IsEquivalence eq → IsEquivalence same → (ps : List (C × R)) → IsSamePath eq same ps ps
-IsSamePath-itself calls answers [] = tt
-IsSamePath-itself calls answers (p ∷ ps) = (calls.refl p.0, answers.refl p.1, IsSamePath-itself calls answers ps)
 
 module _ {K C R O : Type 0} {M : Meaning K C R O} (calls : IsEquivalence M.same_call) (answers : IsEquivalence M.same_answer) where
   -- what went to a sink in place of the pairs of a run

@@ -4,6 +4,7 @@ pub mod Recorders
 pub mod NamedRuns
 pub mod RecordersMut
 pub mod Calls
+pub mod Hits
 pub mod Closures
 pub mod Growing
 pub mod JoinedHits

@@ -1,6 +1,6 @@
 -- What a recorder of a value that is written knows of its recording.
 use Rattle.std.specs.Prelude.{⊤}
-use Rattle.std.proofs.Common.{◌≡◌, ◌∙◌, ◌||◌, cond, suc, Bool, true, false, List, [], ◌∷◌, ◌++◌, IsTrue, Result, Ok, Err, IfOk, OnErr, IsErr, IsErrAnd, arith, refl, sym, ap, subst, append-nil, inl, inr}
+use Rattle.std.proofs.Common.{◌≡◌, ◌∙◌, ◌||◌, cond, Bool, true, false, List, [], ◌∷◌, ◌++◌, IsTrue, Result, Ok, Err, OnErr, IsErr, IsErrAnd, refl, sym, ap, subst, append-nil, inl, inr}
 use Rattle.std.proofs.lemmas.Bool.{cases_Bool}
 use Rattle.std.proofs.lemmas.List.Elements.{All-head, All-tail}
 use Rattle.std.specs.List.{All}
@@ -12,12 +12,12 @@ use Rattle.comemo_base.proofs.Paths.{turned, joined, Agrees-same, IsSamePath-tur
 use Rattle.comemo_track.specs.Recording.{Recording, Took, Spoiled, MarkedLate}
 use Rattle.comemo_track.specs.RecordingLaws.{held-absorbed}
 use Rattle.comemo_track.specs.Sending.{Asks, BreaksOff, SpoiledAfter, TookAs}
-use Rattle.comemo_track.specs.Writing.{SameReads, Done, touched, touched_by}
+use Rattle.comemo_track.specs.Writing.{Done, touched, touched_by}
 use Rattle.comemo_track.specs.WritingLaws.{done_both, done_keeps, neither}
 use Rattle.comemo.specs.Function.{Fits}
 use Rattle.comemo_cache.specs.Meaning.{Meaning, Invocation, invocation}
 use Rattle.comemo_cache.specs.Cache.{Entries}
-use Rattle.comemo.specs.Called.{IsReply, IsReplyMut, IsLate}
+use Rattle.comemo.specs.Called.{IsReply, IsReplyMut}
 use Rattle.comemo.specs.declared.pending.Reply.{Reply}
 use Rattle.comemo.specs.Begin.{Reaches, IsBrokenOff}
 use Rattle.comemo.specs.Finish.{BreaksOffRun}

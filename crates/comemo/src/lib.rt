@@ -43,8 +43,8 @@ pub mod recursive_mut;
 pub use closure::{Record, memoize};
 pub use comemo_base::{CallSequence, InsertError, Prehashed, SipHasher13, Tagged, hash, hash_any};
 pub use comemo_cache::{
-    Cache, CacheData, Caches, Evict, Evictor, Found, Hold, Meant, Memo, Reads, Shared, Step,
-    StepReply, evictors, register_evictor,
+    Cache, CacheData, Caches, Evict, Evictor, Found, Hold, Meant, Memo, Peeked, Reads, Shared,
+    Step, StepReply, evictors, register_evictor,
 };
 pub use comemo_settled::{Asks, Keep, Settled, TreeOp, TreeReply};
 pub use comemo_track::{

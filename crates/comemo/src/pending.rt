@@ -1,10 +1,10 @@
 //! Calls of memoized functions, from their beginning to their end: a hit, or a run, which is finished and stored where
 //! it can be, or given up.
-ghost use Rattle.std.specs.Prelude.{◌≡◌, ◌≤◌, [], ◌∷◌, ◌++◌, ◌↔◌, List, Bool, true, false, length, IsTrue, IfOk, IfErr, OnOk, OnErr, Ok, Err, ⊤};
+ghost use Rattle.std.specs.Prelude.{◌≡◌, ◌≤◌, [], ◌∷◌, ◌++◌, ◌↔◌, List, Bool, true, false, length, IsTrue, IfOk, IfErr, IfSome, IfNone, OnOk, OnErr, Ok, Err, ⊤};
 ghost use Rattle.std.specs.List.{All};
 ghost use Rattle.comemo_base.specs.Tree.{IsSamePath};
 ghost use Rattle.comemo_cache.specs.Meaning.{Invocation, SameWrites, IsNamedRun, exactly, invocation, run};
-ghost use Rattle.comemo_cache.specs.Cache.{Stands, Touches};
+ghost use Rattle.comemo_cache.specs.Cache.{Stands, HasNone, Touches};
 ghost use Rattle.comemo_cache.specs.Found.{TouchesFound};
 ghost use Rattle.comemo_tree.specs.Change.{HasAnswers};
 ghost use Rattle.comemo.specs.Begin.{Reaches, HasToRun, IsHit, IsRun, IsBrokenOff, IsStopped, came_to};
@@ -13,7 +13,7 @@ ghost use Rattle.comemo.specs.Finish.{Ends, Gives, Finished, BreaksOffRun};
 ghost use Rattle.comemo_cache.specs.Held.{Held, Leads, Stays};
 
 use comemo_base::{CallSequence, InsertError};
-use comemo_cache::cache::{Found, Meant, Memo};
+use comemo_cache::cache::{Found, Meant, Memo, Peeked};
 use comemo_cache::hold::Hold;
 use comemo_track::constraint::Constraint;
 use comemo_track::input::Input;
@@ -386,10 +386,7 @@ fn give_reads<S: Sink>(
 }
 
 /// Gives a late recording's reads and then its writes to a sink, and marks that late.
-fn give_late<S: Sink>(
-    recording: Constraint<S::Call, S::Answer>,
-    sink: &mut S,
-) -> Result<(), Fault>
+fn give_late<S: Sink>(recording: Constraint<S::Call, S::Answer>, sink: &mut S) -> Result<(), Fault>
     ensures ok { OnOk result (⟦<S as Breaking>⟧.took_as true
         sink.old sink.new recording.pairs recording.writes) }
     ensures fault { IfErr result (λ fault. fault ≡ Fault.Memory) }
@@ -604,6 +601,144 @@ fn give_found<
     Ok(output)
 }
 
+/// Gives what a peek found to a sink that is told no path: its writes to the input and the sink, and its output.
+///
+/// Fails if there was no room for the writes, with nothing done; or if the input refused one, with those before it done.
+/// Either way the sink is spoiled.
+fn give_peeked<
+    M: Memo,
+    In: Input<Call = M::Call, Key = M::Key, Answer = M::Answer>,
+    S: Sink<Call = M::Call, Answer = M::Answer>,
+>(peeked: Peeked<M>, input: &mut In, sink: &mut S) -> Result<M::Out, Fault>
+    requires { All (λ c. M.Call.is_write c ≡ true) peeked.writes.items }
+    ensures output { IfOk result (λ output. output ≡ peeked.output) }
+    ensures done { OnOk result (In.did input.old input.new peeked.writes.items) }
+    ensures sent { OnOk result (S.took sink.old sink.new [] peeked.writes.items) }
+    ensures err { IfErr result (λ fault. OnFault fault
+        (In.did input.old input.new [] × ⟦<S as Breaking>⟧.breaks_off sink.old sink.new [])
+        ((front : List M.Call) × (next : M.Call) × (rest : List M.Call)
+        × (peeked.writes.items ≡ front ++ next ∷ rest) × In.did input.old input.new front
+        × ⟦<S as Breaking>⟧.spoiled_after sink.old sink.new [] front
+        × (M.Call.is_write next ≡ true))) }
+{
+    let Peeked {
+        output,
+        writes: calls,
+        age: _,
+    } = peeked;
+    let Ok(()) = sink.reserve(calls.len()) else {
+        sink.spoil();
+        return Err(Fault::Memory);
+    };
+    replay(calls, input, sink)?;
+    Ok(output)
+}
+
+/// Looks for an entry that agrees, with its path, and gives its output as a hit does; or nothing, where none agrees.
+///
+/// Of a hit and of a fault its clauses speak at whatever the input was before it was asked and nothing was written to it.
+/// Fails as a call that begins fails.
+fn look_hit<
+    M: Memo,
+    H: Hold<M>,
+    In: Input<Call = M::Call, Key = M::Key, Answer = M::Answer>,
+    S: Sink<Call = M::Call, Answer = M::Answer>,
+>(
+    alloc: Global,
+    cache: &mut H,
+    key: &M::Key,
+    input: &mut In,
+    sink: &mut S,
+) -> Result<Option<M::Out>, Fault>
+    requires { IsTrue (M.Key.eq (In.key_of input.now) key.now) }
+    ensures hit { IfOk result (λ found. IfSome found (λ output.
+        (s : In) → In.did s input.old []
+        → Leads (H.entries cache.old) (H.entries cache.new) (λ es es'.
+        IsHit ⟦<M as Meant>⟧.meaning es (⟦<In as Invoked>⟧.invoked s true)
+        (In.did s input.new) (S.took sink.old sink.new) output
+        × Touches ⟦<M as Meant>⟧.meaning es (⟦<In as Invoked>⟧.invoked s true) es'))) }
+    ensures none { IfOk result (λ found. IfNone found (Held (H.entries cache.old) (λ es.
+        HasNone ⟦<M as Meant>⟧.meaning es (⟦<In as Invoked>⟧.invoked input.old true))
+        × In.did input.old input.new [] × (sink.new ≡ sink.old)
+        × Stays (H.entries cache.old) (H.entries cache.new))) }
+    ensures err { IfErr result (λ fault. (s : In) → In.did s input.old [] → OnFault fault
+        (Stays (H.entries cache.old) (H.entries cache.new) × In.did s input.new []
+        × Held (H.entries cache.old) (λ es. IsBrokenOff ⟦<M as Meant>⟧.meaning es
+        (⟦<In as Invoked>⟧.invoked s true)
+        (⟦<S as Breaking>⟧.breaks_off sink.old sink.new)))
+        (Leads (H.entries cache.old) (H.entries cache.new) (λ es es'.
+        Touches ⟦<M as Meant>⟧.meaning es (⟦<In as Invoked>⟧.invoked s true) es'
+        × IsStopped ⟦<M as Meant>⟧.meaning es (⟦<In as Invoked>⟧.invoked s true)
+        (In.did s input.new) (⟦<S as Breaking>⟧.spoiled_after sink.old sink.new)))) }
+{
+    match cache.look(key, input) {
+        Ok(Some(found)) => {
+            let output = give_found(alloc, cache, key, found, input, sink)?;
+            Ok(Some(output))
+        }
+        Ok(None) => Ok(None),
+        Err(_) => {
+            sink.spoil();
+            Err(Fault::Memory)
+        }
+    }
+}
+
+/// Looks for an entry that agrees, and gives its output as a hit does; or nothing, where none agrees.
+///
+/// For a sink that keeps nothing it peeks first, so that no path is copied where the entry has age 0; one that has an age
+/// is looked for again with its path, by whose answers it is touched. Fails as a call that begins fails.
+fn find_hit<
+    M: Memo,
+    H: Hold<M>,
+    In: Input<Call = M::Call, Key = M::Key, Answer = M::Answer>,
+    S: Sink<Call = M::Call, Answer = M::Answer>,
+>(
+    alloc: Global,
+    cache: &mut H,
+    key: &M::Key,
+    input: &mut In,
+    sink: &mut S,
+) -> Result<Option<M::Out>, Fault>
+    requires { IsTrue (M.Key.eq (In.key_of input.now) key.now) }
+    ensures hit { IfOk result (λ found. IfSome found (λ output.
+        Leads (H.entries cache.old) (H.entries cache.new) (λ es es'.
+        IsHit ⟦<M as Meant>⟧.meaning es (⟦<In as Invoked>⟧.invoked input.old true)
+        (In.did input.old input.new) (S.took sink.old sink.new) output
+        × Touches ⟦<M as Meant>⟧.meaning es
+        (⟦<In as Invoked>⟧.invoked input.old true) es'))) }
+    ensures none { IfOk result (λ found. IfNone found (Held (H.entries cache.old) (λ es.
+        HasNone ⟦<M as Meant>⟧.meaning es (⟦<In as Invoked>⟧.invoked input.old true))
+        × In.did input.old input.new [] × (sink.new ≡ sink.old)
+        × Stays (H.entries cache.old) (H.entries cache.new))) }
+    ensures err { IfErr result (λ fault. OnFault fault
+        (Stays (H.entries cache.old) (H.entries cache.new) × In.did input.old input.new []
+        × Held (H.entries cache.old) (λ es. IsBrokenOff ⟦<M as Meant>⟧.meaning es
+        (⟦<In as Invoked>⟧.invoked input.old true)
+        (⟦<S as Breaking>⟧.breaks_off sink.old sink.new)))
+        (Leads (H.entries cache.old) (H.entries cache.new) (λ es es'.
+        Touches ⟦<M as Meant>⟧.meaning es (⟦<In as Invoked>⟧.invoked input.old true) es'
+        × IsStopped ⟦<M as Meant>⟧.meaning es (⟦<In as Invoked>⟧.invoked input.old true)
+        (In.did input.old input.new) (⟦<S as Breaking>⟧.spoiled_after sink.old sink.new)))) }
+{
+    if !sink.keeps_nothing() {
+        return look_hit(alloc, cache, key, input, sink);
+    }
+    let peeked = match cache.peek(key, input) {
+        Ok(Some(peeked)) => peeked,
+        Ok(None) => return Ok(None),
+        Err(_) => {
+            sink.spoil();
+            return Err(Fault::Memory);
+        }
+    };
+    if peeked.age > 0 {
+        return look_hit(alloc, cache, key, input, sink);
+    }
+    let output = give_peeked(peeked, input, sink)?;
+    Ok(Some(output))
+}
+
 /// What a look-up for a call came to.
 pub(crate) enum Looked<Out, Key> {
     /// An entry agreed: its output.
@@ -654,20 +789,14 @@ pub(crate) fn look_up<
         sink.spoil();
         return Err(Fault::Memory);
     };
-    if enabled {
-        match cache.look(&key, input) {
-            Ok(Some(found)) => {
-                let output = give_found(alloc, cache, &key, found, input, sink)?;
-                return Ok(Looked::Hit(output));
-            }
-            Ok(None) => {}
-            Err(_) => {
-                sink.spoil();
-                return Err(Fault::Memory);
-            }
-        }
+    if !enabled {
+        return Ok(Looked::Run(key));
     }
-    Ok(Looked::Run(key))
+    match find_hit(alloc, cache, &key, input, sink) {
+        Ok(Some(output)) => Ok(Looked::Hit(output)),
+        Ok(None) => Ok(Looked::Run(key)),
+        Err(fault) => Err(fault),
+    }
 }
 
 /// Begins a call of a memoized function: looks for an entry that agrees, and gives its output; or begins a run.
@@ -682,7 +811,9 @@ pub(crate) fn look_up<
 /// It clones the key, and looks as `CacheData::look` does, which asks each call of one stored path once and finds its
 /// answer in an ordered map. On a hit it clones the calls of the entry's path, its output and its writes, and sends each
 /// pair of the path and each write to the sink; where the entry has an age, it clones the path's answers too, and follows
-/// the path once more by these. The first half of comemo's `memoize`.
+/// the path once more by these. For a sink that keeps nothing it looks as `CacheData::peek` does at first: on a hit of an
+/// entry of age 0 it clones the output and the writes alone, and sends the writes alone; where the entry has an age, it
+/// asks the calls of its path once more, and goes on as for any other sink. The first half of comemo's `memoize`.
 pub fn begin<
     M: Memo,
     H: Hold<M>,

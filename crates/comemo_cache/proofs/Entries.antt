@@ -20,6 +20,10 @@ reads_same eq same w kind (p ∷ ps) [] s h = absurd s
 reads_same eq same w kind (p ∷ ps) (q ∷ qs) s h =
     All-cons (λ p. w p.0 ≡ false) p ps (kind p.0 q.0 s.0 ∙ h 0 q (omega arith)) (reads_same eq same w kind ps qs s.2 (λ j e m. h (suc j) e (omega arith)))
 
+pub IsSamePath-itself : {C R : Type 0} {eq : C → C → Bool} {same : R → R → Bool} → IsEquivalence eq → IsEquivalence same → (ps : List (C × R)) → IsSamePath eq same ps ps
+IsSamePath-itself calls answers [] = tt
+IsSamePath-itself calls answers (p ∷ ps) = (calls.refl p.0, answers.refl p.1, IsSamePath-itself calls answers ps)
+
 module _ {K C R O : Type 0} (M : Meaning K C R O) where
   module _ (calls : IsEquivalence M.same_call) (answers : IsEquivalence M.same_answer) where
     -- clones of a legal entry's path, output and writes stand in the definition at an equal key

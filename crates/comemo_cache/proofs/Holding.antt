@@ -142,7 +142,7 @@ module _ {K C R O : Type 0} (M : Meaning K C R O) (call : Invocation K C R) (ran
   has_so es found = (found.0, found.1, found.2, found.3, found.4.0)
 
   -- what a look-up found was kept, and is touched by its path's answers
-  pub hit_held : IsEquivalence M.same_answer → IsEquivalence M.same_key → (o o' : Option (Entries K C R O)) → Held o (IsTree M.same_call M.same_answer M.same_key) → Held o (λ es. HasAged M es call ran age) → Leads o o' (TouchesFound M.same_answer M.same_key call.key ran.pairs age) → Leads o o' (λ es es'. Has M es call ran × Touches M es call es')
-  hit_held answers keys (Some es) (Some es') tree found touched = (has_so es found, touched_by M answers keys es es' call tree ran age found touched)
-  hit_held answers keys (Some es) None tree found touched = let k = can_touch es found in (k.0, (has_so es found, k.1))
-  hit_held answers keys None o' tree found touched = let k = can_touch found.0 found.1 in (found.0, k.0, (has_so found.0 found.1, k.1))
+  pub hit_held : IsEquivalence M.same_answer → IsEquivalence M.same_key → (o o' : Option (Entries K C R O)) → Held o (IsTree M.same_call M.same_answer M.same_key) → Held o (λ es. HasAged M es call ran age) → Leads o o' (TouchesFound M.same_answer M.same_key call.key ran.pairs age) → Leads o o' (λ es es'. HasAged M es call ran age × Touches M es call es')
+  hit_held answers keys (Some es) (Some es') tree found touched = (found, touched_by M answers keys es es' call tree ran age found touched)
+  hit_held answers keys (Some es) None tree found touched = let k = can_touch es found in (k.0, (found, k.1))
+  hit_held answers keys None o' tree found touched = let k = can_touch found.0 found.1 in (found.0, k.0, (found.1, k.1))

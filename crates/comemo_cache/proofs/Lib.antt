@@ -8,3 +8,4 @@ pub mod Touching
 pub mod Aging
 pub mod Stepping
 pub mod Named
+pub mod Peeking

@@ -8,7 +8,7 @@ use Rattle.std.specs.declared.alloc.AllocError.{AllocError}
 use denote.Ref.{Bor}
 use Rattle.comemo_base.specs.Answers.{Respects, Agrees}
 use Rattle.comemo_base.specs.Tree.{Stored, IsTree}
-use Rattle.comemo_base.specs.Lookup.{under, IsNext, IsAsked, IsRefused, Answered, LooksUp, LooksUpPath, IsLookupRefused, FindsAgreeingPath}
+use Rattle.comemo_base.specs.Lookup.{under, IsNext, IsAsked, IsRefused, Answered, LooksUp, LooksUpPath, IsLookupRefused, FindsAgreeing, FindsAgreeingPath}
 use Rattle.comemo_base.proofs.Paths.{Agrees-same, FindsAgreeing-from_asked, FindsAgreeingPath-from_asked}
 use Rattle.comemo_cache.proofs.Entries.{All-cons, reads_same}
 
@@ -72,3 +72,16 @@ module _ {O C R : Type 0} (g : Mut O (Bor C × Unit {0}) (Result R AllocError)) 
         let a = answered_agrees h.asked f f' i (reads_asked eq same w kind (under eqk es key) reads h.asked (Some v) h.finds) h.answered in
         let k = h.finds in
         inr (k.0, k.1, k.2, k.3, Agrees-same calls answers m respects h.asked k.1.path k.4.0 a)
+
+    -- so it is without the path
+    pub gets : {B : Type 0} (value : B → T) (r : Result (Option B) AllocError) → IfOk r (λ found. LooksUp g eq same (under eqk es key) f f' (option_map value found)) → IfOk r (λ found. FindsAgreeing eq same (under eqk es key) m (option_map value found))
+    gets value (Ok found) h = FindsAgreeing-from_asked calls answers m respects keys es key h.asked (option_map value found) tree (answered_agrees h.asked f f' i (reads_asked eq same w kind (under eqk es key) reads h.asked (option_map value found) h.finds) h.answered) h.finds
+    gets value (Err e) h = tt
+
+    pub asks_value : {B : Type 0} (value : B → T) (r : Result (Option B) AllocError) → IfOk r (λ found. LooksUp g eq same (under eqk es key) f f' (option_map value found)) → IfOk r (λ found. (asked : List (C × R)) × Agrees same m asked × IsAsked eq same (under eqk es key) asked (option_map value found))
+    asks_value value (Ok found) h = (h.asked, answered_agrees h.asked f f' i (reads_asked eq same w kind (under eqk es key) reads h.asked (option_map value found) h.finds) h.answered, h.finds)
+    asks_value value (Err e) h = tt
+
+    pub refuses_answer : {B : Type 0} (r : Result B AllocError) → IfErr r (λ e. IsLookupRefused g eq same (under eqk es key) f e f') → OnErr r ((asked : List (C × R)) × (next : C) × Agrees same m asked × IsRefused eq same (under eqk es key) asked next)
+    refuses_answer (Ok b) h = tt
+    refuses_answer (Err e) h = (h.asked, h.call, answered_agrees h.asked f h.at i (reads_refused eq same w kind (under eqk es key) reads h.asked h.call h.refused) h.answered, h.refused)

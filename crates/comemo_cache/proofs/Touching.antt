@@ -45,6 +45,21 @@ module _ {C R : Type 0} (eq : C → C → Bool) {same : R → R → Bool} (answe
   not_parted (p ∷ ps) (q ∷ qs) [] h k d = h
   not_parted (p ∷ ps) (q ∷ qs) (r ∷ rs) h k d = not_parted ps qs rs h.1 k.1 (d.1 (joined answers p.1 r q.1 h.0 (turned answers q.1 r k.0)))
 
+-- an entry of age 0 is as it was touched
+pub young_touched : {K C R O : Type 0} (M : Meaning K C R O) (es : Entries K C R O) (call : Invocation K C R) (ran : Run K C R O) (age : ℕ) → age ≡ 0 → HasAged M es call ran age → Touches M es call es
+young_touched M es call ran age none found =
+    let h = Any-from_under M.same_key es call.key _ found in
+    let own : young h.1 ≡ h.1 = ap (λ n. record h.1 { value = record h.1.value { age = n } }) (sym (h.4.1.1 ∙ none)) in
+    let here = IsPermutation-sym es (h.1 ∷ remove es h.0) (IsPermutation-remove es h.0 h.1 h.2 (sym h.3)) in
+    record {
+      entry = h.1;
+      others = remove es h.0;
+      before = here;
+      has_key = h.4.0;
+      agrees = h.4.1.0.0;
+      after = subst (λ x. IsPermutation (x ∷ remove es h.0) es) (sym own) here;
+    }
+
 module _ {K C R O : Type 0} (M : Meaning K C R O) (answers : IsEquivalence M.same_answer) (keys : IsEquivalence M.same_key) (es es' : Entries K C R O) (call : Invocation K C R) (tree : IsTree M.same_call M.same_answer M.same_key es) where
   -- an entry under the key that has the answers of one that agrees, agrees
   agrees_too : (i : ℕ) (e : Stored K C R (Kept O C)) → i < length es → get_or es i e ≡ e → IsTrue (M.same_key e.key call.key) → Agrees M.same_answer call.answers e.path → (rs : List R) → HasAnswers M.same_answer e.path rs → All (λ x. IsTrue (M.same_key x.key call.key) → HasAnswers M.same_answer x.path rs → Agrees M.same_answer call.answers x.path) es
@@ -59,18 +74,7 @@ module _ {K C R O : Type 0} (M : Meaning K C R O) (answers : IsEquivalence M.sam
 
   -- what a touch by the answers of a path that was found does
   pub touched_by : (ran : Run K C R O) (age : ℕ) → HasAged M es call ran age → TouchesFound M.same_answer M.same_key call.key ran.pairs age es es' → Touches M es call es'
-  touched_by ran age found (inl old) =
-      let h = Any-from_under M.same_key es call.key _ found in
-      let own : young h.1 ≡ h.1 = ap (λ n. record h.1 { value = record h.1.value { age = n } }) (sym (h.4.1.1 ∙ old.0)) in
-      let here = IsPermutation-sym es (h.1 ∷ remove es h.0) (IsPermutation-remove es h.0 h.1 h.2 (sym h.3)) in
-      record {
-        entry = h.1;
-        others = remove es h.0;
-        before = here;
-        has_key = h.4.0;
-        agrees = h.4.1.0.0;
-        after = subst (λ x. IsPermutation (x ∷ remove es h.0) es') (sym own) (subst (λ xs. IsPermutation (h.1 ∷ remove es h.0) xs) (sym old.1) here);
-      }
+  touched_by ran age found (inl old) = subst (λ xs. Touches M es call xs) (sym old.1) (young_touched M es call ran age old.0 found)
   touched_by ran age found (inr (rs, has, inl changes)) =
       let h = Any-from_under M.same_key es call.key _ found in
       let own = has_same M.same_call answers ran.pairs h.1.path rs h.4.1.0.1 has in

@@ -83,6 +83,16 @@ module _ {K C R O : Type 0} (M : Meaning K C R O) where
     abbrev pub HasAged : Run K C R O → ℕ → Type 0
     HasAged ran age = Any (λ e. IsEntryOf call.answers ran e × (e.value.age ≡ age)) (under M.same_key es call.key)
 
+    -- an entry under the call's key agrees with the call's answers, and has this output, these writes and this age, up to clones. Its path
+    -- isn't told, but there is one: of reads alone, the output and the writes stand by it, and where the asked calls are named, it is whole
+    pub record IsPeeked (output : O) (writes : List C) (age : ℕ) : Type 0 where
+      pub pairs : List (C × R)
+      pub kept : HasAged (run call.key pairs output writes) age
+      pub stands : Stands (run call.key pairs output writes)
+      pub reads : All (λ p. M.is_write p.0 ≡ false) pairs
+      pub written : All (λ c. M.is_write c ≡ true) writes
+      pub settled : IsNamedRun M call.key pairs
+
     -- a look-up for the call asked this, was answered as the call's input answers, and found nothing
     abbrev pub IsMiss : List (C × R) → Type 0
     IsMiss asked = Agrees M.same_answer call.answers asked × IsAsked M.same_call M.same_answer (under M.same_key es call.key) asked (let none : Option (Kept O C) = None in none)

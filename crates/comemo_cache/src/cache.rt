@@ -1,12 +1,12 @@
 //! Memoized functions, and the cache of what their runs gave.
-ghost use Rattle.std.specs.Prelude.{◌≡◌, ◌⊎◌, ◌+◌, nat_lt, [], List, true, false, IsTrue, option_map, IfOk, IfErr, OnOk, OnErr, IfSome, IfNone, MatchOption, length};
+ghost use Rattle.std.specs.Prelude.{◌≡◌, ◌⊎◌, ◌+◌, nat_lt, [], List, true, false, IsTrue, option_copied, option_map, IfOk, IfErr, OnOk, OnErr, IfSome, IfNone, MatchOption, length};
 ghost use Rattle.std.specs.List.{All, Any};
 ghost use Rattle.comemo_base.specs.Answers.{Agrees};
-ghost use Rattle.comemo_base.specs.Lookup.{under, IsAsked, IsRefused, FindsAgreeingPath};
+ghost use Rattle.comemo_base.specs.Lookup.{under, IsAsked, IsRefused, FindsAgreeing, FindsAgreeingPath};
 ghost use Rattle.comemo_base.specs.Insertion.{IsReason};
 ghost use Rattle.comemo_cache.specs.Meaning.{Meaning, Naming, unnamed, IsNamed, IsNamedRun, exactly, invocation, run};
 ghost use Rattle.comemo_base.specs.declared.insertion.InsertError.TheVariants.{MissingCall};
-ghost use Rattle.comemo_cache.specs.Cache.{MemoLaws, Stands, HasNone, Has, HasAged, IsMiss, IsRefusedLook, TouchesAt, Evicts};
+ghost use Rattle.comemo_cache.specs.Cache.{MemoLaws, Stands, HasNone, Has, HasAged, IsPeeked, IsMiss, IsRefusedLook, TouchesAt, Evicts};
 ghost use Rattle.comemo_base.specs.Tree.{IsTree};
 ghost use Rattle.comemo_cache.specs.Storing.{Stores};
 
@@ -137,6 +137,19 @@ pub struct Found<M: Memo> {
     pub age: usize,
 }
 
+/// What a peek found: of an entry a clone of its output and of its writes, but not its path.
+///
+/// This project's own.
+#[derive(Drop)]
+pub struct Peeked<M: Memo> {
+    /// The output.
+    pub output: M::Out,
+    /// The writes that the run did, in order.
+    pub writes: Vec<M::Call>,
+    /// How many evictions the entry outlived since it was stored or last hit.
+    pub age: usize,
+}
+
 /// The path under a key of a tree of reads that an input's answers agree with, its calls cloned, with its value.
 fn find_agreeing<'a, K: Clone + Eq + Hash, In: Input, T>(
     tree: &'a CallTree<K, In::Call, In::Answer, T>,
@@ -169,6 +182,39 @@ fn find_agreeing<'a, K: Clone + Eq + Hash, In: Input, T>(
             ensures same { In.did input.entry.now input.exit.now [] }
             ensures name { input.exit.ghost_name ≡ input.entry.ghost_name }
         { input.call(call) },
+    )
+}
+
+/// The value under a key of a tree of reads whose path an input's answers agree with.
+///
+/// It asks for no memory. Fails if the input refused an answer.
+fn get_agreeing<'a, K: Clone + Eq + Hash, In: Input, T>(
+    tree: &'a CallTree<K, In::Call, In::Answer, T>,
+    key: &K,
+    input: &mut In,
+) -> Result<Option<&'a T>, AllocError>
+    requires reads { All (λ e. All (λ p. In.Call.is_write p.0 ≡ false) e.path) tree.now }
+    ensures same { In.did input.old input.new [] }
+    ensures found { IfOk result (λ found. FindsAgreeing In.Call.eq In.Answer.eq
+        (under K.eq tree.now key.now) (In.answers input.old) (option_copied found)) }
+    ensures asked { IfOk result (λ found. (asked : List (In.Call × In.Answer))
+        × Agrees In.Answer.eq (In.answers input.old) asked
+        × IsAsked In.Call.eq In.Answer.eq (under K.eq tree.now key.now) asked
+        (option_copied found)) }
+    ensures err { OnErr result ((asked : List (In.Call × In.Answer)) × (next : In.Call)
+        × Agrees In.Answer.eq (In.answers input.old) asked
+        × IsRefused In.Call.eq In.Answer.eq (under K.eq tree.now key.now) asked next) }
+{
+    tree.is_parted();
+    tree.get(
+        key,
+        &mut |read: &In::Call| -> Result<In::Answer, AllocError>
+            requires { In.Call.is_write read.now ≡ false }
+            ensures answer { IfOk result
+                (λ answer. IsTrue (In.Answer.eq (In.answers input.entry.now read.now) answer)) }
+            ensures same { In.did input.entry.now input.exit.now [] }
+            ensures name { input.exit.ghost_name ≡ input.entry.ghost_name }
+        { input.call(read) },
     )
 }
 
@@ -241,6 +287,45 @@ impl<M: Memo> CacheData<M> {
             pairs,
             output,
             writes,
+            age: kept.age,
+        }))
+    }
+
+    /// Looks for the entry under a key whose path the input's answers agree with, and gives clones of its output and its
+    /// writes, but not of its path.
+    ///
+    /// It is for a hit whose caller keeps no path: it asks as `look` does, and clones nothing of the path, nor does it ask
+    /// for memory for it. Nothing changes. Fails if there was no memory for an answer of the input or, where an entry was
+    /// found, for a clone of its output or its writes. This project's own.
+    pub fn peek<In: Input<Call = M::Call, Key = M::Key, Answer = M::Answer>>(
+        &self,
+        key: &M::Key,
+        input: &mut In,
+    ) -> Result<Option<Peeked<M>>, AllocError>
+        ensures same { In.did input.old input.new [] }
+        ensures found { IfOk result (λ found. MatchOption found
+            (HasNone ⟦<M as Meant>⟧.meaning self.now
+            (invocation key.now (In.answers input.old) true))
+            (λ f. IsPeeked ⟦<M as Meant>⟧.meaning self.now
+            (invocation key.now (In.answers input.old) true)
+            f.output f.writes.items f.age)) }
+        ensures asked { IfOk result (λ found. IfNone found ((asked : List (M.Call × M.Answer))
+            × IsMiss ⟦<M as Meant>⟧.meaning self.now
+            (invocation key.now (In.answers input.old) true) asked)) }
+        ensures err { OnErr result
+            (IsRefusedLook ⟦<M as Meant>⟧.meaning self.now
+            (invocation key.now (In.answers input.old) true)) }
+    {
+        let kept = match get_agreeing(&self.tree, key, input) {
+            Ok(Some(kept)) => kept,
+            Ok(None) => return Ok(None),
+            Err(error) => return Err(error),
+        };
+        let output = kept.output.clone()?;
+        let copies = kept.writes.clone()?;
+        Ok(Some(Peeked {
+            output,
+            writes: copies,
             age: kept.age,
         }))
     }

@@ -6,11 +6,11 @@ ghost use Rattle.comemo_base.specs.Insertion.{IsReason};
 ghost use Rattle.comemo_base.specs.Tree.{IsTree};
 ghost use Rattle.comemo_base.specs.declared.insertion.InsertError.TheVariants.{MissingCall};
 ghost use Rattle.comemo_cache.specs.Meaning.{IsNamed, IsNamedRun, exactly, invocation, run};
-ghost use Rattle.comemo_cache.specs.Cache.{Entries, Stands, HasNone, HasAged, TouchesAt};
+ghost use Rattle.comemo_cache.specs.Cache.{Entries, Stands, HasNone, HasAged, IsPeeked, TouchesAt};
 ghost use Rattle.comemo_cache.specs.Storing.{Stores};
 ghost use Rattle.comemo_cache.specs.Held.{Held, Leads, Stays};
 
-use crate::cache::{CacheData, Found, Meant, Memo};
+use crate::cache::{CacheData, Found, Meant, Memo, Peeked};
 use comemo_base::{CallSequence, InsertError};
 use comemo_track::input::Input;
 use comemo_track::track::Call;
@@ -50,7 +50,7 @@ impl<C: Call, R: Clone + Ord> Reads for CallSequence<C, R> {
 /// What a call of a memoized function is handed for its cache: a `CacheData`, which is the only holder of its entries,
 /// or a `Shared`, which takes a lock for each of its steps.
 ///
-/// A call looks, touches and stores by it, and does nothing else with it. One that tells its entries tells them
+/// A call looks, peeks, touches and stores by it, and does nothing else with it. One that tells its entries tells them
 /// before and after each step, and a contract says what became of them. This project's own.
 pub trait Hold<M: Memo> {
     // the entries, where no one else can change them
@@ -79,6 +79,21 @@ pub trait Hold<M: Memo> {
             All (λ c. M.Call.is_write c ≡ true) f.writes.items)) }
         ensures settled { IfOk result (λ found. IfSome found (λ f.
             IsNamedRun ⟦<M as Meant>⟧.meaning key.now f.pairs.items)) };
+
+    /// Looks for an entry without its path, as `CacheData::peek` does.
+    fn peek<In: Input<Call = M::Call, Key = M::Key, Answer = M::Answer>>(
+        &mut self,
+        key: &M::Key,
+        input: &mut In,
+    ) -> Result<Option<Peeked<M>>, AllocError>
+        ensures same { In.did input.old input.new [] }
+        ensures stays { Stays (entries self.old) (entries self.new) }
+        ensures tree { Held (entries self.old) (IsTree M.Call.eq M.Answer.eq M.Key.eq) }
+        ensures found { IfOk result (λ found. Held (entries self.old) (λ es. MatchOption found
+            (HasNone ⟦<M as Meant>⟧.meaning es (invocation key.now (In.answers input.old) true))
+            (λ f. IsPeeked ⟦<M as Meant>⟧.meaning es
+            (invocation key.now (In.answers input.old) true)
+            f.output f.writes.items f.age))) };
 
     /// Sets an entry's age to 0, as `CacheData::touch` does.
     fn touch(&mut self, key: &M::Key, answers: &[M::Answer])
@@ -118,6 +133,15 @@ impl<M: Memo> Hold<M> for CacheData<M> {
     ) -> Result<Option<Found<M>>, AllocError> {
         self.is_tree();
         CacheData::look(self, key, input)
+    }
+
+    fn peek<In: Input<Call = M::Call, Key = M::Key, Answer = M::Answer>>(
+        &mut self,
+        key: &M::Key,
+        input: &mut In,
+    ) -> Result<Option<Peeked<M>>, AllocError> {
+        self.is_tree();
+        CacheData::peek(self, key, input)
     }
 
     fn touch(&mut self, key: &M::Key, answers: &[M::Answer]) {

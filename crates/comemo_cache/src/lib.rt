@@ -13,7 +13,7 @@ pub mod hold;
 pub mod shared;
 pub mod steps;
 
-pub use cache::{CacheData, Found, Meant, Memo};
+pub use cache::{CacheData, Found, Meant, Memo, Peeked};
 pub use eviction::{Caches, Evict, Evictor};
 pub use evictors::register_evictor;
 pub use hold::{Hold, Reads};

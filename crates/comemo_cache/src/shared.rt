@@ -11,7 +11,7 @@ ghost use Rattle.comemo_cache.specs.Cache.{Entries, Evicts, Stands, TouchesAt};
 ghost use Rattle.comemo_cache.specs.Storing.{Stores};
 ghost use Rattle.comemo_cache.specs.Held.{ChangesBehind, Held, Leads, Stays};
 
-use crate::cache::{CacheData, Found, Meant, Memo};
+use crate::cache::{CacheData, Found, Meant, Memo, Peeked};
 use crate::hold::{Hold, Reads};
 use comemo_base::{CallSequence, InsertError};
 use comemo_track::input::Input;
@@ -315,6 +315,19 @@ impl<M: Memo, R: Wait> Hold<M> for Shared<'_, M, R> {
             return Ok(None);
         };
         data.look(key, input)
+    }
+
+    fn peek<In: Input<Call = M::Call, Key = M::Key, Answer = M::Answer>>(
+        &mut self,
+        key: &M::Key,
+        input: &mut In,
+    ) -> Result<Option<Peeked<M>>, AllocError> {
+        let lane = &self.cache.part(key)[self.share % LANES];
+        let way = lane.way.read(self.rt);
+        let Some(data) = &way.data else {
+            return Ok(None);
+        };
+        data.peek(key, input)
     }
 
     fn touch(&mut self, key: &M::Key, answers: &[M::Answer]) {

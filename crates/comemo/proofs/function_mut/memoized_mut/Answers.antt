@@ -1,5 +1,5 @@
 use Rattle.std.proofs.Math.Logic.{⊎_map}
-use Rattle.std.proofs.Common.{rules, ◌≡◌, ◌∙◌, true, false, refl, [], inl, inr, sym, subst}
+use Rattle.std.proofs.Common.{rules, ◌≡◌, false, refl, [], inl, inr, sym, subst}
 use Rattle.std.proofs.lemmas.Bool.{cases_Bool}
 use Rattle.comemo_base.specs.Answers.{Agrees}
 use Rattle.comemo_track.specs.Writing.{Done}
