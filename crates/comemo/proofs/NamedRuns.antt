@@ -1,6 +1,6 @@
 -- What a run that ended has recorded, where the calls that are asked are named; and for the authors of functions that name them:
 -- what the clauses of a recorder's questions and calls make of it.
-use Rattle.std.proofs.Common.{◌≡◌, ◌⊎◌, Bool, true, false, List, [], ◌∷◌, ◌++◌, Result, Ok, Err, OnOk, IsTrue, Option, is_some, inl, inr, refl, sym, subst, append-nil}
+use Rattle.std.proofs.Common.{◌≡◌, ◌⊎◌, Bool, true, false, List, [], ◌∷◌, ◌++◌, Result, Ok, Err, OnOk, IsTrue, inl, inr, refl, sym, subst, append-nil}
 use Rattle.std.specs.Bool.{⊤}
 use Rattle.std.proofs.lemmas.Bool.{cases_Bool}
 use Rattle.std.specs.Cmp.{IsEquivalence}
@@ -14,7 +14,7 @@ use Rattle.comemo_base.proofs.Settling.{settles_not, settles_on, settles_absorbe
 use Rattle.comemo_track.specs.Recording.{Recording, Took}
 use Rattle.comemo_track.specs.Sending.{Asks}
 use Rattle.comemo_cache.specs.Cache.{Entries}
-use Rattle.comemo_cache.specs.Meaning.{Meaning, Invocation, Naming, unnamed, names, AsksAlike, IsRunOf}
+use Rattle.comemo_cache.specs.Meaning.{Invocation, Naming, unnamed, names, AsksAlike, IsRunOf}
 use Rattle.comemo.specs.Called.{IsReply}
 use Rattle.comemo.specs.Function.{Fits, SettlesAs, SettlesRun}
 use Rattle.comemo.specs.declared.pending.Fault.{Fault}
@@ -137,6 +137,7 @@ module _ {K C R : Type 0} {eq : C → C → Bool} {same : R → R → Bool} {ask
       asked_on k.gives.given k.writes k.gives.are_sent before (λ calls answers. settles_called others calls answers respects agrees k)
           (λ n f c (l, d, e, same_c, a). (d, same_c, up n f l e d a)) (λ calls n c a. (call.key, c, others.refl call.key, calls.refl c, a))
 
+module _ {K C R : Type 0} {eq : C → C → Bool} {same : R → R → Bool} {asks : K → (C → R) → C → Type 0} (key : K) where
   -- The end of a run under this key: each call that is asked, under a key like it, has to be covered, under all answers that fit.
   pub settled_run : {like : K → Bool} {covered : (C → R) → C → Type 0} {t : Recording C R} → Tests like key eq same → HasAsked eq same asks key covered t → ((n : C → R) → Fits eq same t n → (k : K) → IsTrue (like k) → (c : C) → asks k n c → covered n c) → t.whole ≡ true → t.late ≡ false → IsRun eq same (AsksLike like eq asks) t.pairs
   settled_run {like = like} {t = t} is h all w l =
