@@ -135,7 +135,7 @@ module _ {K C R : Type 0} {eq : C → C → Bool} {same : R → R → Bool} {ask
   pub called_then : {L O : Type 0} {eql : L → L → Bool} {is_write : C → Bool} {is_clone : O → O → Type 0} {def : L → (C → R) → O → List C → Type 0} {inner : L → (C → R) → C → Type 0} {call : Invocation L C R} {es mid es' : Entries L C R O} {touches : C → C → Bool} {covered : (C → R) → C → Type 0} {s t : Recording C R} {reply : Reply O} → IsReply (record { same_call = eq; same_answer = same; same_key = eql; is_write = is_write; is_clone = is_clone; def = def; naming = names inner }) call es mid (Took eq touches s t) reply es' → IsEquivalence eql → Respects eq same call.answers → Agrees same call.answers s.pairs → ((n : C → R) → Fits eq same s n → (k : L) → IsTrue (eql k call.key) → (c : C) → inner k n c → asks key n c) → HasAsked eq same asks key covered s → HasAsked eq same asks key (λ n c. inner call.key n c ⊎ covered n c) t
   called_then {eql = eql} {inner = inner} {call = call} k others respects agrees up before =
       asked_on k.gives.given k.writes k.gives.are_sent before (λ calls answers. settles_called others calls answers respects agrees k)
-          (λ n f c (l, d, e, same_c, a). (d, same_c, up n f l e d a)) (λ calls n c a. (call.key, c, others.refl call.key, calls.refl c, a))
+      (λ n f c (l, d, e, same_c, a). (d, same_c, up n f l e d a)) (λ calls n c a. (call.key, c, others.refl call.key, calls.refl c, a))
 
 module _ {K C R : Type 0} {eq : C → C → Bool} {same : R → R → Bool} {asks : K → (C → R) → C → Type 0} (key : K) where
   -- The end of a run under this key: each call that is asked, under a key like it, has to be covered, under all answers that fit.
