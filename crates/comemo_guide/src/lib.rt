@@ -31,6 +31,7 @@ pub mod greetings;
 pub mod kinds;
 pub mod late;
 pub mod loader;
+pub mod named;
 pub mod numbers;
 pub mod orders;
 pub mod passes;

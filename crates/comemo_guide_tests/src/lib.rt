@@ -6,6 +6,8 @@ mod examples;
 #[cfg(test)]
 mod guide;
 #[cfg(test)]
+mod named;
+#[cfg(test)]
 mod recursion;
 #[cfg(test)]
 mod writing;

@@ -1,0 +1,84 @@
+//! Functions that name the calls that they ask, so that no run is lost to another order of its calls.
+ghost use Rattle.std.specs.Prelude.{◌≡◌, ◌+◌, ◌%◌, ◌^◌, ⊤, nat_lt};
+ghost use Rattle.std.proofs.Common.{rules};
+ghost use Rattle.comemo.specs.Meaning.{names};
+
+use comemo::{CacheData, Fault, Function, MemoOf, Recorder};
+use comemo_samples::{Context, ContextCall};
+
+/// Where a context is and how it is set, together.
+///
+/// It asks both, first the one that its needs name.
+pub struct Sum;
+
+impl Function for Sum {
+    type Key = ();
+
+    type Of = Context;
+
+    type Out = u64;
+
+    type Needs = ContextCall;
+
+    ghost use Rattle.comemo_samples.specs.declared.contexts.ContextCall.TheVariants.{Location, Styles};
+
+    ghost means = { λ _ m out. out ≡ (m Location + m Styles) % 2 ^ 64 };
+
+    // both calls are asked, whatever is answered
+    ghost naming = { names (λ _ _ _. ⊤) };
+
+    ghost laws = { Prim.search rules };
+
+    fn run(
+        _key: &(),
+        context: &mut Recorder<'_, Context>,
+        first: &mut ContextCall,
+    ) -> Result<u64, Fault> {
+        match first {
+            ContextCall::Location => {
+                let location = context.ask(ContextCall::Location)?;
+                let styles = context.ask(ContextCall::Styles)?;
+                Ok(location.wrapping_add(styles))
+            }
+            ContextCall::Styles => {
+                let styles = context.ask(ContextCall::Styles)?;
+                let location = context.ask(ContextCall::Location)?;
+                Ok(location.wrapping_add(styles))
+            }
+        }
+    }
+}
+
+/// Whether the sum of a context is more than a number.
+///
+/// It calls `Sum`, which is lent its own cache and the question that comes first; what that one asked, or had asked when
+/// its kept output was made, counts as asked here.
+pub struct IsOver;
+
+impl Function for IsOver {
+    type Key = u64;
+
+    type Of = Context;
+
+    type Out = bool;
+
+    type Needs = (CacheData<MemoOf<Sum>>, ContextCall);
+
+    ghost use Rattle.comemo_samples.specs.declared.contexts.ContextCall.TheVariants.{Location, Styles};
+
+    ghost means = { λ n m out. out ≡ nat_lt n ((m Location + m Styles) % 2 ^ 64) };
+
+    // what the sum asks
+    ghost naming = { names (λ _ _ _. ⊤) };
+
+    ghost laws = { Prim.search rules };
+
+    fn run(
+        n: &u64,
+        context: &mut Recorder<'_, Context>,
+        (kept, first): &mut (CacheData<MemoOf<Sum>>, ContextCall),
+    ) -> Result<bool, Fault> {
+        let sum = context.call(kept, first, ())?;
+        Ok(sum > *n)
+    }
+}

@@ -1,0 +1,83 @@
+//! The functions that name their calls, at work.
+
+use comemo::{CacheData, How, MemoOf, Top, Track, memoized};
+use comemo_guide::named::{IsOver, Sum};
+use comemo_samples::{Context, ContextCall};
+use std::alloc::Global;
+
+/// Where a context is, and how it is set.
+type Of = (u64, u64);
+
+/// Whether the sum of a context, of which this is asked first, is so, and this becomes of the call.
+fn sums(
+    alloc: Global,
+    cache: &mut CacheData<MemoOf<Sum>>,
+    mut first: ContextCall,
+    (location, styles): Of,
+    sum: u64,
+    how: How,
+) -> bool {
+    let context = Context { location, styles };
+    let view = context.track(alloc);
+    match memoized(alloc, cache, &mut first, (), &view, &mut Top::new(), true) {
+        Ok(reply) => reply.output == sum && reply.how == how,
+        Err(_) => false,
+    }
+}
+
+#[test]
+fn two_questions_are_kept_in_either_order(rt: HostRuntime) {
+    let alloc = rt.alloc();
+    let mut cache: CacheData<MemoOf<Sum>> = CacheData::new(alloc);
+    // How many entries are kept then stands last.
+    let calls: &[(ContextCall, Of, u64, How, usize)] = &[
+        (ContextCall::Location, (1, 2), 3, How::Stored, 1),
+        (ContextCall::Styles, (1, 2), 3, How::Hit, 1),
+        (ContextCall::Styles, (1, 5), 6, How::Stored, 2),
+        (ContextCall::Location, (1, 5), 6, How::Hit, 2),
+    ];
+    for (first, of, sum, how, len) in calls {
+        let is_so = sums(alloc, &mut cache, *first, *of, *sum, *how);
+        assert!(rt; is_so, "for {of:?}");
+        assert_eq!(rt; cache.len(), *len);
+    }
+}
+
+/// Whether it is said so if the sum of a context is over 4, and this becomes of the call.
+fn is_over(
+    alloc: Global,
+    cache: &mut CacheData<MemoOf<IsOver>>,
+    kept: &mut (CacheData<MemoOf<Sum>>, ContextCall),
+    (location, styles): Of,
+    is_over: bool,
+    how: How,
+) -> bool {
+    let context = Context { location, styles };
+    let view = context.track(alloc);
+    match memoized(alloc, cache, kept, 4, &view, &mut Top::new(), true) {
+        Ok(reply) => reply.output == is_over && reply.how == how,
+        Err(_) => false,
+    }
+}
+
+#[test]
+fn what_a_named_function_asked_counts_for_its_caller(rt: HostRuntime) {
+    let alloc = rt.alloc();
+    let mut cache: CacheData<MemoOf<IsOver>> = CacheData::new(alloc);
+    let mut kept: (CacheData<MemoOf<Sum>>, ContextCall) = (
+        CacheData::new(alloc),
+        ContextCall::Location,
+    );
+    let calls: &[(ContextCall, Of, bool, How)] = &[
+        (ContextCall::Location, (1, 2), false, How::Stored),
+        (ContextCall::Styles, (1, 2), false, How::Hit),
+        (ContextCall::Styles, (1, 5), true, How::Stored),
+        (ContextCall::Location, (1, 5), true, How::Hit),
+    ];
+    for (first, of, over, how) in calls {
+        kept.1 = *first;
+        let is_so = is_over(alloc, &mut cache, &mut kept, *of, *over, *how);
+        assert!(rt; is_so, "for {of:?}");
+    }
+    assert_eq!(rt; (cache.len(), kept.0.len()), (2, 2));
+}
