@@ -69,7 +69,7 @@ impl Function for IsOver {
     ghost means = { λ n m out. out ≡ nat_lt n ((m Location + m Styles) % 2 ^ 64) };
 
     // what the sum asks
-    ghost naming = { names (λ _ _ _. ⊤) };
+    ghost naming = { names (λ n m call. ⊤) };
 
     ghost laws = { Prim.search rules };
 
