@@ -1,5 +1,5 @@
 -- Lists of pairs that grow while a function runs: what is causal stays so, and what is asked is held in the end.
-use Rattle.std.proofs.Common.{◌≡◌, ◌⊎◌, Bool, true, false, List, [], ◌∷◌, ◌++◌, Option, is_some, refl, sym, ap, ◌∙◌, inl, inr, IsTrue, subst, append_assoc, append-nil}
+use Rattle.std.proofs.Common.{◌≡◌, ◌⊎◌, Bool, true, false, List, [], ◌∷◌, ◌++◌, refl, sym, ap, ◌∙◌, inl, inr, IsTrue, subst, append_assoc, append-nil}
 use Rattle.std.proofs.lemmas.Bool.{cases_Bool}
 use Rattle.std.specs.Cmp.{IsEquivalence}
 use Rattle.comemo_base.specs.Sequence.{held, absorbed}
@@ -152,9 +152,9 @@ module _ {C R : Type 0} {eq : C → C → Bool} {same : R → R → Bool} (calls
         elim (first.complete m r before c h) [
           | inl there ↦ inl (held_on there)
           | inr more ↦ elim (down m r k c more) [
-              | inl of_part ↦ elim (next.complete m r k c of_part) [ inl there ↦ inl there | inr never ↦ absurd never ]
-              | inr rest ↦ inr rest
-            ]
+            | inl of_part ↦ elim (next.complete m r k c of_part) [ inl there ↦ inl there | inr never ↦ absurd never ]
+            | inr rest ↦ inr rest
+          ]
         ];
   }
 

@@ -1,5 +1,5 @@
 -- One more answer is known.
-use Rattle.std.proofs.Common.{◌≡◌, ◌⊎◌, ◌∷◌, Bool, true, false, IsTrue, List, Option, Some, refl, sym, subst, ◌∙◌, inl, inr}
+use Rattle.std.proofs.Common.{◌≡◌, ◌⊎◌, Bool, false, IsTrue, List, Option, Some, refl, sym, subst, ◌∙◌, inl, inr}
 use Rattle.std.specs.Prelude.{None, is_some}
 use Rattle.std.proofs.lemmas.Bool.{cases_Bool}
 use Rattle.std.proofs.lemmas.Option.{same_Some}

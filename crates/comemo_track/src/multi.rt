@@ -132,9 +132,9 @@ impl<A: Input, B: Input> Input for Multi<(A, B)> {
 
     ghost keeps = { λ s t W a. by_each _
         (λ c read un. A.keeps s.0.0 t.0.0 (firsts W) a.0 c read
-            (sym (touched_firsts A.Call.touches B.Call.touches W c) ∙ un))
+        (sym (touched_firsts A.Call.touches B.Call.touches W c) ∙ un))
         (λ c read un. B.keeps s.0.1 t.0.1 (seconds W) a.1 c read
-            (sym (touched_seconds A.Call.touches B.Call.touches W c) ∙ un)) };
+        (sym (touched_seconds A.Call.touches B.Call.touches W c) ∙ un)) };
 
     ghost keeps_key = { λ s t W a.
         let first = A.keeps_key s.0.0 t.0.0 (firsts W) a.0 in

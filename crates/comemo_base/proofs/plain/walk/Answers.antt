@@ -25,6 +25,15 @@ returns-in_default-clause-stem g c =
 pub returns-in_default-clause-left : goal.returns-in_default-clause-left
 returns-in_default-clause-left g c = rw c.new-path.ensures.items (sym (outside-nothing g.C.PartialEq.eq c.args.sequence.now.pairs))
 
+pub returns-then-depth-stored-clause-ok : goal.returns-then-depth-stored-clause-ok
+returns-then-depth-stored-clause-ok g c = tt
+
+pub returns-then-depth-stored-clause-stem : goal.returns-then-depth-stored-clause-stem
+returns-then-depth-stored-clause-stem g c = tt
+
+pub returns-then-depth-stored-clause-apart : goal.returns-then-depth-stored-clause-apart
+returns-then-depth-stored-clause-apart g c = tt
+
 pub returns-then-depth-stored-clause-reason : goal.returns-then-depth-stored-clause-reason
 returns-then-depth-stored-clause-reason g c =
     let i = c.walk.invariant in
