@@ -1,12 +1,11 @@
 //! The row of runs that read before they wrote, or after.
 
+use crate::broken::Broken;
 use comemo::{BothMut, Cache, CacheData, Fault, Hold, How, MemoOfMut, Top, memoized_mut};
 use comemo_guide::late::{AddsAndGets, Bump, Readback, Twice};
 use comemo_samples::Counter;
 use std::alloc::Global;
 use std::sync::Wait;
-
-use crate::broken::Broken;
 
 /// Whether a call of `Bump` comes to this, and adds 3.
 fn bumps<H: Hold<MemoOfMut<Bump>>>(
@@ -23,7 +22,15 @@ fn bumps<H: Hold<MemoOfMut<Bump>>>(
 /// Whether a call of `Readback` on a new counter is late.
 fn reads_back<H: Hold<MemoOfMut<Readback>>>(alloc: Global, cache: &mut H) -> Result<bool, Fault> {
     let mut counter = Counter { number: 0 };
-    let reply = memoized_mut(alloc, cache, &mut (), 3, &mut counter, &mut Top::new(), true)?;
+    let reply = memoized_mut(
+        alloc,
+        cache,
+        &mut (),
+        3,
+        &mut counter,
+        &mut Top::new(),
+        true,
+    )?;
     Ok(reply.how == How::Late && reply.output == 3 && counter.number == 3)
 }
 
@@ -42,7 +49,10 @@ fn bumps_twice<B: Hold<MemoOfMut<Bump>>, H: Hold<MemoOfMut<Twice<B>>>>(
 fn adds_and_gets<H: Hold<AddsAndGets>>(alloc: Global, cache: &mut H) -> Result<bool, Fault> {
     let mut first = Counter { number: 0 };
     let mut second = Counter { number: 0 };
-    let mut both = BothMut { first: &mut first, second: &mut second };
+    let mut both = BothMut {
+        first: &mut first,
+        second: &mut second,
+    };
     let reply = memoized_mut(alloc, cache, &mut (), (), &mut both, &mut Top::new(), true)?;
     Ok(reply.how == How::Stored && reply.output == 0 && first.number == 1 && second.number == 0)
 }
@@ -63,13 +73,15 @@ where
 {
     let mut counter = Counter { number: 0 };
     let mut other = Counter { number: 0 };
-    Ok(bumps(alloc, bump, &mut counter, How::Stored)?
-        && bumps(alloc, bump, &mut counter, How::Stored)?
-        && bumps(alloc, bump, &mut other, How::Hit)?
-        && reads_back(alloc, readback)?
-        && reads_back(alloc, readback)?
-        && bumps_twice(alloc, twice, bump)?
-        && adds_and_gets(alloc, adding)?)
+    Ok(
+        bumps(alloc, bump, &mut counter, How::Stored)?
+            && bumps(alloc, bump, &mut counter, How::Stored)?
+            && bumps(alloc, bump, &mut other, How::Hit)?
+            && reads_back(alloc, readback)?
+            && reads_back(alloc, readback)?
+            && bumps_twice(alloc, twice, bump)?
+            && adds_and_gets(alloc, adding)?,
+    )
 }
 
 /// Whether runs that read what they wrote are late, and others are stored, through a cache of one owner.

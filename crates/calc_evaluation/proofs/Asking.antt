@@ -102,7 +102,7 @@ module _ (files : Files) where
     settles_read =
         let a = asked files read in
         subst (λ ps. Settles same_call same_answer (λ m c. IsTrue (same_call (second_call (Read own)) c)) nothing_left s.pairs ps) (sym a.sent.pairs)
-            (settles_absorbed (keyed_calls tests) (keyed_answers tests) (with_key (answers_of files)) now_respects (λ m c. IsTrue (same_call (second_call (Read own)) c)) s.pairs ((second_call (Read own), a.noted) ∷ []) fits.agrees (a.alike, tt) (run_of_one (keyed_calls tests) (keyed_answers tests) (second_call (Read own)) a.noted))
+        (settles_absorbed (keyed_calls tests) (keyed_answers tests) (with_key (answers_of files)) now_respects (λ m c. IsTrue (same_call (second_call (Read own)) c)) s.pairs ((second_call (Read own), a.noted) ∷ []) fits.agrees (a.alike, tt) (run_of_one (keyed_calls tests) (keyed_answers tests) (second_call (Read own)) a.noted))
 
     -- the text that was read, and then what its script asked, is what a part asks that calls it
     pub settles_part : {part path : List ℕ} {key : String Global} {u : Recording JoinedCall JoinedAnswer} {es mid es' : Outcomes} {reply : Reply Outcome} → FilesFit files t
@@ -117,15 +117,15 @@ module _ (files : Files) where
         let given_run = run_alike calls answers (ScriptAsks text) (λ m c d e h. read_alike (ScriptAsksFor (In m) text) c d e h) replied.pairs given replied.gives.alike whole in
         let given_agrees = (replied.gives.agreeing m0 now_respects).1 replied.agrees in
         let inner : Settles same_call same_answer (ScriptAsks text) nothing_left t.pairs u.pairs =
-            subst (λ ps. Settles same_call same_answer (ScriptAsks text) nothing_left t.pairs ps) (sym replied.gives.are_sent.pairs) (settles_absorbed calls answers m0 now_respects (ScriptAsks text) t.pairs given fits_t.agrees given_agrees given_run) in
+        subst (λ ps. Settles same_call same_answer (ScriptAsks text) nothing_left t.pairs ps) (sym replied.gives.are_sent.pairs) (settles_absorbed calls answers m0 now_respects (ScriptAsks text) t.pairs given fits_t.agrees given_agrees given_run) in
         let none : Settles same_call same_answer (APartAsks part) (APartAsks part) s.pairs s.pairs = settles_not calls answers (APartAsks part) (APartAsks part) s.pairs (λ m r k c h. h) in
         let first : Settles same_call same_answer (APartAsks part) (ScriptAsks text) s.pairs t.pairs =
-            settles_on calls answers (APartAsks part) (APartAsks part) (λ m c. IsTrue (same_call (second_call (Read own)) c)) (ScriptAsks text) s.pairs s.pairs t.pairs none settles_read
-                (λ m r k c e. read_alike (PartAsks (In m) part) (second_call (Read own)) c e (asks_itself (subst (λ p. IsEval part p) (sym named) is)))
-                (λ m r k c h. of_part m r (told m r k) is named c h) in
+        settles_on calls answers (APartAsks part) (APartAsks part) (λ m c. IsTrue (same_call (second_call (Read own)) c)) (ScriptAsks text) s.pairs s.pairs t.pairs none settles_read
+        (λ m r k c e. read_alike (PartAsks (In m) part) (second_call (Read own)) c e (asks_itself (subst (λ p. IsEval part p) (sym named) is)))
+        (λ m r k c h. of_part m r (told m r k) is named c h) in
         settles_on calls answers (APartAsks part) (ScriptAsks text) (ScriptAsks text) nothing_left s.pairs t.pairs u.pairs first inner
-            (λ m r k c h. read_more (ScriptAsksFor (In m) text) (PartAsks (In m) part) (λ q a. asks_inside is (own, named, told m r k) a) c h)
-            (λ m r k c h. inl h)
+        (λ m r k c h. read_more (ScriptAsksFor (In m) text) (PartAsks (In m) part) (λ q a. asks_inside is (own, named, told m r k) a) c h)
+        (λ m r k c h. inl h)
       where
         of_path : (m : JoinedCall → JoinedAnswer) → Respects same_call same_answer m → m (second_call (Read own)) ≡ second_answer text → {part path : List ℕ} → IsEval part path → string_bytes own ≡ path → (q : List ℕ) → PartAsks (In m) part q → (path ≡ q) ⊎ ScriptAsksFor (In m) text q
         of_path m r told is named q (asks_itself is') = inl (same_path is is')
@@ -174,13 +174,13 @@ module _ {script part : List ℕ} {qs ps : List (List ℕ)} {s t u : Recording J
   pub settles_rest : IsAdded old.sum outcome.value new.sum (Ok tt) → Settles same_call same_answer (ScriptAsks script) (LeftAsk ps new.sum) s.pairs u.pairs
   settles_rest added =
       settles_on (keyed_calls tests) (keyed_answers tests) (ScriptAsks script) (LeftAsk qs old.sum) (APartAsks part) (LeftAsk ps new.sum) s.pairs t.pairs u.pairs so_far of_part reaches
-          (λ m r k c h. read_either (AsksIn (In m) qs old.sum) (PartAsks (In m) part) (AsksIn (In m) ps new.sum) (λ q a. asked_of_rest (In m) (one_text m r) outcome.value old.sum new.sum (told_of whole_u early_u means m r k) added (subst (λ xs. AsksIn (In m) xs old.sum q) cut a)) c h)
+      (λ m r k c h. read_either (AsksIn (In m) qs old.sum) (PartAsks (In m) part) (AsksIn (In m) ps new.sum) (λ q a. asked_of_rest (In m) (one_text m r) outcome.value old.sum new.sum (told_of whole_u early_u means m r k) added (subst (λ xs. AsksIn (In m) xs old.sum q) cut a)) c h)
 
   -- at the part at which a script ends
   pub settles_last : (fault : CalcFault) → IsAdded old.sum outcome.value new.sum (Err fault) → Settles same_call same_answer (ScriptAsks script) nothing_left s.pairs u.pairs
   settles_last fault added =
       settles_on (keyed_calls tests) (keyed_answers tests) (ScriptAsks script) (LeftAsk qs old.sum) (APartAsks part) nothing_left s.pairs t.pairs u.pairs so_far of_part reaches
-          (λ m r k c h. inl (read_more (AsksIn (In m) qs old.sum) (PartAsks (In m) part) (λ q a. asked_of_last (In m) (one_text m r) outcome.value old.sum new.sum fault (told_of whole_u early_u means m r k) added (subst (λ xs. AsksIn (In m) xs old.sum q) cut a)) c h))
+      (λ m r k c h. inl (read_more (AsksIn (In m) qs old.sum) (PartAsks (In m) part) (λ q a. asked_of_last (In m) (one_text m r) outcome.value old.sum new.sum fault (told_of whole_u early_u means m r k) added (subst (λ xs. AsksIn (In m) xs old.sum q) cut a)) c h))
 
 -- where no part is left, nothing is
 pub settles_end : {script : List ℕ} {qs : List (List ℕ)} {sum : ℤ} (ps ts : List (JoinedCall × JoinedAnswer)) → Settles same_call same_answer (ScriptAsks script) (LeftAsk qs sum) ps ts → qs ≡ [] → Settles same_call same_answer (ScriptAsks script) nothing_left ps ts
