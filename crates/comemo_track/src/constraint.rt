@@ -166,8 +166,6 @@ impl<C: Call, R: Drop> Constraint<C, R> {
 
 /// Whether one of these writes touches a read. It asks each of them.
 fn touch<C: Call>(writes: &Vec<C>, read: &C) -> bool
-    requires written { All (λ c. C.is_write c ≡ true) writes.now.items }
-    requires read { C.is_write read.now ≡ false }
     ensures { result ≡ touched_by C.touches writes.now.items read.now }
 {
     for write in writes {
@@ -180,8 +178,6 @@ fn touch<C: Call>(writes: &Vec<C>, read: &C) -> bool
 
 /// Whether one of these writes touches a read of a sequence. It asks each write of each read.
 fn touch_some<C: Call, R>(writes: &Vec<C>, reads: &CallSequence<C, R>) -> bool
-    requires written { All (λ c. C.is_write c ≡ true) writes.now.items }
-    requires reads { All (λ p. C.is_write p.0 ≡ false) reads.now.pairs }
     ensures { result ≡ touched C.touches writes.now.items reads.now.pairs }
 {
     for slot in reads.slots() {

@@ -30,10 +30,8 @@ pub trait Call: Clone + Eq + Hash {
 
     /// Whether a write touches a read: it leaves the answers of all reads that it does not touch.
     ///
-    /// It is asked of a write, and of a read. This project's own: comemo's writes change no read's answer.
+    /// It matters for a write and a read alone. This project's own: comemo's writes change no read's answer.
     fn touches(&self, read: &Self) -> bool
-        requires write { is_write self.now ≡ true }
-        requires read { is_write read.now ≡ false }
         ensures { result ≡ touches self.now read.now };
 
     // equal calls are both reads or both writes

@@ -1,20 +1,12 @@
-use Rattle.std.proofs.Common.{◌≡◌, ◌+◌, ◌∙◌, ◌++◌, ◌∷◌, [], false, take, drop, sym, ap, subst, arith}
-use Rattle.std.specs.List.{All}
+use Rattle.std.proofs.Common.{◌+◌, ◌∙◌, ◌++◌, ◌∷◌, [], take, drop, sym, ap, arith}
 use Rattle.std.proofs.lemmas.List.{take_all}
 use Rattle.comemo_base.specs.Sequence.{remaining}
 use Rattle.comemo_track.specs.Writing.{touched}
-use Rattle.comemo_track.proofs.Validating.{remaining_at, All-at}
+use Rattle.comemo_track.proofs.Validating.{remaining_at}
 use Rattle.comemo_track.proofs.Copies.{slot_more, slot_less}
 use Rattle.comemo_track.proofs.Touching.{touched_at, untouched_push}
 use Rattle.comemo_track.proofs.constraint.touch_some.Goals as goal
 use Rattle.comemo_track.proofs.constraint.touch_some.Goals.{in-Some+else-touch, in_default}
-
-pub touch-requires-clause-read : goal.touch-requires-clause-read
-touch-requires-clause-read g c =
-    let slots = c.slots-slot-items.result.now in
-    let i = c.loop-slot.slot-index in
-    let parted = remaining_at slots i c.slot-item.result _ c.loop-slot-test.true c.slot-item.is c.in-Some.is in
-    All-at (λ p. g.C.Call.is_write p.0 ≡ false) (remaining (take i slots)) _ (remaining (drop (i + 1) slots)) (subst (λ ps. All (λ p. g.C.Call.is_write p.0 ≡ false) ps) (sym c.slots-slot-items.ensures ∙ parted) c.requires.reads)
 
 pub returns-then-touch : goal.returns-then-touch
 returns-then-touch g c =
