@@ -9,7 +9,9 @@ ghost use Rattle.comemo.specs.Cache.{Entries, Stands};
 ghost use Rattle.comemo.specs.Storing.{Stores};
 ghost use Rattle.comemo.specs.Held.{Held, Leads, Stays};
 
-use comemo::{CacheData, Call, Found, Hold, Input, InsertError, Meant, Memo, Reads, Shared};
+use comemo::{
+    CacheData, Call, Found, Hold, Input, InsertError, Meant, Memo, Peeked, Reads, Shared,
+};
 use std::alloc::{AllocError, Global};
 use std::sync::Wait;
 
@@ -42,6 +44,18 @@ impl<M: Memo, R: Wait> Hold<M> for Dead<'_, M, R> {
             return fresh.look(key, input);
         }
         self.held.look(key, input)
+    }
+
+    fn peek<In: Input<Call = M::Call, Key = M::Key, Answer = M::Answer>>(
+        &mut self,
+        key: &M::Key,
+        input: &mut In,
+    ) -> Result<Option<Peeked<M>>, AllocError> {
+        if self.dead == Step::Look {
+            let fresh: CacheData<M> = CacheData::new(self.alloc);
+            return fresh.peek(key, input);
+        }
+        self.held.peek(key, input)
     }
 
     fn touch(&mut self, key: &M::Key, answers: &[M::Answer]) {

@@ -9,7 +9,7 @@ ghost use Rattle.comemo.specs.Cache.{Entries, Stands};
 ghost use Rattle.comemo.specs.Storing.{Stores};
 ghost use Rattle.comemo.specs.Held.{Held, Leads, Stays};
 
-use comemo::{Cache, Call, Found, Hold, Input, InsertError, Meant, Memo, Reads, Shared};
+use comemo::{Cache, Call, Found, Hold, Input, InsertError, Meant, Memo, Peeked, Reads, Shared};
 use std::alloc::AllocError;
 use std::sync::Wait;
 
@@ -33,6 +33,16 @@ impl<M: Memo, R: Wait> Hold<M> for Overtaken<'_, M, R> {
         let found = self.held.look(key, input);
         self.cache.evict(self.rt, self.max_age);
         found
+    }
+
+    fn peek<In: Input<Call = M::Call, Key = M::Key, Answer = M::Answer>>(
+        &mut self,
+        key: &M::Key,
+        input: &mut In,
+    ) -> Result<Option<Peeked<M>>, AllocError> {
+        let peeked = self.held.peek(key, input);
+        self.cache.evict(self.rt, self.max_age);
+        peeked
     }
 
     fn touch(&mut self, key: &M::Key, answers: &[M::Answer]) {

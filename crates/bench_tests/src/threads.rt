@@ -195,9 +195,9 @@ fn an_eviction_that_overtakes_a_hit_comes_before_or_after_its_touch(rt: HostRunt
         cache: &cache,
         held: cache.hold(&rt),
         rt: &rt,
-        max_age: 2,
+        max_age: 3,
     };
-    // Of age 0 it was as good as touched before the eviction; of age 1 it is touched after the next one.
+    // Of age 0 it was as good as touched before the eviction; of age 1 it is looked for twice, and touched after the next two.
     for age in [1, 0] {
         assert!(rt; doubles_seven(alloc, overtaken, How::Hit));
         assert!(rt; age_of_seven(held) == Some(age));
