@@ -636,8 +636,8 @@ fn give_peeked<
 
 /// Looks for an entry that agrees, with its path, and gives its output as a hit does; or nothing, where none agrees.
 ///
-/// Of a hit and of a fault its clauses speak at whatever the input was before it was asked and nothing was written to it.
-/// Fails as a call that begins fails.
+/// What it says of a hit and of a fault holds at each earlier state of the input since which nothing was written to it, so
+/// that a caller may have asked it before. Fails as `begin` fails, and then the same stands.
 fn look_hit<
     M: Memo,
     H: Hold<M>,
@@ -687,7 +687,7 @@ fn look_hit<
 /// Looks for an entry that agrees, and gives its output as a hit does; or nothing, where none agrees.
 ///
 /// For a sink that keeps nothing it peeks first, so that no path is copied where the entry has age 0; one that has an age
-/// is looked for again with its path, by whose answers it is touched. Fails as a call that begins fails.
+/// is looked for again with its path, by whose answers it is touched. Fails as `begin` fails, and then the same stands.
 fn find_hit<
     M: Memo,
     H: Hold<M>,
