@@ -12,11 +12,11 @@ fn touch_alike<C: Call, R: Ord>()
 
 /// The writes of a counter touch its number, whichever they are.
 fn counters_touch_alike()
-    ensures { TouchesAlike CounterCall.eq CounterCall.touches }
+    ensures { TouchesAlike ⟦<CounterCall as PartialEq>⟧.eq ⟦<CounterCall as Call>⟧.touches }
 {}
 
 /// The writes of an emitter and of a notebook touch nothing.
 fn others_touch_alike()
-    ensures emitter { TouchesAlike EmitterCall.eq EmitterCall.touches }
-    ensures notebook { TouchesAlike NotebookCall.eq NotebookCall.touches }
+    ensures emitter { TouchesAlike ⟦<EmitterCall as PartialEq>⟧.eq ⟦<EmitterCall as Call>⟧.touches }
+    ensures notebook { TouchesAlike ⟦<NotebookCall as PartialEq>⟧.eq ⟦<NotebookCall as Call>⟧.touches }
 {}
