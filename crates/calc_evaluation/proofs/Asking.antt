@@ -1,14 +1,12 @@
 -- What a run of a script asks: what it has recorded is what the script asks for.
-use Rattle.std.proofs.Common.{◌≡◌, ◌⊎◌, ◌∙◌, Bool, true, false, ℕ, ℤ, pos, List, [], ◌∷◌, Result, Ok, Err, IsTrue, String, string_bytes, refl, sym, ap, subst, inl, inr, rules}
+use Rattle.std.proofs.Common.{◌≡◌, ◌⊎◌, ◌∙◌, true, false, ℕ, ℤ, pos, List, [], ◌∷◌, Ok, Err, IsTrue, String, string_bytes, sym, ap, subst, inl, inr, rules}
 use Rattle.std.specs.Bool.{⊤}
 use Rattle.std.specs.Prelude.{bytes_eq}
-use Rattle.std.specs.List.{All}
 use Rattle.std.specs.Global.{Global}
 use Rattle.std.specs.Cmp.{IsEquivalence}
 use Rattle.comemo.specs.Answers.{Respects, Agrees}
 use Rattle.comemo.specs.Runs.{AsksRespect, IsRun}
 use Rattle.comemo.specs.Settling.{Settles, nothing_left}
-use Rattle.comemo.specs.Sequence.{held, absorbed}
 use Rattle.comemo.specs.Function.{Learns}
 use Rattle.comemo.specs.Mapped.{Through}
 use Rattle.comemo.specs.Multi.{second_call, second_answer}
@@ -17,33 +15,25 @@ use Rattle.comemo.specs.Recording.{Recording, Took}
 use Rattle.comemo.specs.Begin.{PendingRun, came_to, IsRun as Begins}
 use Rattle.comemo.specs.Cache.{Stands}
 use Rattle.comemo.specs.Called.{IsReply}
-use Rattle.comemo.specs.Finish.{Ends, Finished}
-use Rattle.comemo.specs.Meaning.{IsNamedRun, names, run}
-use Rattle.comemo.specs.declared.pending.How.TheVariants as how
+use Rattle.comemo.specs.Finish.{Finished}
+use Rattle.comemo.specs.Meaning.{IsNamedRun}
 use Rattle.comemo.specs.declared.pending.Reply.{Reply}
-use Rattle.comemo_track.specs.declared.multi.MultiCall.{MultiCall}
 use Rattle.comemo_track.specs.declared.multi.MultiCall.TheVariants as call
-use Rattle.comemo_track.specs.declared.multi.MultiAnswer.{MultiAnswer}
 use Rattle.comemo_track.specs.declared.multi.MultiAnswer.TheVariants as answer
-use Rattle.comemo.proofs.Under.{Any-from_under}
-use Rattle.comemo.proofs.Paths.{IsSamePath-turned, Agrees-same}
 use Rattle.comemo.proofs.Calls.{recorded, reply_by_run}
-use Rattle.comemo.proofs.Endings.{gives_early}
-use Rattle.comemo.proofs.Named.{run_named, run_from_named, named_moved, named_alike}
+use Rattle.comemo.proofs.Named.{run_named, run_from_named}
 use Rattle.comemo.proofs.Settling.{settles_not, settles_on, settles_absorbed, run_of_one, run_from_settles, run_alike}
 use Rattle.comemo.proofs.KeyedViews.{keyed_calls, keyed_answers}
 use Rattle.calc_scripts.specs.Asked.{Asks as ScriptAsksFor, asks, AsksIn, asks_here, PartAsks, asks_itself, asks_inside}
 use Rattle.calc_scripts.specs.Parts.{parts, IsEval, IsNoEval}
 use Rattle.calc_scripts.specs.Taken.{Taken}
 use Rattle.calc_scripts.specs.Totals.{IsAdded}
-use Rattle.calc_scripts.specs.Meaning.{Value, PartMeans}
 use Rattle.calc_scripts.specs.declared.outcome.CalcFault.{CalcFault}
 use Rattle.calc_scripts.specs.declared.outcome.Outcome.{Outcome}
 use Rattle.calc_scripts.proofs.Meanings.{same_path}
 use Rattle.calc_scripts.proofs.Totals.{Leaves}
 use Rattle.calc_scripts.proofs.Asking.{asks_none, asked_of_rest, asked_of_last}
 use Rattle.calc_files.specs.declared.files.Files.{Files}
-use Rattle.calc_files.specs.declared.files.FileCall.{FileCall}
 use Rattle.calc_files.specs.declared.files.FileCall.TheVariants.{Read}
 use Rattle.calc_files.specs.Files.{JoinedCall, JoinedAnswer, with_key, answers_of}
 use Rattle.calc_files.specs.Joined.{FilesFit, same_call, same_answer, same_key, touches, with_files}
@@ -52,7 +42,7 @@ use Rattle.calc_files.proofs.JoinedCalls.{tests, was_early}
 use Rattle.calc_files.proofs.WhatReadsTell.{files_respect, asked, read}
 use Rattle.calc_scripts.specs.Calls.{RunLeads}
 use Rattle.calc_evaluation.specs.Calls.{moves, EvalReply}
-use Rattle.calc_evaluation.specs.Evaluations.{In, At, PartComes, OnRead, OnFile, ScriptAsks, APartAsks, LeftAsk, EvalAsks, Outcomes, evaluating}
+use Rattle.calc_evaluation.specs.Evaluations.{In, At, PartComes, OnRead, ScriptAsks, APartAsks, LeftAsk, EvalAsks, Outcomes, evaluating}
 
 -- equal reads are of one path
 pub same_reads : (a b : String Global) → IsTrue (same_call (second_call (Read a)) (second_call (Read b))) → string_bytes a ≡ string_bytes b

@@ -20,7 +20,6 @@ use Rattle.calc_evaluation.specs.declared.evaluation.EvalFault.{EvalFault}
 use Rattle.calc_evaluation.specs.declared.evaluation.EvalFault.TheVariants.{TooDeep, Memory}
 use Rattle.calc_evaluation.specs.Evaluations.{At, Comes, ComesTo, PartComes, IsOutcome, Outcomes, evaluating}
 use Rattle.calc_files.specs.Joined.{FilesFit}
-use Rattle.calc_files.specs.declared.files.FileCall.{FileCall}
 use Rattle.calc_files.specs.declared.files.FileCall.TheVariants.{Read}
 use Rattle.calc_files.proofs.WhatReadsTell.{files_respect}
 use Rattle.calc_files.specs.Joined.{same_call, same_answer, same_key, touches, with_files}

@@ -5,7 +5,6 @@ use Rattle.comemo.specs.Answers.{Agrees}
 use Rattle.comemo.specs.Meaning.{Run}
 use Rattle.comemo.specs.Cache.{Stands, HasNone, Touches}
 use Rattle.comemo.specs.Called.{IsReply, CameByHit}
-use Rattle.comemo.specs.Runs.{IsRun}
 use Rattle.comemo.specs.Finish.{Ends}
 use Rattle.comemo.specs.declared.pending.How.{How}
 use Rattle.comemo.specs.declared.pending.How.TheVariants as how
@@ -14,8 +13,8 @@ use Rattle.calc_scripts.specs.Calls.{Moves, RunLeads}
 use Rattle.calc_scripts.specs.declared.outcome.Outcome.{Outcome}
 use Rattle.calc_files.specs.declared.files.Files.{Files}
 use Rattle.calc_files.specs.Files.{JoinedCall, JoinedAnswer, answers_of, with_key}
-use Rattle.calc_files.specs.Joined.{same_call, same_answer, same_key, with_files}
-use Rattle.calc_evaluation.specs.Evaluations.{At, ComesTo, ScriptAsks, Outcomes, evaluating}
+use Rattle.calc_files.specs.Joined.{same_answer, same_key, with_files}
+use Rattle.calc_evaluation.specs.Evaluations.{At, ComesTo, Outcomes, evaluating}
 
 module _ (files : Files) (script : List ℕ) where
   -- an entry of es under the script agrees with the files, its outcome is what the script comes to, and it was touched

@@ -1,16 +1,15 @@
 -- What a script comes to and what it asks for, by what its files answer.
-use Rattle.std.specs.Prelude.{◌≡◌, ⊤, ℕ, List, ◌++◌, ℤ, String, string_bytes}
+use Rattle.std.specs.Prelude.{◌≡◌, ⊤, ℕ, List, ℤ, String, string_bytes}
 use Rattle.std.specs.Global.{Global}
 use Rattle.comemo.specs.Cache.{Entries}
 use Rattle.comemo.specs.Meaning.{Meaning, names, reading}
 use Rattle.comemo.specs.Multi.{second_call, second_answer, OnCall}
-use Rattle.comemo.specs.Settling.{Settles, nothing_left}
 use Rattle.calc_scripts.specs.Asked.{Asks, AsksIn, PartAsks}
 use Rattle.calc_scripts.specs.Meaning.{Means, PartMeans, Deep}
 use Rattle.calc_scripts.specs.Parts.{IsEval}
 use Rattle.calc_scripts.specs.declared.outcome.Outcome.{Outcome}
 use Rattle.calc_files.specs.Files.{JoinedCall, JoinedAnswer, with_key}
-use Rattle.calc_files.specs.Joined.{joined, same_call, same_answer}
+use Rattle.calc_files.specs.Joined.{joined}
 use Rattle.calc_files.specs.declared.files.FileCall.{FileCall}
 use Rattle.calc_files.specs.declared.files.FileCall.TheVariants.{Read}
 

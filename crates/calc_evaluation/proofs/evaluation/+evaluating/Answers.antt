@@ -1,7 +1,6 @@
-use Rattle.std.proofs.Common.{arith, ap, Err, refl, sym, subst, ◌∙◌}
-use Rattle.comemo.specs.Runs.{IsRun}
+use Rattle.std.proofs.Common.{arith, ap, Err, refl, ◌∙◌}
 use Rattle.comemo.specs.Multi.{second_answer}
-use Rattle.calc_files.specs.Joined.{same_call, same_answer, touches}
+use Rattle.calc_files.specs.Joined.{same_call, touches}
 use Rattle.comemo.specs.Recording.{Took, MarkedLate}
 use Rattle.calc_evaluation.proofs.Asking.{script_run, script_settled, settled_reply, replied_run, settles_part, settles_none, settles_start, settles_rest, settles_last, settles_end, learns_text, told_text}
 use Rattle.calc_scripts.specs.Meaning.{is_bad}
@@ -10,7 +9,7 @@ use Rattle.calc_scripts.specs.Taken.{Taken}
 use Rattle.calc_scripts.proofs.Calls.{led_none, led_rest, leads_at_end, leads_at_fault, fails_at_part}
 use Rattle.calc_scripts.proofs.Totals.{number_means, leaves_all, leaves_rest, means_at_end, means_at_fault, deep_at_part}
 use Rattle.calc_files.specs.Files.{answers_of}
-use Rattle.calc_evaluation.specs.Evaluations.{At, In, ScriptAsks}
+use Rattle.calc_evaluation.specs.Evaluations.{At, In}
 use Rattle.calc_evaluation.specs.Calls.{moves}
 use Rattle.calc_evaluation.proofs.Evaluations.{learns_on, learns_nothing, fits_call, learns_call, writes_call, script_given, part_called, run_stands, of_files, learns_more, handed_on}
 use Rattle.calc_files.proofs.WhatReadsTell.{fits_read, writes_read, text_read, on_err}

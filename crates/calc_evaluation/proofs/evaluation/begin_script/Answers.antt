@@ -1,4 +1,4 @@
-use Rattle.std.proofs.Common.{rules, arith, inl, inr, refl, sym, subst, ◌<◌}
+use Rattle.std.proofs.Common.{rules, arith, inl, inr, sym, subst, ◌<◌}
 use Rattle.comemo.proofs.Calls.{reply_by_hit, broke_at_begin, of_memory, never_stops}
 use Rattle.comemo.proofs.KeyedViews.{keyed_calls, keyed_answers}
 use Rattle.calc_scripts.specs.Meaning.{Means, Deep, no_room}

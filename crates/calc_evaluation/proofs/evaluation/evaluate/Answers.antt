@@ -1,12 +1,11 @@
-use Rattle.std.proofs.Common.{refl, sym, subst, ap, Err}
-use Rattle.comemo.specs.Runs.{IsRun}
+use Rattle.std.proofs.Common.{refl, ap, Err}
 use Rattle.comemo.proofs.Calls.{broke_at_end}
 use Rattle.calc_evaluation.proofs.Asking.{script_run, script_settled, replied_run}
 use Rattle.comemo.proofs.KeyedViews.{keyed_calls, keyed_answers}
 use Rattle.calc_scripts.specs.Calls.{is_refused, is_broken, has_no_end}
 use Rattle.calc_files.specs.Files.{answers_of, with_key}
-use Rattle.calc_files.specs.Joined.{same_call, same_answer}
-use Rattle.calc_evaluation.specs.Evaluations.{ScriptAsks, evaluating}
+use Rattle.calc_files.specs.Joined.{same_answer}
+use Rattle.calc_evaluation.specs.Evaluations.{evaluating}
 use Rattle.calc_evaluation.proofs.Evaluations.{script_given, run_stands, of_files, exact_at_ok, exact_at_fault}
 use Rattle.calc_files.proofs.WhatReadsTell.{broke_at_once}
 use Rattle.calc_evaluation.proofs.Calls.{missed_by_run, led_by_reply}
