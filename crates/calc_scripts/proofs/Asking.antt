@@ -1,6 +1,5 @@
 -- Laws of what scripts ask for.
 use Rattle.std.proofs.Common.{◌≡◌, ◌⊎◌, ℕ, List, [], ◌∷◌, ℤ, ◌+ℤ◌, Ok, Err, sym, subst, inl, inr}
-use Rattle.calc_scripts.specs.Parts.{IsEval}
 use Rattle.calc_scripts.specs.declared.outcome.CalcFault.{CalcFault}
 use Rattle.calc_scripts.specs.Meaning.{Value, Fits, Means, means, PartMeans, is_number, is_bad, is_eval, Takes, ends, adds, overflows, fails}
 use Rattle.calc_scripts.specs.Asked.{Asks, asks, AsksIn, asks_here, asks_later, PartAsks, asks_itself, asks_inside}

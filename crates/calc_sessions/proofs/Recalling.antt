@@ -11,7 +11,7 @@ use Rattle.comemo.specs.Tree.{Stored}
 use Rattle.comemo.specs.Cache.{Kept}
 use Rattle.comemo.specs.Meaning.{IsNamedRun}
 use Rattle.comemo.specs.Called.{Grows}
-use Rattle.comemo.specs.Multi.{second_call, second_answer}
+use Rattle.comemo.specs.Multi.{second_answer}
 use Rattle.comemo.specs.declared.pending.How.{How}
 use Rattle.comemo.specs.declared.pending.How.TheVariants as how
 use Rattle.comemo.specs.declared.pending.Reply.{Reply}
@@ -22,7 +22,7 @@ use Rattle.comemo.proofs.Named.{run_from_named}
 use Rattle.comemo.proofs.KeyedViews.{view_calls, view_answers, keyed_calls, keyed_answers, respects_with_key}
 use Rattle.calc_commands.specs.declared.answer.Answer.TheVariants as answer
 use Rattle.calc_scripts.specs.Asked.{Asks}
-use Rattle.calc_scripts.specs.Meaning.{Value, Means, IsTooDeep}
+use Rattle.calc_scripts.specs.Meaning.{Means, IsTooDeep}
 use Rattle.calc_scripts.specs.declared.outcome.Outcome.{Outcome}
 use Rattle.calc_scripts.proofs.Meanings.{means_map, one_meaning}
 use Rattle.calc_scripts.proofs.Asking.{asks_map, means_still}

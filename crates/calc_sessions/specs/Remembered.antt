@@ -1,5 +1,5 @@
 -- What a session remembers of the scripts that it answered.
-use Rattle.std.specs.Prelude.{Bool, true, false, ◌≡◌, ◌≤◌, ℕ, List, [], ◌∷◌, string_bytes}
+use Rattle.std.specs.Prelude.{true, false, ◌≡◌, ◌≤◌, ℕ, List, [], ◌∷◌, string_bytes}
 use Rattle.std.specs.List.{All, Any}
 use Rattle.comemo.specs.Answers.{Agrees}
 use Rattle.calc_commands.specs.Requests.{Request, write, eval, size, evict}

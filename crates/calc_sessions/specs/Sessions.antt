@@ -1,7 +1,7 @@
 -- What a session answers.
 use Rattle.comemo.specs.declared.pending.How.{How}
 use Rattle.comemo.specs.declared.pending.How.TheVariants as how
-use Rattle.std.specs.Prelude.{Bool, true, false, ◌≡◌, ◌≤◌, ℕ, List, [], ◌∷◌, bytes_eq, length, if◌then◌else◌}
+use Rattle.std.specs.Prelude.{Bool, true, false, ◌≡◌, ◌≤◌, ℕ, List, bytes_eq, length, if◌then◌else◌}
 use Rattle.calc_commands.specs.Requests.{Request, write, eval, size, evict, IsLineOf, IsNoCommand}
 use Rattle.calc_commands.specs.Printed.{printed, bad_command}
 use Rattle.calc_commands.specs.declared.answer.Answer.{Answer}

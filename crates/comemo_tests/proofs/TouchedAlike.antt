@@ -1,9 +1,9 @@
 -- Which reads a list of writes touches, of lists that are equal place by place.
-use Rattle.std.proofs.Common.{◌≡◌, Bool, ◌||◌, List, [], ◌∷◌, IsTrue, refl, sym, ap, ◌∙◌}
+use Rattle.std.proofs.Common.{◌≡◌, Bool, ◌||◌, List, [], ◌∷◌, IsTrue, refl, ap, ◌∙◌}
 use Rattle.std.specs.List.{AllZip}
 use Rattle.comemo.specs.Tree.{IsSamePath}
 use Rattle.comemo.specs.Writing.{touched, touched_by}
-use Rattle.comemo_tests.specs.Touching.{TouchesAlike, TouchedAlike}
+use Rattle.comemo_tests.specs.Touching.{TouchesAlike}
 
 module _ {C : Type 0} (eq touches : C → C → Bool) (alike : TouchesAlike eq touches) where
   by_alike : (V W : List C) (r q : C) → AllZip (λ c d. IsTrue (eq c d)) V W → IsTrue (eq r q) → touched_by touches V r ≡ touched_by touches W q
