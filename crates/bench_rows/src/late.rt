@@ -57,18 +57,17 @@ fn adds_and_gets<H: Hold<AddsAndGets>>(alloc: Global, cache: &mut H) -> Result<b
     Ok(reply.how == How::Stored && reply.output == 0 && first.number == 1 && second.number == 0)
 }
 
-/// Whether the calls of the row come to what they should, through these caches.
-fn calls_come_to_that<B, R, T, A>(
+/// Whether calls come to what they should, through these caches: of `Bump` on a new counter twice and on another, of
+/// `Readback` twice, and of `AddsAndGets`.
+fn calls_come_to_that<B, R, A>(
     alloc: Global,
     bump: &mut B,
     readback: &mut R,
-    twice: &mut T,
     adding: &mut A,
 ) -> Result<bool, Fault>
 where
     B: Hold<MemoOfMut<Bump>>,
     R: Hold<MemoOfMut<Readback>>,
-    T: Hold<MemoOfMut<Twice<B>>>,
     A: Hold<AddsAndGets>,
 {
     let mut counter = Counter { number: 0 };
@@ -79,37 +78,60 @@ where
             && bumps(alloc, bump, &mut other, How::Hit)?
             && reads_back(alloc, readback)?
             && reads_back(alloc, readback)?
-            && bumps_twice(alloc, twice, bump)?
             && adds_and_gets(alloc, adding)?,
     )
 }
 
-/// Whether runs that read what they wrote are late, and others are stored, through a cache of one owner.
+/// Whether runs that read what they wrote are late, and others are stored, through caches of one owner.
 fn late_runs_are_not_kept(alloc: Global) -> Result<bool, Fault> {
     let mut bump: CacheData<MemoOfMut<Bump>> = CacheData::new(alloc);
     let mut readback = CacheData::new(alloc);
     let mut twice = CacheData::new(alloc);
     let mut adding = CacheData::new(alloc);
-    let came = calls_come_to_that(alloc, &mut bump, &mut readback, &mut twice, &mut adding)?;
+    let came = calls_come_to_that(alloc, &mut bump, &mut readback, &mut adding)?
+        && bumps_twice(alloc, &mut twice, &mut bump)?;
     Ok(came && bump.len() == 2 && readback.len() == 0 && twice.len() == 0 && adding.len() == 1)
 }
 
-/// The same of one thread through shared caches.
-fn late_runs_are_not_shared<R: Wait>(rt: &R, alloc: Global) -> Result<bool, Fault> {
-    let bump: Cache<MemoOfMut<Bump>> = Cache::new(alloc);
-    let readback = Cache::new(alloc);
-    let twice = Cache::new(alloc);
-    let adding = Cache::new(alloc);
-    calls_come_to_that(
-        alloc,
-        &mut bump.hold(rt),
-        &mut readback.hold(rt),
-        &mut twice.hold(rt),
-        &mut adding.hold(rt),
+/// The same through shares of caches, which are lent as long as the right to wait.
+fn come_to_that_through_shares<'x, W: Wait>(
+    rt: &'x W,
+    alloc: Global,
+    bump: &'x Cache<MemoOfMut<Bump>>,
+    readback: &'x Cache<MemoOfMut<Readback>>,
+    adding: &'x Cache<AddsAndGets>,
+) -> Result<bool, Fault> {
+    let bump = &mut bump.hold(rt);
+    let readback = &mut readback.hold(rt);
+    let adding = &mut adding.hold(rt);
+    calls_come_to_that(alloc, bump, readback, adding)
+}
+
+/// Whether a call of `Twice` is late through a share of its cache, with a cache of `Bump` that has both its hits.
+fn bumps_twice_through_a_share<'x, W: Wait>(
+    rt: &'x W,
+    alloc: Global,
+    twice: &'x Cache<MemoOfMut<Twice<CacheData<MemoOfMut<Bump>>>>>,
+) -> Result<bool, Fault> {
+    let mut bump: CacheData<MemoOfMut<Bump>> = CacheData::new(alloc);
+    let mut counter = Counter { number: 0 };
+    let twice = &mut twice.hold(rt);
+    Ok(
+        bumps(alloc, &mut bump, &mut counter, How::Stored)?
+            && bumps(alloc, &mut bump, &mut counter, How::Stored)?
+            && bumps_twice(alloc, twice, &mut bump)?,
     )
 }
 
 /// Whether runs that read what they wrote are late, through caches of either kind.
-pub(crate) fn late_runs<R: Wait>(rt: &R, alloc: Global) -> Result<bool, Broken> {
-    Ok(late_runs_are_not_kept(alloc)? && late_runs_are_not_shared(rt, alloc)?)
+pub(crate) fn late_runs<W: Wait>(rt: &W, alloc: Global) -> Result<bool, Broken> {
+    let bump = Cache::new(alloc);
+    let readback = Cache::new(alloc);
+    let adding = Cache::new(alloc);
+    let twice = Cache::new(alloc);
+    Ok(
+        late_runs_are_not_kept(alloc)?
+            && come_to_that_through_shares(rt, alloc, &bump, &readback, &adding)?
+            && bumps_twice_through_a_share(rt, alloc, &twice)?,
+    )
 }
