@@ -47,4 +47,6 @@ returns g c =
     let upto32 = next _ _ _ _ c.row-33.ensures.held c.row-33.ensures.earlier c.row-33.ensures.failed (28, omega arith, refl) upto31 in
     let upto33 = next _ _ _ _ c.row-34.ensures.held c.row-34.ensures.earlier c.row-34.ensures.failed (29, omega arith, refl) upto32 in
     let upto34 = next _ _ _ _ c.row-35.ensures.held c.row-35.ensures.earlier c.row-35.ensures.failed (29, omega arith, refl) upto33 in
-    upto34
+    let upto35 = next _ _ _ _ c.row-36.ensures.held c.row-36.ensures.earlier c.row-36.ensures.failed (29, omega arith, refl) upto34 in
+    let upto36 = next _ _ _ _ c.row-37.ensures.held c.row-37.ensures.earlier c.row-37.ensures.failed (30, omega arith, refl) upto35 in
+    upto36
