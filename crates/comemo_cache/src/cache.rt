@@ -90,7 +90,7 @@ impl<M: Memo> Model for KeptRun<M> {
 ///
 /// Contracts see it as a list of entries, of whose order no clause speaks. Its type keeps that each entry is legal:
 /// whichever answers agree with its path, its output and its writes are right at its key. It keeps keys, calls, answers
-/// and outputs themselves. All entries under a key share two copies of it, and those whose paths have an equal front share its
+/// and outputs themselves. All entries under a key share one copy of it, and those whose paths have an equal front share its
 /// calls and answers. It drops entries in `evict` alone. comemo's `CacheData`.
 #[derive(Drop)]
 pub struct CacheData<M: Memo> {

@@ -5,7 +5,6 @@ use Rattle.std.specs.List.{slice_get, insert, IsDistinct, AllByRecursion}
 use Rattle.std.proofs.lemmas.Bool.{cases_Bool, cases_eq}
 use Rattle.std.specs.Map.{lookup, keys_of}
 use Rattle.std.specs.HashMap.{HashMap}
-use Rattle.std.specs.Arc.{arc_value}
 use Rattle.slab.specs.Slab as slab
 use Rattle.slab.proofs.SlabLemmas.{Updates-with_value, Contains-entries, Contains-cons}
 use Rattle.comemo_base.specs.Sequence.{HasDistinctCalls}
@@ -143,7 +142,7 @@ adds same old new t id n m fresh r call i at free up mc mp md mk mg fc fp fd fn 
       others = λ x d e. up.others x e ∙ w.others x d;
     }
 
-module _ {C R : Type 0} {eq : C → C → Bool} {same : R → R → Bool} (answers : IsEquivalence same) {K T S : Type 0} {eqk : K → K → Bool} {tip : Option ℕ} {inner inner' : slab.Slab (InnerNode C R)} {leaves leaves' : slab.Slab (LeafNode K T)} {starts : HashMap K (Start K) S} (forest : IsForest eq same eqk tip inner leaves starts) (t : ℕ) (n n' : InnerNode C R) (r : R) (fresh : Node) (i : ℕ) (a : Attached same inner inner' leaves leaves' t n n' r fresh i) where
+module _ {C R : Type 0} {eq : C → C → Bool} {same : R → R → Bool} (answers : IsEquivalence same) {K T S : Type 0} {eqk : K → K → Bool} {tip : Option ℕ} {inner inner' : slab.Slab (InnerNode C R)} {leaves leaves' : slab.Slab (LeafNode K T)} {starts : HashMap K Start S} (forest : IsForest eq same eqk tip inner leaves starts) (t : ℕ) (n n' : InnerNode C R) (r : R) (fresh : Node) (i : ℕ) (a : Attached same inner inner' leaves leaves' t n n' r fresh i) where
   -- each node stays where it was
   kept_at : (y : Node) (parent : Option ℕ) (depth : ℕ) → IsAt inner leaves y parent depth → IsAt inner' leaves' y parent depth
   kept_at (Inner x) parent depth h = elim (cases_eq x t) [
@@ -234,7 +233,7 @@ module _ {C R : Type 0} {eq : C → C → Bool} {same : R → R → Bool} (answe
   pub path_kept : (x : ℕ) (leaf : LeafNode K T) → slab.get leaves x ≡ Some leaf → path_of inner' x leaf ≡ path_of inner x leaf
   path_kept x leaf e =
       let own = forest.led x leaf e in
-      path' (arc_value leaf.key) (path_of inner x leaf) x leaf (own.0, own.1, leads' own.0 (path_of inner x leaf) (Leaf x) own.2) (a.other_leaves x (λ f. a.vacant leaf.parent leaf.depth (subst (λ z. IsAt inner leaves z leaf.parent leaf.depth) f (leaf, e, refl, refl))) ∙ e)
+      path' leaf.key.value (path_of inner x leaf) x leaf (own.0, own.1, leads' own.0 (path_of inner x leaf) (Leaf x) own.2) (a.other_leaves x (λ f. a.vacant leaf.parent leaf.depth (subst (λ z. IsAt inner leaves z leaf.parent leaf.depth) f (leaf, e, refl, refl))) ∙ e)
 
   -- the path of the new leaf
   pub path_new : (key : K) (ps : List (C × R)) (x : ℕ) (leaf : LeafNode K T) → LeadsFrom inner eqk starts key ps (Inner t) → Leaf x ≡ fresh → slab.get leaves' x ≡ Some leaf → path_of inner' x leaf ≡ ps ++ (n.call, r) ∷ []
@@ -262,15 +261,15 @@ module _ {C R : Type 0} {eq : C → C → Bool} {same : R → R → Bool} (answe
     | inr h ↦ elim h [ inl f ↦ (a.childless x m f e).1 | inr o ↦ forest.unmarked x m o ]
   ]
 
-  module _ (new : (x : ℕ) (leaf : LeafNode K T) → Leaf x ≡ fresh → slab.get leaves' x ≡ Some leaf → (ps : List (C × R)) × LeadsFrom inner eqk starts (arc_value leaf.key) ps (Inner t) × HasDistinctCalls eq (ps ++ (n.call, r) ∷ [])) where
-    led' : (x : ℕ) (leaf : LeafNode K T) → slab.get leaves' x ≡ Some leaf → LeadsFrom inner' eqk starts (arc_value leaf.key) (path_of inner' x leaf) (Leaf x) × HasDistinctCalls eq (path_of inner' x leaf)
+  module _ (new : (x : ℕ) (leaf : LeafNode K T) → Leaf x ≡ fresh → slab.get leaves' x ≡ Some leaf → (ps : List (C × R)) × LeadsFrom inner eqk starts leaf.key.value ps (Inner t) × HasDistinctCalls eq (ps ++ (n.call, r) ∷ [])) where
+    led' : (x : ℕ) (leaf : LeafNode K T) → slab.get leaves' x ≡ Some leaf → LeadsFrom inner' eqk starts leaf.key.value (path_of inner' x leaf) (Leaf x) × HasDistinctCalls eq (path_of inner' x leaf)
     led' x leaf e = elim (leaf_cases x leaf e) [
       | inl f ↦ (let w = new x leaf f e in
-          let same_path = path_new (arc_value leaf.key) w.0 x leaf w.1 f e in
-          (subst (λ ps. LeadsFrom inner' eqk starts (arc_value leaf.key) ps (Leaf x)) (sym same_path) (w.1.0, w.1.1, subst (λ z. Leads inner' w.1.0 (w.0 ++ (n.call, r) ∷ []) z) (sym f) (step' w.1.0 w.0 w.1.2)), subst (λ ps. HasDistinctCalls eq ps) (sym same_path) w.2))
+          let same_path = path_new leaf.key.value w.0 x leaf w.1 f e in
+          (subst (λ ps. LeadsFrom inner' eqk starts leaf.key.value ps (Leaf x)) (sym same_path) (w.1.0, w.1.1, subst (λ z. Leads inner' w.1.0 (w.0 ++ (n.call, r) ∷ []) z) (sym f) (step' w.1.0 w.0 w.1.2)), subst (λ ps. HasDistinctCalls eq ps) (sym same_path) w.2))
       | inr o ↦ (let own = forest.led x leaf o in
           let same_path = path_kept x leaf o in
-          (subst (λ ps. LeadsFrom inner' eqk starts (arc_value leaf.key) ps (Leaf x)) (sym same_path) (own.0, own.1, leads' own.0 (path_of inner x leaf) (Leaf x) own.2), subst (λ ps. HasDistinctCalls eq ps) (sym same_path) (forest.distinct x leaf o)))
+          (subst (λ ps. LeadsFrom inner' eqk starts leaf.key.value ps (Leaf x)) (sym same_path) (own.0, own.1, leads' own.0 (path_of inner x leaf) (Leaf x) own.2), subst (λ ps. HasDistinctCalls eq ps) (sym same_path) (forest.distinct x leaf o)))
     ]
 
     -- the forest stands, with the tip where it is now
@@ -293,7 +292,6 @@ module _ {C R : Type 0} {eq : C → C → Bool} {same : R → R → Bool} (answe
         answers = λ x m e. answers' x m e;
         child = λ x m s next e p. child' x m s next e p;
         start = λ key first e. start' key first e;
-        shared = forest.shared;
         apart = forest.apart;
         led = λ x leaf e. (led' x leaf e).0;
         below = λ x m e. below' x m e;
@@ -306,7 +304,7 @@ map_same f h [] e = refl
 map_same f h (x ∷ xs) e = ap (λ y. y ∷ map f xs) (e x (0, omega arith, refl)) ∙ ap (λ ys. h x ∷ ys) (map_same f h xs (λ y c. e y (Contains-cons x y xs c)))
 
 -- an added inner node: the forest stands with it as its tip, and its entries are the same
-module _ {C R : Type 0} {eq : C → C → Bool} {same : R → R → Bool} (answers : IsEquivalence same) {K T S : Type 0} {eqk : K → K → Bool} {tip : Option ℕ} {inner inner' : slab.Slab (InnerNode C R)} {leaves : slab.Slab (LeafNode K T)} {starts : HashMap K (Start K) S} (forest : IsForest eq same eqk tip inner leaves starts) (t : ℕ) (r : R) (call : C) (id : ℕ) (a : AddsInner same inner inner' t r call id) (none : lookup (same r) a.above.children ≡ None) where
+module _ {C R : Type 0} {eq : C → C → Bool} {same : R → R → Bool} (answers : IsEquivalence same) {K T S : Type 0} {eqk : K → K → Bool} {tip : Option ℕ} {inner inner' : slab.Slab (InnerNode C R)} {leaves : slab.Slab (LeafNode K T)} {starts : HashMap K Start S} (forest : IsForest eq same eqk tip inner leaves starts) (t : ℕ) (r : R) (call : C) (id : ℕ) (a : AddsInner same inner inner' t r call id) (none : lookup (same r) a.above.children ≡ None) where
   pub Attached-inner : Attached same inner inner' leaves leaves t a.above a.above' r (Inner id) a.place
   Attached-inner = record {
     at = a.at;
@@ -334,10 +332,10 @@ module _ {C R : Type 0} {eq : C → C → Bool} {same : R → R → Bool} (answe
   pub contents-inner : contents inner' leaves ≡ contents inner leaves
   contents-inner = map_same (entry_of inner') (entry_of inner) (slab.entries leaves) (λ x c.
       let path = path_kept answers forest t a.above a.above' r (Inner id) a.place Attached-inner x.0 x.1 ((Contains-entries leaves x.0 x.1).0 c) in
-      ap (λ ps. stored (arc_value x.1.key) ps x.1.value) path)
+      ap (λ ps. stored x.1.key.value ps x.1.value) path)
 
 -- an added leaf: the forest stands with no tip, its old entries are the same, and the new path is known
-module _ {C R : Type 0} {eq : C → C → Bool} {same : R → R → Bool} (answers : IsEquivalence same) {K T S : Type 0} {eqk : K → K → Bool} {tip : Option ℕ} {inner inner' : slab.Slab (InnerNode C R)} {leaves leaves' : slab.Slab (LeafNode K T)} {starts : HashMap K (Start K) S} (forest : IsForest eq same eqk tip inner leaves starts) (t : ℕ) (r : R) (key : K) (value : T) (a : AddsLeaf inner inner' leaves leaves' t r key value) (none : lookup (same r) a.above.children ≡ None) where
+module _ {C R : Type 0} {eq : C → C → Bool} {same : R → R → Bool} (answers : IsEquivalence same) {K T S : Type 0} {eqk : K → K → Bool} {tip : Option ℕ} {inner inner' : slab.Slab (InnerNode C R)} {leaves leaves' : slab.Slab (LeafNode K T)} {starts : HashMap K Start S} (forest : IsForest eq same eqk tip inner leaves starts) (t : ℕ) (r : R) (key : K) (value : T) (a : AddsLeaf inner inner' leaves leaves' t r key value) (none : lookup (same r) a.above.children ≡ None) where
   pub Attached-leaf : Attached same inner inner' leaves leaves' t a.above a.above' r (Leaf a.id) a.place
   Attached-leaf = record {
     at = a.at;
@@ -364,7 +362,7 @@ module _ {C R : Type 0} {eq : C → C → Bool} {same : R → R → Bool} (answe
   module _ (ps : List (C × R)) (lead : LeadsFrom inner eqk starts key ps (Inner t)) where
     pub IsForest-leaf : ((u : ℕ) → tip ≡ Some u → u ≡ t) → HasDistinctCalls eq (ps ++ (a.above.call, r) ∷ []) → IsForest eq same eqk None inner' leaves' starts
     IsForest-leaf only distinct = IsForest-attached answers forest t a.above a.above' r (Leaf a.id) a.place Attached-leaf (λ x leaf e f.
-        let own : key ≡ (arc_value leaf.key) = sym (ap (λ (z : LeafNode K T). arc_value z.key) (is_fresh x leaf e f) ∙ a.fresh_key) in
+        let own : key ≡ leaf.key.value = sym (ap (λ (z : LeafNode K T). z.key.value) (is_fresh x leaf e f) ∙ a.fresh_key) in
         (ps, subst (λ k. LeadsFrom inner eqk starts k ps (Inner t)) own lead, distinct)) only tt
 
     pub path-leaf : path_of inner' a.id a.fresh ≡ ps ++ (a.above.call, r) ∷ []

@@ -1,6 +1,5 @@
 -- A chain of nodes for the pairs that are left of a path, and its leaf.
 use Rattle.std.proofs.Common.{◌≡◌, ◌⊎◌, ◌<◌, ◌+◌, ◌^◌, ◌∙◌, ℕ, Bool, List, [], ◌∷◌, ◌++◌, length, map, Option, Some, None, Result, Ok, Err, true, false, IsOk, OnErr, IfSome, refl, sym, ap, subst, inl, inr, arith, append_assoc}
-use Rattle.std.specs.Arc.{arc_value}
 use Rattle.std.specs.Cmp.{IsEquivalence}
 use Rattle.std.specs.HashMap.{HashMap}
 use Rattle.std.specs.List.Sorted.{IsPermutation}
@@ -22,7 +21,7 @@ use Rattle.comemo_tree.proofs.Attach.{map_same, step', path_kept, Attached-inner
 use Rattle.comemo_tree.proofs.Added.{entries-added}
 
 -- from the node `above`, where the answer led nowhere and all pairs were left, the chain has come to the node `at`
-pub record Chain {K C R T S : Type 0} (eq : C → C → Bool) (same : R → R → Bool) (eqk : K → K → Bool) (first : slab.Slab (InnerNode C R)) (above : ℕ) (led : R) (all : List (C × R)) (inner : slab.Slab (InnerNode C R)) (leaves : slab.Slab (LeafNode K T)) (starts : HashMap K (Start K) S) (key : K) (at : ℕ) (answer : R) (left : List (C × R)) : Type 0 where
+pub record Chain {K C R T S : Type 0} (eq : C → C → Bool) (same : R → R → Bool) (eqk : K → K → Bool) (first : slab.Slab (InnerNode C R)) (above : ℕ) (led : R) (all : List (C × R)) (inner : slab.Slab (InnerNode C R)) (leaves : slab.Slab (LeafNode K T)) (starts : HashMap K Start S) (key : K) (at : ℕ) (answer : R) (left : List (C × R)) : Type 0 where
   pub grows : CanGrow eq same eqk inner leaves starts key at answer left
   pub path : (node : InnerNode C R) (done : List (C × R)) → slab.get first above ≡ Some node → LeadsFrom first eqk starts key done (Inner above) → grows.done ++ (grows.node.call, answer) ∷ left ≡ done ++ (node.call, led) ∷ all
   pub entries : contents inner leaves ≡ contents first leaves
@@ -44,7 +43,7 @@ sure-passed P (Some x) q e r is h = λ p. let l : false ≡ true = subst (λ z. 
 
 module _ {C R : Type 0} {eq : C → C → Bool} {same : R → R → Bool} (answers : IsEquivalence same) {K T S : Type 0} {eqk : K → K → Bool} where
   -- one way leads to a node
-  one_way : {tip : Option ℕ} {inner : slab.Slab (InnerNode C R)} {leaves : slab.Slab (LeafNode K T)} {starts : HashMap K (Start K) S} (forest : IsForest eq same eqk tip inner leaves starts) (key : K) (ps qs : List (C × R)) (at : ℕ) → LeadsFrom inner eqk starts key ps (Inner at) → LeadsFrom inner eqk starts key qs (Inner at) → ps ≡ qs
+  one_way : {tip : Option ℕ} {inner : slab.Slab (InnerNode C R)} {leaves : slab.Slab (LeafNode K T)} {starts : HashMap K Start S} (forest : IsForest eq same eqk tip inner leaves starts) (key : K) (ps qs : List (C × R)) (at : ℕ) → LeadsFrom inner eqk starts key ps (Inner at) → LeadsFrom inner eqk starts key qs (Inner at) → ps ≡ qs
   one_way {inner = inner} {leaves = leaves} forest key ps qs at l m =
       let child : KnowsChildren inner leaves = λ x n s next e p. forest.child x n s next e p in
       let j = knows_led inner leaves child l.0 l.0 (Inner at) [] ps (None, forest.start key l.0 l.1, refl) l.2 in
@@ -56,19 +55,19 @@ module _ {C R : Type 0} {eq : C → C → Bool} {same : R → R → Bool} (answe
       ap (λ (x : Node × List (C × R)). x.1) (sym j.2 ∙ ap (λ n. origin inner n (Inner at) j.0) deep ∙ ap (λ o. origin inner (length qs) (Inner at) o) above ∙ k.2)
 
   -- one leaf more is one entry more
-  contents-leaf : {tip : Option ℕ} {inner inner' : slab.Slab (InnerNode C R)} {leaves leaves' : slab.Slab (LeafNode K T)} {starts : HashMap K (Start K) S} (forest : IsForest eq same eqk tip inner leaves starts) (t : ℕ) (r : R) (key : K) (value : T) (a : AddsLeaf inner inner' leaves leaves' t r key value) (none : lookup (same r) a.above.children ≡ None) (ps : List (C × R)) → LeadsFrom inner eqk starts key ps (Inner t) → IsPermutation (stored key (ps ++ (a.above.call, r) ∷ []) value ∷ contents inner leaves) (contents inner' leaves')
+  contents-leaf : {tip : Option ℕ} {inner inner' : slab.Slab (InnerNode C R)} {leaves leaves' : slab.Slab (LeafNode K T)} {starts : HashMap K Start S} (forest : IsForest eq same eqk tip inner leaves starts) (t : ℕ) (r : R) (key : K) (value : T) (a : AddsLeaf inner inner' leaves leaves' t r key value) (none : lookup (same r) a.above.children ≡ None) (ps : List (C × R)) → LeadsFrom inner eqk starts key ps (Inner t) → IsPermutation (stored key (ps ++ (a.above.call, r) ∷ []) value ∷ contents inner leaves) (contents inner' leaves')
   contents-leaf {inner = inner} {inner' = inner'} {leaves = leaves} {leaves' = leaves'} forest t r key value a none ps lead =
       let more = IsPermutation-map (entry_of inner') _ _ (entries-added leaves leaves' a.id a.fresh a.vacant a.updates) in
       let old : map (entry_of inner') (slab.entries leaves) ≡ contents inner leaves = map_same (entry_of inner') (entry_of inner) (slab.entries leaves) (λ x c.
       let path = path_kept answers forest t a.above a.above' r (Leaf a.id) a.place (Attached-leaf answers forest t r key value a none) x.0 x.1 ((Contains-entries leaves x.0 x.1).0 c) in
-      ap (λ qs. stored (arc_value x.1.key) qs x.1.value) path) in
+      ap (λ qs. stored x.1.key.value qs x.1.value) path) in
       let new : entry_of inner' (a.id, a.fresh) ≡ stored key (ps ++ (a.above.call, r) ∷ []) value =
       ap (λ k. stored k (path_of inner' a.id a.fresh) a.fresh.value) a.fresh_key
       ∙ ap (λ qs. stored key qs a.fresh.value) (path-leaf answers forest t r key value a none ps lead)
       ∙ ap (λ v. stored key (ps ++ (a.above.call, r) ∷ []) v) a.fresh_value in
       subst (λ xs. IsPermutation xs (contents inner' leaves')) (ap (λ e. e ∷ map (entry_of inner') (slab.entries leaves)) new ∙ ap (λ es. stored key (ps ++ (a.above.call, r) ∷ []) value ∷ es) old) more
 
-  module _ {inner : slab.Slab (InnerNode C R)} {leaves : slab.Slab (LeafNode K T)} {starts : HashMap K (Start K) S} {key : K} {at : ℕ} {answer : R} where
+  module _ {inner : slab.Slab (InnerNode C R)} {leaves : slab.Slab (LeafNode K T)} {starts : HashMap K Start S} {key : K} {at : ℕ} {answer : R} where
     same_node : {left : List (C × R)} (g : CanGrow eq same eqk inner leaves starts key at answer left) (n : InnerNode C R) → slab.get inner at ≡ Some n → n ≡ g.node
     same_node g n e = let two : Some n ≡ Some g.node = sym e ∙ g.is in cc
 
@@ -83,7 +82,7 @@ module _ {C R : Type 0} {eq : C → C → Bool} {same : R → R → Bool} (answe
       begun = inl (refl, refl);
     }
 
-  module _ {first inner : slab.Slab (InnerNode C R)} {leaves : slab.Slab (LeafNode K T)} {starts : HashMap K (Start K) S} {key : K} {above at : ℕ} {led answer : R} {all left : List (C × R)} (chain : Chain eq same eqk first above led all inner leaves starts key at answer left) where
+  module _ {first inner : slab.Slab (InnerNode C R)} {leaves : slab.Slab (LeafNode K T)} {starts : HashMap K Start S} {key : K} {above at : ℕ} {led answer : R} {all left : List (C × R)} (chain : Chain eq same eqk first above led all inner leaves starts key at answer left) where
     -- one more node
     pub Chain-step : (inner' : slab.Slab (InnerNode C R)) (id : ℕ) (call : C) (next : R) (later : List (C × R)) → left ≡ (call, next) ∷ later → AddsInner same inner inner' at answer call id → slab.slab_len inner' ≡ slab.slab_len inner + 1 → inner'.capacity ≡ inner.capacity → Chain eq same eqk first above led all inner' leaves starts key id next later
     Chain-step inner' id call next later cut a len capacity =

@@ -6,7 +6,6 @@ use Rattle.std.proofs.lemmas.List.Sorted.{IsPermutation-middle, IsPermutation-sy
 use Rattle.std.specs.List.Sorted.{IsPermutation}
 use Rattle.std.specs.Cmp.{IsEquivalence}
 use Rattle.std.specs.HashMap.{HashMap}
-use Rattle.std.specs.Arc.{arc_value}
 use Rattle.slab.specs.Slab as slab
 use Rattle.slab.specs.Slab.{entries_from}
 use Rattle.slab.proofs.SlabLemmas.{Updates-with_value, ContainsKey-within, entries_from-append}
@@ -73,25 +72,24 @@ module _ {K T : Type 0} (leaves : slab.Slab (LeafNode K T)) (at : ℕ) (leaf : L
     path-valued : (i : ℕ) (x y : LeafNode K T) → (y.parent ≡ x.parent) → (y.depth ≡ x.depth) → path_of inner i y ≡ path_of inner i x
     path-valued i x y p d = rw (p, d) refl
 
-    pub IsForest-valued : {S : Type 0} {eq : C → C → Bool} {same : R → R → Bool} {eqk : K → K → Bool} {starts : HashMap K (Start K) S} → IsForest eq same eqk None inner leaves starts → IsForest eq same eqk None inner valued starts
+    pub IsForest-valued : {S : Type 0} {eq : C → C → Bool} {same : R → R → Bool} {eqk : K → K → Bool} {starts : HashMap K Start S} → IsForest eq same eqk None inner leaves starts → IsForest eq same eqk None inner valued starts
     IsForest-valued {eq = eq} {eqk = eqk} {starts = starts} forest = record {
       answers = forest.answers;
       child = λ i node answer next e p. (let h = forest.child i node answer next e p in (IsAt-valued next (Some i) (suc node.depth) h.0, h.1));
       start = λ key first e. IsAt-valued first None 0 (forest.start key first e);
-      shared = forest.shared;
       apart = forest.apart;
       led = λ i x e.
           let y = was i x e in
           let own = forest.led i y.0 y.1 in
-          let lead = subst (λ ps. LeadsFrom inner eqk starts (arc_value y.0.key) ps (Leaf i)) (path-valued i x y.0 y.3 y.4) own in
-          subst (λ k. LeadsFrom inner eqk starts (arc_value k) (path_of inner i x) (Leaf i)) y.2 lead;
+          let lead = subst (λ ps. LeadsFrom inner eqk starts y.0.key.value ps (Leaf i)) (path-valued i x y.0 y.3 y.4) own in
+          subst (λ k. LeadsFrom inner eqk starts k.value (path_of inner i x) (Leaf i)) y.2 lead;
       below = forest.below;
       distinct = λ i x e. (let y = was i x e in subst (HasDistinctCalls eq) (path-valued i x y.0 y.3 y.4) (forest.distinct i y.0 y.1));
       unmarked = forest.unmarked;
     }
 
     -- what the entries are then
-    pub Changes-valued : {S : Type 0} {eq : C → C → Bool} {same : R → R → Bool} {eqk : K → K → Bool} (calls : IsEquivalence eq) (answers : IsEquivalence same) (keys : IsEquivalence eqk) {starts : HashMap K (Start K) S} (forest : IsForest eq same eqk None inner leaves starts) (left : T → T → Type 0) (key : K) (given : List R) → LeadsByAnswers same eqk inner starts key given at → left leaf.value value → Changes same eqk left key given (contents inner leaves) (contents inner valued)
+    pub Changes-valued : {S : Type 0} {eq : C → C → Bool} {same : R → R → Bool} {eqk : K → K → Bool} (calls : IsEquivalence eq) (answers : IsEquivalence same) (keys : IsEquivalence eqk) {starts : HashMap K Start S} (forest : IsForest eq same eqk None inner leaves starts) (left : T → T → Type 0) (key : K) (given : List R) → LeadsByAnswers same eqk inner starts key given at → left leaf.value value → Changes same eqk left key given (contents inner leaves) (contents inner valued)
     Changes-valued {same = same} {eqk = eqk} calls answers keys forest left key given lead called =
         let a = entries_around leaves at leaf (record leaf { value = value }) is (ContainsKey-within leaves at here) in
         let front = a.0 in
@@ -105,7 +103,7 @@ module _ {K T : Type 0} (leaves : slab.Slab (LeafNode K T)) (at : ℕ) (leaf : L
           entry = entry_of inner (at, leaf);
           others = map (entry_of inner) (front ++ back);
           before = subst (λ es. IsPermutation (map (entry_of inner) ((at, leaf) ∷ (front ++ back))) (map (entry_of inner) es)) (sym a.2) (moved (at, leaf) front back);
-          under_key = subst (λ (l : LeafNode K T). IsTrue (eqk (arc_value l.key) key)) leaf_is f.2;
+          under_key = subst (λ (l : LeafNode K T). IsTrue (eqk l.key.value key)) leaf_is f.2;
           has_answers = subst (λ ps. HasAnswers same ps given) path lead.2;
           value = value;
           left = called;

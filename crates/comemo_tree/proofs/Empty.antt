@@ -21,15 +21,14 @@ nothing s at x e f = let l : None ≡ Some x = sym (ap (λ xs. get_or xs at None
 no_key : {K X S P : Type 0} (eqk : K → K → Bool) (m : HashMap K X S) (k : K) (x : X) → m.entries ≡ [] → get eqk m k ≡ Some x → P
 no_key eqk m k x e f = let l : None ≡ Some x = sym (ap (λ es. lookup (eqk k) es) e) ∙ f in cc
 
-no_first : {K S P : Type 0} (eqk : K → K → Bool) (m : HashMap K (Start K) S) (k : K) (first : Node) → m.entries ≡ [] → first_of eqk m k ≡ Some first → P
-no_first eqk m k first e f = let l : None ≡ Some first = sym (ap (λ (es : List (_ × Start _)). option_map (λ (start : Start _). start.first) (lookup (eqk k) es)) e) ∙ f in cc
+no_first : {K S P : Type 0} (eqk : K → K → Bool) (m : HashMap K Start S) (k : K) (first : Node) → m.entries ≡ [] → first_of eqk m k ≡ Some first → P
+no_first eqk m k first e f = let l : None ≡ Some first = sym (ap (λ (es : List (_ × Start)). option_map (λ (start : Start). start.first) (lookup (eqk k) es)) e) ∙ f in cc
 
-pub IsForest-empty : {K C R T S : Type 0} (eq : C → C → Bool) (same : R → R → Bool) (eqk : K → K → Bool) (inner : slab.Slab (InnerNode C R)) (leaves : slab.Slab (LeafNode K T)) (starts : HashMap K (Start K) S) → inner.slots ≡ [] → leaves.slots ≡ [] → starts.entries ≡ [] → IsForest eq same eqk None inner leaves starts
+pub IsForest-empty : {K C R T S : Type 0} (eq : C → C → Bool) (same : R → R → Bool) (eqk : K → K → Bool) (inner : slab.Slab (InnerNode C R)) (leaves : slab.Slab (LeafNode K T)) (starts : HashMap K Start S) → inner.slots ≡ [] → leaves.slots ≡ [] → starts.entries ≡ [] → IsForest eq same eqk None inner leaves starts
 IsForest-empty eq same eqk inner leaves starts i l s = record {
   answers = λ at node e. nothing inner at node i e;
   child = λ at node r next e p. nothing inner at node i e;
   start = λ key first e. no_first eqk starts key first s e;
-  shared = λ key start e. no_key eqk starts key start s e;
   apart = λ k m first e f. no_first eqk starts k first s e;
   led = λ at leaf e. nothing leaves at leaf l e;
   below = λ at node e. nothing inner at node i e;

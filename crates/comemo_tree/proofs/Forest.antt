@@ -6,7 +6,6 @@ use Rattle.std.specs.Option.{option_to_list, unwrap_or}
 use Rattle.std.specs.Prelude.{option_map}
 use Rattle.std.specs.Map.{lookup, keys_of}
 use Rattle.std.specs.HashMap.{HashMap}
-use Rattle.std.specs.Arc.{arc_value}
 use Rattle.std.proofs.lemmas.Map.Entries.{lookup_from_place, place_from_lookup}
 use Rattle.std.proofs.lemmas.List.{length-map, get_or-map}
 use Rattle.std.proofs.lemmas.List.Sums.{get_or-le-sum_by}
@@ -33,8 +32,8 @@ module _ {K X : Type 0} {eq : K → K → Bool} (laws : IsEquivalence eq) where
   lookup_points es i q k v d at h = lookup_congr eq laws.congr es q k h ∙ lookup_from_place laws es i k v d at
 
 -- equal keys have the same first node
-pub first_alike : {K S : Type 0} {eqk : K → K → Bool} (keys : IsEquivalence eqk) (starts : HashMap K (Start K) S) (k l : K) → IsTrue (eqk k l) → first_of eqk starts k ≡ first_of eqk starts l
-first_alike keys starts k l h = ap (λ o. option_map (λ (start : Start _). start.first) o) (lookup_congr _ keys.congr starts.entries k l h)
+pub first_alike : {K S : Type 0} {eqk : K → K → Bool} (keys : IsEquivalence eqk) (starts : HashMap K Start S) (k l : K) → IsTrue (eqk k l) → first_of eqk starts k ≡ first_of eqk starts l
+first_alike keys starts k l h = ap (λ o. option_map (λ (start : Start). start.first) o) (lookup_congr _ keys.congr starts.entries k l h)
 
 module _ {C R : Type 0} (inner : slab.Slab (InnerNode C R)) where
   -- one more step
@@ -164,7 +163,7 @@ module _ {C R : Type 0} {eq : C → C → Bool} {same : R → R → Bool} (calls
   any_later [] p rest e = Any-here (λ (q : C × R). q.0 ≡ _) p rest e
   any_later (d ∷ done) p rest e = Any-later (λ (q : C × R). q.0 ≡ _) d (done ++ p ∷ rest) (any_later done p rest e)
 
-  module _ {K T S : Type 0} {eqk : K → K → Bool} (keys : IsEquivalence eqk) {inner : slab.Slab (InnerNode C R)} {leaves : slab.Slab (LeafNode K T)} {starts : HashMap K (Start K) S} (forest : IsForest eq same eqk None inner leaves starts) where
+  module _ {K T S : Type 0} {eqk : K → K → Bool} (keys : IsEquivalence eqk) {inner : slab.Slab (InnerNode C R)} {leaves : slab.Slab (LeafNode K T)} {starts : HashMap K Start S} (forest : IsForest eq same eqk None inner leaves starts) where
     -- equal answers lead to one child
     pub same_child : (from : Node) (d : C × R) (done : List (C × R)) (q : C × R) (qs : List (C × R)) (mid to : Node) (k : Leads inner from (d ∷ done) mid) (h : Leads inner from (q ∷ qs) to) → IsTrue (same d.1 q.1) → k.2 ≡ h.2
     same_child from d done q qs mid to k h s =
@@ -201,27 +200,27 @@ module _ {C R : Type 0} {eq : C → C → Bool} {same : R → R → Bool} (calls
     knows_from key ps node lead =
         knows_led inner leaves (λ at n r next e f. forest.child at n r next e f) lead.0 lead.0 node [] ps (None, forest.start key lead.0 lead.1, refl) lead.2
 
-    pub leaf_at : (key : K) (ps : List (C × R)) (at : ℕ) → LeadsFrom inner eqk starts key ps (Leaf at) → (leaf : LeafNode K T) × (slab.get leaves at ≡ Some leaf) × IsTrue (eqk (arc_value leaf.key) key) × (path_of inner at leaf ≡ ps)
+    pub leaf_at : (key : K) (ps : List (C × R)) (at : ℕ) → LeadsFrom inner eqk starts key ps (Leaf at) → (leaf : LeafNode K T) × (slab.get leaves at ≡ Some leaf) × IsTrue (eqk leaf.key.value key) × (path_of inner at leaf ≡ ps)
     leaf_at key ps at lead =
         let k = knows_from key ps (Leaf at) lead in
         let leaf = k.1.0 in
         let way : origin inner leaf.depth (Leaf at) leaf.parent ≡ (lead.0, ps) = ap (λ n. origin inner n (Leaf at) leaf.parent) k.1.3 ∙ ap (λ o. origin inner (length ps) (Leaf at) o) k.1.2 ∙ k.2 in
         let own = forest.led at leaf k.1.1 in
-        let j = knows_from (arc_value leaf.key) (path_of inner at leaf) (Leaf at) own in
+        let j = knows_from leaf.key.value (path_of inner at leaf) (Leaf at) own in
         let one : j.1.0 ≡ leaf = cc in
         let way' : origin inner leaf.depth (Leaf at) leaf.parent ≡ (own.0, path_of inner at leaf) =
         ap (λ (x : LeafNode K T). origin inner x.depth (Leaf at) x.parent) (sym one) ∙ ap (λ n. origin inner n (Leaf at) j.1.0.parent) j.1.3 ∙ ap (λ o. origin inner (length (path_of inner at leaf)) (Leaf at) o) j.1.2 ∙ j.2 in
         let first : own.0 ≡ lead.0 = ap (λ (x : Node × List (C × R)). x.0) (sym way' ∙ way) in
-        (leaf, k.1.1, forest.apart (arc_value leaf.key) key lead.0 (own.1 ∙ ap Some first) lead.1, ap (λ (x : Node × List (C × R)). x.1) way)
+        (leaf, k.1.1, forest.apart leaf.key.value key lead.0 (own.1 ∙ ap Some first) lead.1, ap (λ (x : Node × List (C × R)). x.1) way)
 
     pub inner_at : (key : K) (ps : List (C × R)) (at : ℕ) → LeadsFrom inner eqk starts key ps (Inner at) → (node : InnerNode C R) × (slab.get inner at ≡ Some node) × (node.depth ≡ length ps)
     inner_at key ps at lead = let k = knows_from key ps (Inner at) lead in (k.1.0, k.1.1, k.1.3)
 
     -- below an inner node lies a leaf of its key
-    pub leaf_below : (key : K) (ps : List (C × R)) (at : ℕ) (node : InnerNode C R) → LeadsFrom inner eqk starts key ps (Inner at) → slab.get inner at ≡ Some node → (low : ℕ) × (leaf : LeafNode K T) × (p : C × R) × (rest : List (C × R)) × (slab.get leaves low ≡ Some leaf) × IsTrue (eqk (arc_value leaf.key) key) × (path_of inner low leaf ≡ ps ++ p ∷ rest) × (node.call ≡ p.0)
+    pub leaf_below : (key : K) (ps : List (C × R)) (at : ℕ) (node : InnerNode C R) → LeadsFrom inner eqk starts key ps (Inner at) → slab.get inner at ≡ Some node → (low : ℕ) × (leaf : LeafNode K T) × (p : C × R) × (rest : List (C × R)) × (slab.get leaves low ≡ Some leaf) × IsTrue (eqk leaf.key.value key) × (path_of inner low leaf ≡ ps ++ p ∷ rest) × (node.call ≡ p.0)
     leaf_below key ps at node lead e = let b = forest.below at node e in at_end b.0 b.1 b.2 b.3
       where
-        by_rest : (low : ℕ) (rest : List (C × R)) → Leads inner (Inner at) rest (Leaf low) → (low : ℕ) × (leaf : LeafNode K T) × (p : C × R) × (rest : List (C × R)) × (slab.get leaves low ≡ Some leaf) × IsTrue (eqk (arc_value leaf.key) key) × (path_of inner low leaf ≡ ps ++ p ∷ rest) × (node.call ≡ p.0)
+        by_rest : (low : ℕ) (rest : List (C × R)) → Leads inner (Inner at) rest (Leaf low) → (low : ℕ) × (leaf : LeafNode K T) × (p : C × R) × (rest : List (C × R)) × (slab.get leaves low ≡ Some leaf) × IsTrue (eqk leaf.key.value key) × (path_of inner low leaf ≡ ps ++ p ∷ rest) × (node.call ≡ p.0)
         by_rest low [] h = cc
         by_rest low (p ∷ rest) h =
             let l = leaf_at key (ps ++ p ∷ rest) low (lead.0, lead.1, Leads-joined inner lead.0 ps (p ∷ rest) (Inner at) (Leaf low) lead.2 h) in
@@ -230,7 +229,7 @@ module _ {C R : Type 0} {eq : C → C → Bool} {same : R → R → Bool} (calls
             let one : node ≡ h.1 = cc in
             (low, l.0, p, rest, l.1, l.2, l.3, ap (λ (n : InnerNode C R). n.call) one ∙ h.5)
 
-        at_end : (to : Node) (rest : List (C × R)) → Leads inner (Inner at) rest to → IsEnd None to → (low : ℕ) × (leaf : LeafNode K T) × (p : C × R) × (rest : List (C × R)) × (slab.get leaves low ≡ Some leaf) × IsTrue (eqk (arc_value leaf.key) key) × (path_of inner low leaf ≡ ps ++ p ∷ rest) × (node.call ≡ p.0)
+        at_end : (to : Node) (rest : List (C × R)) → Leads inner (Inner at) rest to → IsEnd None to → (low : ℕ) × (leaf : LeafNode K T) × (p : C × R) × (rest : List (C × R)) × (slab.get leaves low ≡ Some leaf) × IsTrue (eqk leaf.key.value key) × (path_of inner low leaf ≡ ps ++ p ∷ rest) × (node.call ≡ p.0)
         at_end (Inner u) rest h end = cc
         at_end (Leaf low) rest h end = by_rest low rest h
 
@@ -239,7 +238,7 @@ module _ {C R : Type 0} {eq : C → C → Bool} {same : R → R → Bool} (calls
     no_start key none = (
       All-under eqk (contents inner leaves) key (λ e. ¬ IsFront eq same [] e.path) (all_entries inner leaves (λ e. IsTrue (eqk e.key key) → ¬ IsFront eq same [] e.path) (λ at leaf e k f.
           let lead = forest.led at leaf e in
-          let h : Some lead.0 ≡ None = sym lead.1 ∙ first_alike keys starts (arc_value leaf.key) key k ∙ none in
+          let h : Some lead.0 ≡ None = sym lead.1 ∙ first_alike keys starts leaf.key.value key k ∙ none in
           cc)),
       inl refl,
     )
@@ -249,7 +248,7 @@ module _ {C R : Type 0} {eq : C → C → Bool} {same : R → R → Bool} (calls
         let f = leaf_at key done at lead in
         let one : f.0 ≡ leaf = cc in
         Any-under eqk (contents inner leaves) key (λ x. IsSamePath eq same asked x.path × (x.value ≡ leaf.value)) (any_entry inner leaves (λ x. IsTrue (eqk x.key key) × (IsSamePath eq same asked x.path × (x.value ≡ leaf.value))) at leaf e
-        (subst (λ (x : LeafNode K T). IsTrue (eqk (arc_value x.key) key)) one f.2, (subst (λ ps. IsSamePath eq same asked ps) (sym f.3 ∙ ap (path_of inner at) one) s, refl)))
+        (subst (λ (x : LeafNode K T). IsTrue (eqk x.key.value key)) one f.2, (subst (λ ps. IsSamePath eq same asked ps) (sym f.3 ∙ ap (path_of inner at) one) s, refl)))
 
     -- the call of a node is a stored one
     pub stored_at : (key : K) (done : List (C × R)) (at : ℕ) (node : InnerNode C R) → LeadsFrom inner eqk starts key done (Inner at) → slab.get inner at ≡ Some node → IsStoredCall (under eqk (contents {T = T} inner leaves) key) node.call
@@ -267,7 +266,7 @@ module _ {C R : Type 0} {eq : C → C → Bool} {same : R → R → Bool} (calls
     pub not_front : (key : K) (asked done : List (C × R)) (at : ℕ) (node : InnerNode C R) (answer : R) → LeadsFrom inner eqk starts key done (Inner at) → slab.get inner at ≡ Some node → IsSamePath eq same asked done → lookup (same answer) node.children ≡ None → All (λ (x : Stored K C R T). IsTrue (eqk x.key key) → ¬ IsFront eq same (asked ++ (node.call, answer) ∷ []) x.path) (contents inner leaves)
     not_front key asked done at node answer lead e s none = all_entries inner leaves (λ x. IsTrue (eqk x.key key) → ¬ IsFront eq same (asked ++ (node.call, answer) ∷ []) x.path) (λ i leaf f k front.
         let own = forest.led i leaf f in
-        let from : Some own.0 ≡ Some lead.0 = sym own.1 ∙ first_alike keys starts (arc_value leaf.key) key k ∙ lead.1 in
+        let from : Some own.0 ≡ Some lead.0 = sym own.1 ∙ first_alike keys starts leaf.key.value key k ∙ lead.1 in
         let one : own.0 ≡ lead.0 = cc in
         no_child lead.0 asked done at node node.call answer (path_of inner i leaf) (Leaf i) lead.2 s e none (subst (λ n. Leads inner n (path_of inner i leaf) (Leaf i)) one own.2) front)
 
@@ -325,8 +324,8 @@ module _ {C R : Type 0} {eq : C → C → Bool} {same : R → R → Bool} (calls
           let y = (Contains-entries leaves b.0.0 b.0.1).0 b.1 in
           let own = forest.led a.0.0 a.0.1 x in
           let other = forest.led b.0.0 b.0.1 y in
-          let keys' : IsTrue (eqk (arc_value a.0.1.key) (arc_value b.0.1.key)) = ap (λ (e : Stored K C R T). eqk e.key (arc_value b.0.1.key)) a.2 ∙ ap (λ (e : Stored K C R T). eqk (get_or (contents inner leaves) i d).key e.key) b.2 ∙ k in
-          let from : Some other.0 ≡ Some own.0 = sym other.1 ∙ sym (first_alike keys starts (arc_value a.0.1.key) (arc_value b.0.1.key) keys') ∙ own.1 in
+          let keys' : IsTrue (eqk a.0.1.key.value b.0.1.key.value) = ap (λ (e : Stored K C R T). eqk e.key b.0.1.key.value) a.2 ∙ ap (λ (e : Stored K C R T). eqk (get_or (contents inner leaves) i d).key e.key) b.2 ∙ k in
+          let from : Some other.0 ≡ Some own.0 = sym other.1 ∙ sym (first_alike keys starts a.0.1.key.value b.0.1.key.value keys') ∙ own.1 in
           let one : other.0 ≡ own.0 = cc in
           let p = parts_led own.0 (path_of inner a.0.0 a.0.1) (path_of inner b.0.0 b.0.1) a.0.0 b.0.0 (apart_entries inner leaves i j d l m n) own.2 (subst (λ z. Leads inner z (path_of inner b.0.0 b.0.1) (Leaf b.0.0)) one other.2) in
           subst (λ (e : Stored K C R T). Parts eq same (get_or (contents inner leaves) i d).path e.path) b.2 (subst (λ (e : Stored K C R T). Parts eq same e.path (path_of inner b.0.0 b.0.1)) a.2 p);

@@ -5,7 +5,6 @@ use Rattle.std.proofs.lemmas.List.Elements.{All-map, All-append}
 use Rattle.std.specs.Cmp.{IsEquivalence}
 use Rattle.std.specs.List.{All, AllPairs, Any}
 use Rattle.std.specs.HashMap.{HashMap}
-use Rattle.std.specs.Arc.{arc_value}
 use Rattle.slab.specs.Slab as slab
 use Rattle.slab.proofs.SlabLemmas.{Contains-entries, length-entries}
 use Rattle.comemo_base.specs.Tree.{Stored, IsFront, IsSamePath}
@@ -84,7 +83,7 @@ module _ {X : Type 0} (node : ℕ → Node) (s : slab.Slab X) where
   apart_nodes_of : ((i j : ℕ) → node i ≡ node j → i ≡ j) → AllPairs (λ n m. n ≢ m) nodes_of
   apart_nodes_of one = AllPairs-map (λ (e : ℕ × X). node e.0) (λ n m. n ≢ m) (slab.entries s) (λ i j d l m e. apart_keys 0 s.slots i j d (omega (arith, l, m)) m (λ same. absurd (omega (arith, l, same))) (one (get_or (slab.entries s) i d).0 (get_or (slab.entries s) j d).0 e))
 
-module _ {K C R T S : Type 0} {eq : C → C → Bool} {same : R → R → Bool} {eqk : K → K → Bool} (calls : IsEquivalence eq) (answers : IsEquivalence same) (keys : IsEquivalence eqk) {inner : slab.Slab (InnerNode C R)} {leaves : slab.Slab (LeafNode K T)} {starts : HashMap K (Start K) S} (forest : IsForest eq same eqk None inner leaves starts) where
+module _ {K C R T S : Type 0} {eq : C → C → Bool} {same : R → R → Bool} {eqk : K → K → Bool} (calls : IsEquivalence eq) (answers : IsEquivalence same) (keys : IsEquivalence eqk) {inner : slab.Slab (InnerNode C R)} {leaves : slab.Slab (LeafNode K T)} {starts : HashMap K Start S} (forest : IsForest eq same eqk None inner leaves starts) where
   -- the front leads to the node
   abbrev pub Reaches : Node → K × List (C × R) → Type 0
   Reaches node f = LeadsFrom inner eqk starts f.0 f.1 node
@@ -149,13 +148,13 @@ module _ {K C R T S : Type 0} {eq : C → C → Bool} {same : R → R → Bool} 
           let leaf = a.0 in
           let own = forest.led low leaf a.1 in
           let path = path_of inner low leaf in
-          let k = knows_from calls answers keys forest (arc_value leaf.key) path (Leaf low) own in
+          let k = knows_from calls answers keys forest leaf.key.value path (Leaf low) own in
           let deep : node.depth + length rest ≡ length path = (at_one inner leaves (Leaf low) _ k.0 (node.depth + length rest) (length path) a k.1).1 in
           let front = take node.depth path in
           let back = drop node.depth path in
           let s = Leads-split inner own.0 front back (Leaf low) (subst (λ ps. Leads inner own.0 ps (Leaf low)) (sym (take-append-drop node.depth path)) own.2) in
           let mid : s.0 ≡ Inner at = same_up s.0 (Inner at) back rest (Leaf low) (omega (arith, deep, length-drop node.depth path)) s.2 h in
-          ((arc_value leaf.key, front), (own.0, own.1, subst (λ n. Leads inner own.0 front n) mid s.1))
+          ((leaf.key.value, front), (own.0, own.1, subst (λ n. Leads inner own.0 front n) mid s.1))
 
   -- the nodes, each reached by a front with a property, to one of which each front with it leads
   count_nodes : (P : K × List (C × R) → Type 0) (ns : List Node) → AllPairs (λ n m. n ≢ m) ns → All (λ n. (f : K × List (C × R)) × (Reaches n f × P f)) ns → ((f : K × List (C × R)) → P f → (n : Node) × (g : K × List (C × R)) × Any (λ m. m ≡ n) ns × Reaches n g × IsSameUnder eq same eqk f g) → Counts P (IsSameUnder eq same eqk) (length ns)
@@ -178,11 +177,11 @@ module _ {K C R T S : Type 0} {eq : C → C → Bool} {same : R → R → Bool} 
   abbrev Found : ℕ → List (C × R) → K × List (C × R) → Node → List (C × R) → Type 0
   Found low path f n left = (g : K × List (C × R)) × Reaches n g × IsSameUnder eq same eqk f g × Leads inner n left (Leaf low) × (path ≡ g.1 ++ left)
 
-  found_by : (f : K × List (C × R)) (low : ℕ) (leaf : LeafNode K T) → slab.get leaves low ≡ Some leaf → IsTrue (eqk (arc_value leaf.key) f.0) → IsFront eq same f.1 (path_of inner low leaf) → (n : Node) × (left : List (C × R)) × Found low (path_of inner low leaf) f n left
+  found_by : (f : K × List (C × R)) (low : ℕ) (leaf : LeafNode K T) → slab.get leaves low ≡ Some leaf → IsTrue (eqk leaf.key.value f.0) → IsFront eq same f.1 (path_of inner low leaf) → (n : Node) × (left : List (C × R)) × Found low (path_of inner low leaf) f n left
   found_by f low leaf e k s =
       let own = forest.led low leaf e in
       let r = along_front inner eq same own.0 f.1 (path_of inner low leaf) (Leaf low) s own.2 in
-      let key = arc_value leaf.key in
+      let key = leaf.key.value in
       (r.1, r.2, ((key, r.0), (own.0, own.1, r.4), (turned keys key f.0 k, r.3), r.5, r.6))
 
   abbrev inner_nodes : List Node
@@ -245,7 +244,7 @@ module _ {K C R T S : Type 0} {eq : C → C → Bool} {same : R → R → Bool} 
       (AllPairs-append (λ n m. n ≢ m) inner_nodes leaf_nodes (apart_nodes_of Inner inner (λ i j e. cc)) (apart_nodes_of Leaf leaves (λ i j e. cc)) (all_nodes_of Inner inner (λ n. All (λ m. n ≢ m) leaf_nodes) (λ at node e. all_nodes_of Leaf leaves (λ m. Inner at ≢ m) (λ low leaf d same. cc))))
       (All-append reached inner_nodes leaf_nodes
       (all_nodes_of Inner inner reached (λ at node e. (let f = inner_reached at node e in (f.0, (f.1, Any-weaker (λ (x : Stored K C R T). IsTrue (eqk x.key f.0.0) × IsFront eq same f.0.1 x.path × (length f.0.1 < length x.path)) (λ x. IsTrue (eqk x.key f.0.0) × IsFront eq same f.0.1 x.path) (λ x p. (p.0, p.1)) (contents inner leaves) (proper_at at node f.0 e f.1))))))
-      (all_nodes_of Leaf leaves reached (λ at leaf e. (let own = forest.led at leaf e in ((arc_value leaf.key, path_of inner at leaf), (own, whole_at at (arc_value leaf.key, path_of inner at leaf) own))))))
+      (all_nodes_of Leaf leaves reached (λ at leaf e. (let own = forest.led at leaf e in ((leaf.key.value, path_of inner at leaf), (own, whole_at at (leaf.key.value, path_of inner at leaf) own))))))
       (λ f p.
       let l = leaf_of_any inner leaves (λ x. IsTrue (eqk x.key f.0) × IsFront eq same f.1 x.path) p in
       let r = found_by f l.0 l.1 l.2 l.3.0 l.3.1 in

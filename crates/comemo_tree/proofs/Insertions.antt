@@ -1,7 +1,6 @@
 -- From what was added to the nodes to what an insertion's clauses say.
 use Rattle.std.proofs.Common.{◌≡◌, ◌∙◌, ℕ, Bool, true, false, not, is_some, List, [], ◌∷◌, ◌++◌, length, Some, None, Result, Ok, Err, IfErr, refl, sym, ap, subst, inl, inr, arith, IsTrue, append_assoc, length-append}
 use Rattle.std.specs.Prelude.{option_map, IsErrAnd}
-use Rattle.std.specs.Arc.{arc_value}
 use Rattle.std.specs.Cmp.{IsEquivalence}
 use Rattle.std.specs.HashMap.{HashMap, get}
 use Rattle.std.specs.HashMap.Eq.{lookup_congr}
@@ -68,13 +67,13 @@ module _ {C R : Type 0} {eq : C → C → Bool} (calls : IsEquivalence eq) (same
   distinct_moved (x ∷ xs) [] zs h d = absurd h
   distinct_moved (x ∷ xs) (y ∷ ys) zs h d = (none_moved x.0 y.0 h.0 xs ys zs h.2 d.0, distinct_moved xs ys zs h.2 d.1)
 
-module _ {C R : Type 0} {eq : C → C → Bool} {same : R → R → Bool} (calls : IsEquivalence eq) (answers : IsEquivalence same) {K T S : Type 0} {eqk : K → K → Bool} (keys : IsEquivalence eqk) {inner : slab.Slab (InnerNode C R)} {leaves : slab.Slab (LeafNode K T)} {starts : HashMap K (Start K) S} (forest : IsForest eq same eqk None inner leaves starts) (key : K) (s : List (C × R)) where
+module _ {C R : Type 0} {eq : C → C → Bool} {same : R → R → Bool} (calls : IsEquivalence eq) (answers : IsEquivalence same) {K T S : Type 0} {eqk : K → K → Bool} (keys : IsEquivalence eqk) {inner : slab.Slab (InnerNode C R)} {leaves : slab.Slab (LeafNode K T)} {starts : HashMap K Start S} (forest : IsForest eq same eqk None inner leaves starts) (key : K) (s : List (C × R)) where
   -- ---- a key that the tree lacks
   module _ (none : get eqk starts key ≡ None) where
     nothing_under : under eqk (contents inner leaves) key ≡ []
     nothing_under = under-none eqk (contents inner leaves) key (all_entries inner leaves (λ (e : Stored K C R T). ¬ IsTrue (eqk e.key key)) (λ at leaf e k.
         let lead = forest.led at leaf e in
-        let no : Some lead.0 ≡ None = sym lead.1 ∙ first_alike keys starts (arc_value leaf.key) key k ∙ ap (option_map (λ (start : Start K). start.first)) none in
+        let no : Some lead.0 ≡ None = sym lead.1 ∙ first_alike keys starts leaf.key.value key k ∙ ap (option_map (λ (start : Start). start.first)) none in
         cc))
 
     pub not_Exists-new : ¬ Exists eq same (under eqk (contents inner leaves) key) s
@@ -83,7 +82,7 @@ module _ {C R : Type 0} {eq : C → C → Bool} {same : R → R → Bool} (calls
     pub not_Misses-new : ¬ Misses eq same (under eqk (contents inner leaves) key) s
     not_Misses-new some = none-from_nothing (λ (e : Stored K C R T). LacksNextCall eq same s e.path) nothing_under some
 
-    pub Adds-new : {inner' : slab.Slab (InnerNode C R)} {leaves' : slab.Slab (LeafNode K T)} {starts' : HashMap K (Start K) S} (value : T) → Grown eq same eqk inner leaves inner' leaves' starts' key s value → Adds eq same eqk (contents inner leaves) key s value (contents inner' leaves')
+    pub Adds-new : {inner' : slab.Slab (InnerNode C R)} {leaves' : slab.Slab (LeafNode K T)} {starts' : HashMap K Start S} (value : T) → Grown eq same eqk inner leaves inner' leaves' starts' key s value → Adds eq same eqk (contents inner leaves) key s value (contents inner' leaves')
     Adds-new value grown = record {
       own = key;
       is_key = keys.refl key;

@@ -6,7 +6,6 @@ use Rattle.std.specs.List.{IsDistinct}
 use Rattle.std.specs.Map.{keys_of}
 use Rattle.std.specs.HashMap.Eq.{lookup_congr}
 use Rattle.std.specs.HashMap.{HashMap, get}
-use Rattle.std.specs.Arc.{arc_value}
 use Rattle.std.proofs.lemmas.Bool.{cases_Bool}
 use Rattle.slab.specs.Slab as slab
 use Rattle.comemo_base.specs.Sequence.{HasDistinctCalls}
@@ -22,10 +21,9 @@ use Rattle.comemo_tree.proofs.Forest.{knows_led}
 use Rattle.comemo_tree.proofs.Attach.{node_eq-itself, node_eq-true, no_points}
 
 -- one node was added, and the new key begins with it
-pub record Planted {K C R T S : Type 0} (eqk : K → K → Bool) (inner inner' : slab.Slab (InnerNode C R)) (leaves leaves' : slab.Slab (LeafNode K T)) (starts starts' : HashMap K (Start K) S) (key : K) (fresh : Node) : Type 0 where
-  pub began : Start K
+pub record Planted {K C R T S : Type 0} (eqk : K → K → Bool) (inner inner' : slab.Slab (InnerNode C R)) (leaves leaves' : slab.Slab (LeafNode K T)) (starts starts' : HashMap K Start S) (key : K) (fresh : Node) : Type 0 where
+  pub began : Start
   pub first : began.first ≡ fresh
-  pub shares : arc_value began.key ≡ key
   pub none : get eqk starts key ≡ None
   pub gets : (k : K) → get eqk starts' k ≡ cond (eqk key k) (Some began) (get eqk starts k)
   pub here : IsAt inner' leaves' fresh None 0
@@ -33,12 +31,12 @@ pub record Planted {K C R T S : Type 0} (eqk : K → K → Bool) (inner inner' :
   pub other_inner : (x : ℕ) → Inner x ≢ fresh → slab.get inner' x ≡ slab.get inner x
   pub other_leaves : (x : ℕ) → Leaf x ≢ fresh → slab.get leaves' x ≡ slab.get leaves x
   pub childless : (x : ℕ) (m : InnerNode C R) → Inner x ≡ fresh → slab.get inner' x ≡ Some m → (m.children ≡ []) × (m.kept ≡ false)
-  pub own : (x : ℕ) (leaf : LeafNode K T) → Leaf x ≡ fresh → slab.get leaves' x ≡ Some leaf → arc_value leaf.key ≡ key
+  pub own : (x : ℕ) (leaf : LeafNode K T) → Leaf x ≡ fresh → slab.get leaves' x ≡ Some leaf → leaf.key.value ≡ key
 
 apart_nodes : {P : Type 0} (a b : Node) → node_eq a b ≡ false → a ≡ b → P
 apart_nodes a b f s = let l : true ≡ false = sym (node_eq-itself a) ∙ ap (node_eq a) s ∙ f in cc
 
-module _ {C R : Type 0} {eq : C → C → Bool} {same : R → R → Bool} {K T S : Type 0} {eqk : K → K → Bool} (keys : IsEquivalence eqk) {inner inner' : slab.Slab (InnerNode C R)} {leaves leaves' : slab.Slab (LeafNode K T)} {starts starts' : HashMap K (Start K) S} (forest : IsForest eq same eqk None inner leaves starts) (key : K) (fresh : Node) (a : Planted eqk inner inner' leaves leaves' starts starts' key fresh) where
+module _ {C R : Type 0} {eq : C → C → Bool} {same : R → R → Bool} {K T S : Type 0} {eqk : K → K → Bool} (keys : IsEquivalence eqk) {inner inner' : slab.Slab (InnerNode C R)} {leaves leaves' : slab.Slab (LeafNode K T)} {starts starts' : HashMap K Start S} (forest : IsForest eq same eqk None inner leaves starts) (key : K) (fresh : Node) (a : Planted eqk inner inner' leaves leaves' starts starts' key fresh) where
   inner_there : (x : ℕ) (m : InnerNode C R) → slab.get inner x ≡ Some m → Inner x ≢ fresh
   inner_there x m e f = a.vacant m.parent m.depth (subst (λ z. IsAt inner leaves z m.parent m.depth) f (m, e, refl, refl))
 
@@ -68,10 +66,10 @@ module _ {C R : Type 0} {eq : C → C → Bool} {same : R → R → Bool} {K T S
   gets_old k e = a.gets k ∙ ap (λ b. cond b (Some a.began) (get eqk starts k)) e
 
   first_new : (k : K) → eqk key k ≡ true → first_of eqk starts' k ≡ Some fresh
-  first_new k e = ap (option_map (λ (s : Start K). s.first)) (gets_new k e) ∙ ap Some a.first
+  first_new k e = ap (option_map (λ (s : Start). s.first)) (gets_new k e) ∙ ap Some a.first
 
   first_old : (k : K) → eqk key k ≡ false → first_of eqk starts' k ≡ first_of eqk starts k
-  first_old k e = ap (option_map (λ (s : Start K). s.first)) (gets_old k e)
+  first_old k e = ap (option_map (λ (s : Start). s.first)) (gets_old k e)
 
   first_cases : (k : K) (f : Node) → first_of eqk starts' k ≡ Some f → (IsTrue (eqk key k) × (f ≡ fresh)) ⊎ (first_of eqk starts k ≡ Some f)
   first_cases k f e = elim (cases_Bool (eqk key k)) [
@@ -81,7 +79,7 @@ module _ {C R : Type 0} {eq : C → C → Bool} {same : R → R → Bool} {K T S
 
   first_kept : (k : K) (f : Node) → first_of eqk starts k ≡ Some f → first_of eqk starts' k ≡ Some f
   first_kept k f e = elim (cases_Bool (eqk key k)) [
-    | inl t ↦ (let no : None ≡ Some f = ap (option_map (λ (s : Start K). s.first)) (sym a.none ∙ lookup_congr eqk keys.congr starts.entries key k t) ∙ e in cc)
+    | inl t ↦ (let no : None ≡ Some f = ap (option_map (λ (s : Start). s.first)) (sym a.none ∙ lookup_congr eqk keys.congr starts.entries key k t) ∙ e in cc)
     | inr n ↦ first_old k n ∙ e
   ]
 
@@ -100,12 +98,6 @@ module _ {C R : Type 0} {eq : C → C → Bool} {same : R → R → Bool} {K T S
   start' k f e = elim (first_cases k f e) [
     | inl h ↦ subst (λ z. IsAt inner' leaves' z None 0) (sym h.1) a.here
     | inr o ↦ kept_at f None 0 (forest.start k f o)
-  ]
-
-  shared' : (k : K) (start : Start K) → get eqk starts' k ≡ Some start → IsTrue (eqk (arc_value start.key) k)
-  shared' k start e = elim (cases_Bool (eqk key k)) [
-    | inl t ↦ (let two : Some start ≡ Some a.began = sym e ∙ gets_new k t in let one : start ≡ a.began = cc in ap (λ (s : Start K). eqk (arc_value s.key) k) one ∙ ap (λ z. eqk z k) a.shares ∙ t)
-    | inr n ↦ forest.shared k start (sym (gets_old k n) ∙ e)
   ]
 
   not_first : {P : Type 0} (k : K) (f : Node) → f ≡ fresh → first_of eqk starts k ≡ Some f → P
@@ -132,29 +124,29 @@ module _ {C R : Type 0} {eq : C → C → Bool} {same : R → R → Bool} {K T S
       ap (λ (z : LeafNode K T). path_of inner' x z) (sym one) ∙ ap (λ d. (origin inner' d (Leaf x) k.1.0.parent).1) k.1.3 ∙ ap (λ o. (origin inner' (length ps) (Leaf x) o).1) k.1.2 ∙ ap (λ (z : Node × List (C × R)). z.1) k.2
 
   -- what led to an old leaf leads to it still, and is its path
-  lead_kept : (x : ℕ) (leaf : LeafNode K T) → slab.get leaves x ≡ Some leaf → LeadsFrom inner' eqk starts' (arc_value leaf.key) (path_of inner x leaf) (Leaf x)
-  lead_kept x leaf e = let own = forest.led x leaf e in (own.0, first_kept (arc_value leaf.key) own.0 own.1, leads' own.0 (path_of inner x leaf) (Leaf x) own.2)
+  lead_kept : (x : ℕ) (leaf : LeafNode K T) → slab.get leaves x ≡ Some leaf → LeadsFrom inner' eqk starts' leaf.key.value (path_of inner x leaf) (Leaf x)
+  lead_kept x leaf e = let own = forest.led x leaf e in (own.0, first_kept leaf.key.value own.0 own.1, leads' own.0 (path_of inner x leaf) (Leaf x) own.2)
 
   pub path_kept : (x : ℕ) (leaf : LeafNode K T) → slab.get leaves x ≡ Some leaf → path_of inner' x leaf ≡ path_of inner x leaf
   path_kept x leaf e =
-      path' (arc_value leaf.key) (path_of inner x leaf) x leaf (lead_kept x leaf e) (a.other_leaves x (λ f. a.vacant leaf.parent leaf.depth (subst (λ z. IsAt inner leaves z leaf.parent leaf.depth) f (leaf, e, refl, refl))) ∙ e)
+      path' leaf.key.value (path_of inner x leaf) x leaf (lead_kept x leaf e) (a.other_leaves x (λ f. a.vacant leaf.parent leaf.depth (subst (λ z. IsAt inner leaves z leaf.parent leaf.depth) f (leaf, e, refl, refl))) ∙ e)
 
   -- what leads to the new node
   pub lead_new : LeadsFrom inner' eqk starts' key [] fresh
   lead_new = (fresh, first_new key (keys.refl key), refl)
 
-  leaf_new : (x : ℕ) (leaf : LeafNode K T) → Leaf x ≡ fresh → slab.get leaves' x ≡ Some leaf → LeadsFrom inner' eqk starts' (arc_value leaf.key) [] (Leaf x)
+  leaf_new : (x : ℕ) (leaf : LeafNode K T) → Leaf x ≡ fresh → slab.get leaves' x ≡ Some leaf → LeadsFrom inner' eqk starts' leaf.key.value [] (Leaf x)
   leaf_new x leaf f e = subst (λ k. LeadsFrom inner' eqk starts' k [] (Leaf x)) (sym (a.own x leaf f e)) (subst (λ z. LeadsFrom inner' eqk starts' key [] z) (sym f) lead_new)
 
   pub path_new : (x : ℕ) (leaf : LeafNode K T) → Leaf x ≡ fresh → slab.get leaves' x ≡ Some leaf → path_of inner' x leaf ≡ []
-  path_new x leaf f e = path' (arc_value leaf.key) [] x leaf (leaf_new x leaf f e) e
+  path_new x leaf f e = path' leaf.key.value [] x leaf (leaf_new x leaf f e) e
 
-  led' : (x : ℕ) (leaf : LeafNode K T) → slab.get leaves' x ≡ Some leaf → LeadsFrom inner' eqk starts' (arc_value leaf.key) (path_of inner' x leaf) (Leaf x) × HasDistinctCalls eq (path_of inner' x leaf)
+  led' : (x : ℕ) (leaf : LeafNode K T) → slab.get leaves' x ≡ Some leaf → LeadsFrom inner' eqk starts' leaf.key.value (path_of inner' x leaf) (Leaf x) × HasDistinctCalls eq (path_of inner' x leaf)
   led' x leaf e = elim (leaf_cases x leaf e) [
     | inl f ↦ (let same_path = path_new x leaf f e in
-        (subst (λ ps. LeadsFrom inner' eqk starts' (arc_value leaf.key) ps (Leaf x)) (sym same_path) (leaf_new x leaf f e), subst (λ ps. HasDistinctCalls eq ps) (sym same_path) tt))
+        (subst (λ ps. LeadsFrom inner' eqk starts' leaf.key.value ps (Leaf x)) (sym same_path) (leaf_new x leaf f e), subst (λ ps. HasDistinctCalls eq ps) (sym same_path) tt))
     | inr o ↦ (let same_path = path_kept x leaf o in
-        (subst (λ ps. LeadsFrom inner' eqk starts' (arc_value leaf.key) ps (Leaf x)) (sym same_path) (lead_kept x leaf o), subst (λ ps. HasDistinctCalls eq ps) (sym same_path) (forest.distinct x leaf o)))
+        (subst (λ ps. LeadsFrom inner' eqk starts' leaf.key.value ps (Leaf x)) (sym same_path) (lead_kept x leaf o), subst (λ ps. HasDistinctCalls eq ps) (sym same_path) (forest.distinct x leaf o)))
   ]
 
   answers' : (x : ℕ) (m : InnerNode C R) → slab.get inner' x ≡ Some m → IsDistinct same (keys_of m.children)
@@ -183,7 +175,6 @@ module _ {C R : Type 0} {eq : C → C → Bool} {same : R → R → Bool} {K T S
       answers = λ x m e. answers' x m e;
       child = λ x m s next e p. child' x m s next e p;
       start = λ k f e. start' k f e;
-      shared = λ k start e. shared' k start e;
       apart = λ k l f d e. apart' k l f d e;
       led = λ x leaf e. (led' x leaf e).0;
       below = λ x m e. below' x m e;

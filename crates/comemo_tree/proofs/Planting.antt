@@ -1,6 +1,5 @@
 -- The first path of a new key.
-use Rattle.std.proofs.Common.{◌≡◌, ◌∙◌, ℕ, Bool, false, cond, List, [], ◌∷◌, Option, Some, None, refl, sym, ap, subst, IsTrue}
-use Rattle.std.specs.Arc.{arc_value}
+use Rattle.std.proofs.Common.{◌≡◌, ◌∙◌, ℕ, Bool, false, cond, List, [], ◌∷◌, Option, Some, None, Result, Ok, Err, IfOk, IfNone, refl, sym, ap, subst}
 use Rattle.std.specs.Cmp.{IsEquivalence}
 use Rattle.std.specs.HashMap.{HashMap, get}
 use Rattle.std.specs.List.Sorted.{IsPermutation}
@@ -21,24 +20,26 @@ use Rattle.comemo_tree.proofs.Added.{entries-added}
 use Rattle.comemo_tree.proofs.Planted.{Planted, IsForest-planted, path_kept, path_new, lead_new}
 use Rattle.comemo_tree.proofs.Chain.{same_key}
 
--- what a map finds where a clone of the key was put
-pub gets_clone : {K X S : Type 0} {eqk : K → K → Bool} (keys : IsEquivalence eqk) (starts starts' : HashMap K X S) (key copy : K) (x : X) → IsTrue (eqk key copy) → ((k : K) → get eqk starts' k ≡ cond (eqk copy k) (Some x) (get eqk starts k)) → (k : K) → get eqk starts' k ≡ cond (eqk key k) (Some x) (get eqk starts k)
-gets_clone {eqk = eqk} keys starts starts' key copy x e gets k = gets k ∙ ap (λ b. cond b (Some x) (get eqk starts k)) (sym (keys.congr key copy k e))
+-- what holds where nothing was found
+pub IfOk-none : {A E : Type 0} {P Q : Type 0} (r : Result (Option A) E) → (P → Q) → IfOk r (λ found. IfNone found P) → IfOk r (λ found. IfNone found Q)
+IfOk-none (Ok None) h p = h p
+IfOk-none (Ok (Some x)) h p = tt
+IfOk-none (Err e) h p = tt
 
 -- a change is at the key that was vacant
 pub at_slot : {X : Type 0} {old new : slab.Slab X} {w : Option X} {id slot : ℕ} → id ≡ slot → slab.Updates old new slot w → slab.Updates old new id w
 at_slot {old = old} {new = new} {w = w} e u = subst (λ k. slab.Updates old new k w) (sym e) u
 
 -- what was added to one tree was added to another with the same entries
-pub Grown-moved : {K C R T S : Type 0} {eq : C → C → Bool} {same : R → R → Bool} {eqk : K → K → Bool} {inner inner' later : slab.Slab (InnerNode C R)} {leaves leaves' later' : slab.Slab (LeafNode K T)} {starts : HashMap K (Start K) S} {key key' : K} {path path' : List (C × R)} {value : T} → contents inner' leaves' ≡ contents inner leaves → key ≡ key' → path ≡ path' → Grown eq same eqk inner' leaves' later later' starts key path value → Grown eq same eqk inner leaves later later' starts key' path' value
+pub Grown-moved : {K C R T S : Type 0} {eq : C → C → Bool} {same : R → R → Bool} {eqk : K → K → Bool} {inner inner' later : slab.Slab (InnerNode C R)} {leaves leaves' later' : slab.Slab (LeafNode K T)} {starts : HashMap K Start S} {key key' : K} {path path' : List (C × R)} {value : T} → contents inner' leaves' ≡ contents inner leaves → key ≡ key' → path ≡ path' → Grown eq same eqk inner' leaves' later later' starts key path value → Grown eq same eqk inner leaves later later' starts key' path' value
 Grown-moved {inner = inner} {inner' = inner'} {later = later} {leaves = leaves} {leaves' = leaves'} {later' = later'} {key = key} {key' = key'} {path = path} {path' = path'} {value = value} e k p g = record {
   forest = g.forest;
   entries = subst (λ xs. IsPermutation xs (contents later later')) (ap (λ es. stored key path value ∷ es) e ∙ ap (λ x. stored x path value ∷ contents inner leaves) k ∙ ap (λ ps. stored key' ps value ∷ contents inner leaves) p) g.entries;
 }
 
-module _ {C R K T S : Type 0} {eq : C → C → Bool} {same : R → R → Bool} {eqk : K → K → Bool} (keys : IsEquivalence eqk) {inner : slab.Slab (InnerNode C R)} {leaves : slab.Slab (LeafNode K T)} {starts : HashMap K (Start K) S} (forest : IsForest eq same eqk None inner leaves starts) (starts' : HashMap K (Start K) S) (key : K) (began : Start K) (shares : arc_value began.key ≡ key) (none : get eqk starts key ≡ None) (gets : (k : K) → get eqk starts' k ≡ cond (eqk key k) (Some began) (get eqk starts k)) (id : ℕ) where
+module _ {C R K T S : Type 0} {eq : C → C → Bool} {same : R → R → Bool} {eqk : K → K → Bool} (keys : IsEquivalence eqk) {inner : slab.Slab (InnerNode C R)} {leaves : slab.Slab (LeafNode K T)} {starts : HashMap K Start S} (forest : IsForest eq same eqk None inner leaves starts) (starts' : HashMap K Start S) (key : K) (began : Start) (none : get eqk starts key ≡ None) (gets : (k : K) → get eqk starts' k ≡ cond (eqk key k) (Some began) (get eqk starts k)) (id : ℕ) where
   -- a path without calls is a leaf
-  module _ {leaves' : slab.Slab (LeafNode K T)} (leaf : LeafNode K T) (first : began.first ≡ Leaf id) (vacant : slab.get leaves id ≡ None) (updates : slab.Updates leaves leaves' id (Some leaf)) (own : arc_value leaf.key ≡ key) (parent : leaf.parent ≡ None) (depth : leaf.depth ≡ 0) where
+  module _ {leaves' : slab.Slab (LeafNode K T)} (leaf : LeafNode K T) (first : began.first ≡ Leaf id) (vacant : slab.get leaves id ≡ None) (updates : slab.Updates leaves leaves' id (Some leaf)) (own : leaf.key.value ≡ key) (parent : leaf.parent ≡ None) (depth : leaf.depth ≡ 0) where
     is_leaf : (x : ℕ) (m : LeafNode K T) → Leaf x ≡ Leaf id → slab.get leaves' x ≡ Some m → m ≡ leaf
     is_leaf x m e f =
         let k : x ≡ id = cc in
@@ -49,7 +50,6 @@ module _ {C R K T S : Type 0} {eq : C → C → Bool} {same : R → R → Bool} 
     Planted-leaf = record {
       began = began;
       first = first;
-      shares = shares;
       none = none;
       gets = gets;
       here = (leaf, updates.changed, parent, depth);
@@ -57,7 +57,7 @@ module _ {C R K T S : Type 0} {eq : C → C → Bool} {same : R → R → Bool} 
       other_inner = λ x e. refl;
       other_leaves = λ x e. updates.others x (λ f. e (ap Leaf f));
       childless = λ x m e f. let l : Inner x ≡ Leaf id = e in cc;
-      own = λ x m e f. ap (λ (z : LeafNode K T). arc_value z.key) (is_leaf x m e f) ∙ own;
+      own = λ x m e f. ap (λ (z : LeafNode K T). z.key.value) (is_leaf x m e f) ∙ own;
     }
 
     pub Grown-leaf : (value : T) → leaf.value ≡ value → Grown eq same eqk inner leaves inner leaves' starts' key [] value
@@ -84,7 +84,6 @@ module _ {C R K T S : Type 0} {eq : C → C → Bool} {same : R → R → Bool} 
     Planted-inner = record {
       began = began;
       first = first;
-      shares = shares;
       none = none;
       gets = gets;
       here = (node, updates.changed, parent, depth);
@@ -121,5 +120,5 @@ module _ {C R K T S : Type 0} {eq : C → C → Bool} {same : R → R → Bool} 
           lead,
           map_same (entry_of inner') (entry_of inner) (slab.entries leaves) (λ x c.
               let path = path_kept keys forest key (Inner id) Planted-inner x.0 x.1 ((Contains-entries leaves x.0 x.1).0 c) in
-              ap (λ ps. stored (arc_value x.1.key) ps x.1.value) path),
+              ap (λ ps. stored x.1.key.value ps x.1.value) path),
         )

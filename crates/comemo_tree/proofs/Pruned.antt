@@ -10,7 +10,6 @@ use Rattle.std.specs.List.{slice_get, IsDistinct}
 use Rattle.std.specs.Map.{keys_of, lookup}
 use Rattle.std.specs.HashMap as hash
 use Rattle.std.specs.HashMap.{HashMap}
-use Rattle.std.specs.Arc.{arc_value}
 use Rattle.slab.specs.Slab as slab
 use Rattle.slab.specs.Slab.{entries_from}
 use Rattle.slab.proofs.SlabLemmas.{Contains-cons, Contains-entries}
@@ -43,10 +42,10 @@ module _ {K C R T : Type 0} (inner : slab.Slab (InnerNode C R)) (keeps : T → B
       let rest = map (entry_of inner) (entries_from (key + 1) r.3) in
       (r.0, r.1.value, r.2.kept, rest, Leaves-retained (key + 1) slots r.3 r.5, ap (λ xs. map (entry_of inner) (entries_from key xs)) r.4 ∙ by r.0)
     where
-      same : entry_of inner (key, r.1) ≡ stored (arc_value leaf.key) (path_of inner key leaf) r.1.value
+      same : entry_of inner (key, r.1) ≡ stored leaf.key.value (path_of inner key leaf) r.1.value
       same = rw (r.2.key, r.2.parent, r.2.depth) refl
 
-      by : (b : Bool) → map (entry_of inner) (entries_from key (cond b (Some r.1) None ∷ r.3)) ≡ cond b (stored (arc_value leaf.key) (path_of inner key leaf) r.1.value ∷ map (entry_of inner) (entries_from (key + 1) r.3)) (map (entry_of inner) (entries_from (key + 1) r.3))
+      by : (b : Bool) → map (entry_of inner) (entries_from key (cond b (Some r.1) None ∷ r.3)) ≡ cond b (stored leaf.key.value (path_of inner key leaf) r.1.value ∷ map (entry_of inner) (entries_from (key + 1) r.3)) (map (entry_of inner) (entries_from (key + 1) r.3))
       by true = ap (λ e. e ∷ map (entry_of inner) (entries_from (key + 1) r.3)) same
       by false = refl
 
@@ -84,7 +83,7 @@ at_parent inner leaves (Leaf at) p q d e h k =
     (sym h.2 ∙ ap (λ (n : LeafNode _ _). n.parent) one ∙ k.2, sym h.3 ∙ ap (λ (n : LeafNode _ _). n.depth) one ∙ k.3)
 
 -- ---- a tree's nodes are children of their parents
-module _ {C R : Type 0} {eq : C → C → Bool} {same : R → R → Bool} {K T S : Type 0} {eqk : K → K → Bool} {inner : slab.Slab (InnerNode C R)} {before : slab.Slab (LeafNode K T)} {starts : HashMap K (Start K) S} (forest : IsForest eq same eqk None inner before starts) where
+module _ {C R : Type 0} {eq : C → C → Bool} {same : R → R → Bool} {K T S : Type 0} {eqk : K → K → Bool} {inner : slab.Slab (InnerNode C R)} {before : slab.Slab (LeafNode K T)} {starts : HashMap K Start S} (forest : IsForest eq same eqk None inner before starts) where
   -- some way leads to the node
   abbrev Reached : Node → Type 0
   Reached node = (key : K) × (ps : List (C × R)) × LeadsFrom inner eqk starts key ps node
@@ -116,14 +115,14 @@ module _ {C R : Type 0} {eq : C → C → Bool} {same : R → R → Bool} {K T S
       by (Leaf low) ps h end = elim (last_step inner (Inner at) (Leaf low) ps h) [
         | inl e ↦ cc
         | inr l ↦ (let child = (forest.child l.at l.node l.answer (Leaf low) l.is l.points).0 in
-            reached_back (Inner at) (Leaf low) ps h (arc_value child.0.key, path_of inner low child.0, forest.led low child.0 child.1))
+            reached_back (Inner at) (Leaf low) ps h (child.0.key.value, path_of inner low child.0, forest.led low child.0 child.1))
       ]
 
   -- what is below a node is so where leaves go
   pub IsRooted-from_forest : (leaves : slab.Slab (LeafNode K T)) → AreOf before leaves → IsRooted inner leaves
   IsRooted-from_forest leaves of = record {
     leaf_child = λ low leaf at is parent. (let w = of.was low leaf is in
-        (parent_reached (Leaf low) at w.0.depth (arc_value w.0.key, path_of inner low w.0, forest.led low w.0 w.1) (w.0, w.1, sym w.3 ∙ parent, refl)).1);
+        (parent_reached (Leaf low) at w.0.depth (w.0.key.value, path_of inner low w.0, forest.led low w.0 w.1) (w.0, w.1, sym w.3 ∙ parent, refl)).1);
     inner_child = λ below node at is parent. (parent_reached (Inner below) at node.depth (inner_reached below node is) (node, is, parent, refl)).1;
     deeper = λ below node at above is parent e. (let h = (parent_reached (Inner below) at node.depth (inner_reached below node is) (node, is, parent, refl)).1 in
         let two : Some h.0 ≡ Some above = sym h.2 ∙ e in
@@ -169,59 +168,59 @@ module _ {K C R T : Type 0} (inner : slab.Slab (InnerNode C R)) (leaves : slab.S
   ]
 
 -- ---- the starts
-module _ {K C R T S : Type 0} {eqk : K → K → Bool} (keys : IsEquivalence eqk) (inner : slab.Slab (InnerNode C R)) (leaves : slab.Slab (LeafNode K T)) (starts starts' : HashMap K (Start K) S) (unique : hash.IsUnique eqk starts) (entries : starts'.entries ≡ filter (λ e. has_node inner leaves e.1.first) starts.entries) where
-  get_kept : (key : K) → hash.get eqk starts' key ≡ option_filter (λ (s : Start K). has_node inner leaves s.first) (hash.get eqk starts key)
-  get_kept key = ap (λ es. lookup (eqk key) es) entries ∙ lookup-filter-values keys (λ (s : Start K). has_node inner leaves s.first) key starts.entries unique
+module _ {K C R T S : Type 0} {eqk : K → K → Bool} (keys : IsEquivalence eqk) (inner : slab.Slab (InnerNode C R)) (leaves : slab.Slab (LeafNode K T)) (starts starts' : HashMap K Start S) (unique : hash.IsUnique eqk starts) (entries : starts'.entries ≡ filter (λ e. has_node inner leaves e.1.first) starts.entries) where
+  get_kept : (key : K) → hash.get eqk starts' key ≡ option_filter (λ (s : Start). has_node inner leaves s.first) (hash.get eqk starts key)
+  get_kept key = ap (λ es. lookup (eqk key) es) entries ∙ lookup-filter-values keys (λ (s : Start). has_node inner leaves s.first) key starts.entries unique
 
   -- a key that is left is as it was, and its first node is there
-  pub start_was : (key : K) (start : Start K) → hash.get eqk starts' key ≡ Some start → (hash.get eqk starts key ≡ Some start) × (has_node inner leaves start.first ≡ true)
+  pub start_was : (key : K) (start : Start) → hash.get eqk starts' key ≡ Some start → (hash.get eqk starts key ≡ Some start) × (has_node inner leaves start.first ≡ true)
   start_was key start e = by (hash.get eqk starts key) refl
     where
-      by : (o : Option (Start K)) → hash.get eqk starts key ≡ o → (hash.get eqk starts key ≡ Some start) × (has_node inner leaves start.first ≡ true)
-      by None f = let two : None ≡ Some start = sym (get_kept key ∙ ap (option_filter (λ (s : Start K). has_node inner leaves s.first)) f) ∙ e in cc
+      by : (o : Option Start) → hash.get eqk starts key ≡ o → (hash.get eqk starts key ≡ Some start) × (has_node inner leaves start.first ≡ true)
+      by None f = let two : None ≡ Some start = sym (get_kept key ∙ ap (option_filter (λ (s : Start). has_node inner leaves s.first)) f) ∙ e in cc
       by (Some s) f = elim (cases_Bool (has_node inner leaves s.first)) [
-        | inl b ↦ (let two : Some s ≡ Some start = sym (get_kept key ∙ ap (option_filter (λ (s : Start K). has_node inner leaves s.first)) f ∙ ap (λ x. cond x (Some s) None) b) ∙ e in
+        | inl b ↦ (let two : Some s ≡ Some start = sym (get_kept key ∙ ap (option_filter (λ (s : Start). has_node inner leaves s.first)) f ∙ ap (λ x. cond x (Some s) None) b) ∙ e in
             let one : s ≡ start = cc in
-            (f ∙ ap Some one, ap (λ (x : Start K). has_node inner leaves x.first) (sym one) ∙ b))
-        | inr b ↦ (let two : None ≡ Some start = sym (get_kept key ∙ ap (option_filter (λ (s : Start K). has_node inner leaves s.first)) f ∙ ap (λ x. cond x (Some s) None) b) ∙ e in cc)
+            (f ∙ ap Some one, ap (λ (x : Start). has_node inner leaves x.first) (sym one) ∙ b))
+        | inr b ↦ (let two : None ≡ Some start = sym (get_kept key ∙ ap (option_filter (λ (s : Start). has_node inner leaves s.first)) f ∙ ap (λ x. cond x (Some s) None) b) ∙ e in cc)
       ]
 
   pub first_was : (key : K) (first : Node) → first_of eqk starts' key ≡ Some first → (first_of eqk starts key ≡ Some first) × (has_node inner leaves first ≡ true)
   first_was key first e = by (hash.get eqk starts' key) refl
     where
-      by : (o : Option (Start K)) → hash.get eqk starts' key ≡ o → (first_of eqk starts key ≡ Some first) × (has_node inner leaves first ≡ true)
-      by None f = let two : None ≡ Some first = sym (ap (option_map (λ (s : Start K). s.first)) f) ∙ e in cc
+      by : (o : Option Start) → hash.get eqk starts' key ≡ o → (first_of eqk starts key ≡ Some first) × (has_node inner leaves first ≡ true)
+      by None f = let two : None ≡ Some first = sym (ap (option_map (λ (s : Start). s.first)) f) ∙ e in cc
       by (Some s) f =
-          let two : Some s.first ≡ Some first = sym (ap (option_map (λ (s : Start K). s.first)) f) ∙ e in
+          let two : Some s.first ≡ Some first = sym (ap (option_map (λ (s : Start). s.first)) f) ∙ e in
           let one : s.first ≡ first = cc in
           let w = start_was key s f in
-          (ap (option_map (λ (s : Start K). s.first)) w.0 ∙ two, ap (has_node inner leaves) (sym one) ∙ w.1)
+          (ap (option_map (λ (s : Start). s.first)) w.0 ∙ two, ap (has_node inner leaves) (sym one) ∙ w.1)
 
   -- a key whose first node is there is left
   pub first_kept : (key : K) (first : Node) → first_of eqk starts key ≡ Some first → has_node inner leaves first ≡ true → first_of eqk starts' key ≡ Some first
   first_kept key first e t = by (hash.get eqk starts key) refl
     where
-      by : (o : Option (Start K)) → hash.get eqk starts key ≡ o → first_of eqk starts' key ≡ Some first
-      by None f = let two : None ≡ Some first = sym (ap (option_map (λ (s : Start K). s.first)) f) ∙ e in cc
+      by : (o : Option Start) → hash.get eqk starts key ≡ o → first_of eqk starts' key ≡ Some first
+      by None f = let two : None ≡ Some first = sym (ap (option_map (λ (s : Start). s.first)) f) ∙ e in cc
       by (Some s) f =
-          let two : Some s.first ≡ Some first = sym (ap (option_map (λ (s : Start K). s.first)) f) ∙ e in
+          let two : Some s.first ≡ Some first = sym (ap (option_map (λ (s : Start). s.first)) f) ∙ e in
           let one : s.first ≡ first = cc in
           let b : has_node inner leaves s.first ≡ true = ap (has_node inner leaves) one ∙ t in
-          ap (option_map (λ (s : Start K). s.first)) (get_kept key ∙ ap (option_filter (λ (s : Start K). has_node inner leaves s.first)) f ∙ ap (λ x. cond x (Some s) None) b) ∙ two
+          ap (option_map (λ (s : Start). s.first)) (get_kept key ∙ ap (option_filter (λ (s : Start). has_node inner leaves s.first)) f ∙ ap (λ x. cond x (Some s) None) b) ∙ two
 
 -- ---- the paths of the leaves that stay
-module _ {C R : Type 0} {eq : C → C → Bool} {same : R → R → Bool} {K T S : Type 0} {eqk : K → K → Bool} {inner : slab.Slab (InnerNode C R)} {before : slab.Slab (LeafNode K T)} {starts : HashMap K (Start K) S} (forest : IsForest eq same eqk None inner before starts) (leaves : slab.Slab (LeafNode K T)) (of : AreOf before leaves) where
+module _ {C R : Type 0} {eq : C → C → Bool} {same : R → R → Bool} {K T S : Type 0} {eqk : K → K → Bool} {inner : slab.Slab (InnerNode C R)} {before : slab.Slab (LeafNode K T)} {starts : HashMap K Start S} (forest : IsForest eq same eqk None inner before starts) (leaves : slab.Slab (LeafNode K T)) (of : AreOf before leaves) where
   -- before anything is pruned they are as they were
-  pub led_was : (at : ℕ) (leaf : LeafNode K T) → slab.get leaves at ≡ Some leaf → LeadsFrom inner eqk starts (arc_value leaf.key) (path_of inner at leaf) (Leaf at) × HasDistinctCalls eq (path_of inner at leaf)
+  pub led_was : (at : ℕ) (leaf : LeafNode K T) → slab.get leaves at ≡ Some leaf → LeadsFrom inner eqk starts leaf.key.value (path_of inner at leaf) (Leaf at) × HasDistinctCalls eq (path_of inner at leaf)
   led_was at leaf is =
       let w = of.was at leaf is in
       let path : path_of inner at w.0 ≡ path_of inner at leaf = ap (λ n. (origin inner n (Leaf at) w.0.parent).1) (sym w.4) ∙ ap (λ o. (origin inner leaf.depth (Leaf at) o).1) (sym w.3) in (
-        subst (λ ps. LeadsFrom inner eqk starts (arc_value leaf.key) ps (Leaf at)) path (subst (λ k. LeadsFrom inner eqk starts k (path_of inner at w.0) (Leaf at)) (ap arc_value (sym w.2)) (forest.led at w.0 w.1)),
+        subst (λ ps. LeadsFrom inner eqk starts leaf.key.value ps (Leaf at)) path (subst (λ k. LeadsFrom inner eqk starts k.value (path_of inner at w.0) (Leaf at)) (sym w.2) (forest.led at w.0 w.1)),
         subst (λ ps. HasDistinctCalls eq ps) path (forest.distinct at w.0 w.1),
       )
 
 -- ---- the tree stands
-module _ {C R : Type 0} {eq : C → C → Bool} {same : R → R → Bool} {K T S : Type 0} {eqk : K → K → Bool} (keys : IsEquivalence eqk) {inner : slab.Slab (InnerNode C R)} {before : slab.Slab (LeafNode K T)} {starts : HashMap K (Start K) S} (forest : IsForest eq same eqk None inner before starts) (leaves : slab.Slab (LeafNode K T)) (of : AreOf before leaves) (inner' : slab.Slab (InnerNode C R)) (pruned : IsPruned inner inner' leaves) (starts' : HashMap K (Start K) S) (unique : hash.IsUnique eqk starts) (entries : starts'.entries ≡ filter (λ e. has_node inner' leaves e.1.first) starts.entries) where
+module _ {C R : Type 0} {eq : C → C → Bool} {same : R → R → Bool} {K T S : Type 0} {eqk : K → K → Bool} (keys : IsEquivalence eqk) {inner : slab.Slab (InnerNode C R)} {before : slab.Slab (LeafNode K T)} {starts : HashMap K Start S} (forest : IsForest eq same eqk None inner before starts) (leaves : slab.Slab (LeafNode K T)) (of : AreOf before leaves) (inner' : slab.Slab (InnerNode C R)) (pruned : IsPruned inner inner' leaves) (starts' : HashMap K Start S) (unique : hash.IsUnique eqk starts) (entries : starts'.entries ≡ filter (λ e. has_node inner' leaves e.1.first) starts.entries) where
   -- a node that is there is where it was
   at_kept : (node : Node) (parent : Option ℕ) (depth : ℕ) → IsAt inner before node parent depth → has_node inner' leaves node ≡ true → IsAt inner' leaves node parent depth
   at_kept (Inner at) parent depth h t =
@@ -286,7 +285,7 @@ module _ {C R : Type 0} {eq : C → C → Bool} {same : R → R → Bool} {K T S
 
   path_kept : (at : ℕ) (leaf : LeafNode K T) → slab.get leaves at ≡ Some leaf → path_of inner' at leaf ≡ path_of inner at leaf
   path_kept at leaf is =
-      path_led (arc_value leaf.key) (path_of inner at leaf) at leaf (leads_from_kept (arc_value leaf.key) (path_of inner at leaf) (Leaf at) (led_was forest leaves of at leaf is).0 (leaf_there at leaf is)) is
+      path_led leaf.key.value (path_of inner at leaf) at leaf (leads_from_kept leaf.key.value (path_of inner at leaf) (Leaf at) (led_was forest leaves of at leaf is).0 (leaf_there at leaf is)) is
 
   pub IsForest-pruned : IsForest eq same eqk None inner' leaves starts'
   IsForest-pruned = record {
@@ -294,9 +293,8 @@ module _ {C R : Type 0} {eq : C → C → Bool} {same : R → R → Bool} {K T S
         subst (λ xs. IsDistinct same (keys_of xs)) (sym (ap (λ (m : InnerNode C R). m.children) w.2)) (IsDistinct-keys_filter same (λ p. has_node inner' leaves p.1) w.0.children (forest.answers at w.0 w.1)));
     child = child';
     start = start';
-    shared = λ key start e. forest.shared key start (start_was keys inner' leaves starts starts' unique entries key start e).0;
     apart = λ k l first e f. forest.apart k l first (first_was keys inner' leaves starts starts' unique entries k first e).0 (first_was keys inner' leaves starts starts' unique entries l first f).0;
-    led = λ at leaf is. subst (λ ps. LeadsFrom inner' eqk starts' (arc_value leaf.key) ps (Leaf at)) (sym (path_kept at leaf is)) (leads_from_kept (arc_value leaf.key) (path_of inner at leaf) (Leaf at) (led_was forest leaves of at leaf is).0 (leaf_there at leaf is));
+    led = λ at leaf is. subst (λ ps. LeadsFrom inner' eqk starts' leaf.key.value ps (Leaf at)) (sym (path_kept at leaf is)) (leads_from_kept leaf.key.value (path_of inner at leaf) (Leaf at) (led_was forest leaves of at leaf is).0 (leaf_there at leaf is));
     below = λ at node is. (let a = pruned.grounded at node is in (Leaf a.low, a.pairs, (leads_kept (Inner at) a.pairs (Leaf a.low) a.leads (leaf_there a.low a.leaf a.there)).1, tt));
     distinct = λ at leaf is. subst (λ ps. HasDistinctCalls eq ps) (sym (path_kept at leaf is)) (led_was forest leaves of at leaf is).1;
     unmarked = λ at node is. (let w = pruned.was at node is in ap (λ (m : InnerNode C R). m.kept) w.2 ∙ forest.unmarked at w.0 w.1);
@@ -306,7 +304,7 @@ module _ {C R : Type 0} {eq : C → C → Bool} {same : R → R → Bool} {K T S
   contents-pruned = map_agree (entry_of inner') (entry_of inner) (slab.entries leaves) (λ e c. by e.0 e.1 ((Contains-entries leaves e.0 e.1).0 c))
     where
       by : (at : ℕ) (leaf : LeafNode K T) → slab.get leaves at ≡ Some leaf → entry_of inner' (at, leaf) ≡ entry_of inner (at, leaf)
-      by at leaf is = ap (λ ps. stored (arc_value leaf.key) ps leaf.value) (path_kept at leaf is)
+      by at leaf is = ap (λ ps. stored leaf.key.value ps leaf.value) (path_kept at leaf is)
 
   pub Retains-pruned : (keeps : T → Bool → T → Type 0) → RetainsLeaves keeps before.slots leaves.slots → Retains keeps (contents inner before) (contents inner' leaves)
   Retains-pruned keeps r = (

@@ -6,7 +6,6 @@ use Rattle.std.specs.Cmp.{IsEquivalence}
 use Rattle.std.specs.List.{All}
 use Rattle.std.specs.Map.{lookup}
 use Rattle.std.specs.HashMap.{HashMap}
-use Rattle.std.specs.Arc.{arc_value}
 use Rattle.slab.specs.Slab as slab
 use Rattle.comemo_base.specs.Lookup.{under}
 use Rattle.comemo_base.specs.Tree.{Stored, IsFront}
@@ -33,7 +32,7 @@ HasAnswers-push same (q ∷ ps) (a ∷ given) p answer h s = (h.0, HasAnswers-pu
 pub split_at : {X : Type 0} (xs : List X) (i : ℕ) (x : X) → i < length xs → x ≡ get_or xs i x → take i xs ++ x ∷ drop (i + 1) xs ≡ xs
 split_at xs i x l e = ap (λ y. take i xs ++ y ∷ drop (i + 1) xs) e ∙ ap (λ ys. take i xs ++ ys) (sym (drop_more xs i x l)) ∙ take-append-drop i xs
 
-module _ {K C R T S : Type 0} {eq : C → C → Bool} {same : R → R → Bool} {eqk : K → K → Bool} (calls : IsEquivalence eq) (answers : IsEquivalence same) (keys : IsEquivalence eqk) {inner : slab.Slab (InnerNode C R)} {leaves : slab.Slab (LeafNode K T)} {starts : HashMap K (Start K) S} (forest : IsForest eq same eqk None inner leaves starts) where
+module _ {K C R T S : Type 0} {eq : C → C → Bool} {same : R → R → Bool} {eqk : K → K → Bool} (calls : IsEquivalence eq) (answers : IsEquivalence same) (keys : IsEquivalence eqk) {inner : slab.Slab (InnerNode C R)} {leaves : slab.Slab (LeafNode K T)} {starts : HashMap K Start S} (forest : IsForest eq same eqk None inner leaves starts) where
   -- what has the answers that lead to a node goes on from there
   goes_on : (from : Node) (done qs : List (C × R)) (mid to : Node) (given left : List R) → Leads inner from done mid → Leads inner from qs to → HasAnswers same done given → HasAnswers same qs (given ++ left) → (rest : List (C × R)) × Leads inner mid rest to × HasAnswers same rest left
   goes_on from [] qs mid to [] left k h d a = (qs, subst (λ n. Leads inner n qs to) k h, a)
@@ -49,7 +48,7 @@ module _ {K C R T S : Type 0} {eq : C → C → Bool} {same : R → R → Bool} 
   none_from key done mid given left lead h never =
       All-under eqk (contents inner leaves) key (λ e. ¬ HasAnswers same e.path (given ++ left)) (all_entries inner leaves (λ e. IsTrue (eqk e.key key) → ¬ HasAnswers same e.path (given ++ left)) (λ i leaf f k a.
       let own = forest.led i leaf f in
-      let from : Some own.0 ≡ Some lead.0 = sym own.1 ∙ first_alike keys starts (arc_value leaf.key) key k ∙ lead.1 in
+      let from : Some own.0 ≡ Some lead.0 = sym own.1 ∙ first_alike keys starts leaf.key.value key k ∙ lead.1 in
       let one : own.0 ≡ lead.0 = cc in
       let r = goes_on lead.0 done (path_of inner i leaf) mid (Leaf i) given left lead.2 (subst (λ n. Leads inner n (path_of inner i leaf) (Leaf i)) one own.2) h a in
       never i r.0 r.1 r.2))

@@ -1,7 +1,6 @@
 -- Slabs with the same values, and maps that find the same, make the same tree.
 use Rattle.std.proofs.Common.{◌≡◌, ◌∙◌, ℕ, Bool, List, Option, refl, sym, ap, subst}
 use Rattle.std.specs.Prelude.{option_map}
-use Rattle.std.specs.Arc.{arc_value}
 use Rattle.std.specs.HashMap.{HashMap, get}
 use Rattle.slab.specs.Slab as slab
 use Rattle.comemo_tree.specs.Nodes.{IsForest, LeadsFrom, contents, first_of}
@@ -22,16 +21,15 @@ moved inner inner' leaves leaves' P nodes p =
 pub contents-same : {K C R T : Type 0} (inner inner' : slab.Slab (InnerNode C R)) (leaves leaves' : slab.Slab (LeafNode K T)) → SameNodes inner leaves inner' leaves' → contents inner' leaves' ≡ contents inner leaves
 contents-same inner inner' leaves leaves' nodes = moved inner inner' leaves leaves' (λ a b. contents a b ≡ contents inner leaves) nodes refl
 
-pub LeadsFrom-same : {K C R S : Type 0} (inner inner' : slab.Slab (InnerNode C R)) → inner'.slots ≡ inner.slots → (eqk : K → K → Bool) (starts : HashMap K (Start K) S) (key : K) (ps : List (C × R)) (to : Node) → LeadsFrom inner eqk starts key ps to → LeadsFrom inner' eqk starts key ps to
+pub LeadsFrom-same : {K C R S : Type 0} (inner inner' : slab.Slab (InnerNode C R)) → inner'.slots ≡ inner.slots → (eqk : K → K → Bool) (starts : HashMap K Start S) (key : K) (ps : List (C × R)) (to : Node) → LeadsFrom inner eqk starts key ps to → LeadsFrom inner' eqk starts key ps to
 LeadsFrom-same inner inner' e eqk starts key ps to lead = subst (λ xs. LeadsFrom (with_slots inner' xs) eqk starts key ps to) (sym e) lead
 
-module _ {K C R T S : Type 0} {eq : C → C → Bool} {same : R → R → Bool} {eqk : K → K → Bool} (inner inner' : slab.Slab (InnerNode C R)) (leaves leaves' : slab.Slab (LeafNode K T)) {starts : HashMap K (Start K) S} where
+module _ {K C R T S : Type 0} {eq : C → C → Bool} {same : R → R → Bool} {eqk : K → K → Bool} (inner inner' : slab.Slab (InnerNode C R)) (leaves leaves' : slab.Slab (LeafNode K T)) {starts : HashMap K Start S} where
   IsForest-packed : {tip : Option ℕ} → IsForest eq same eqk tip inner leaves starts → IsForest eq same eqk tip (with_slots inner' inner.slots) (with_slots leaves' leaves.slots) starts
   IsForest-packed forest = record {
     answers = forest.answers;
     child = forest.child;
     start = forest.start;
-    shared = forest.shared;
     apart = forest.apart;
     led = forest.led;
     below = forest.below;
@@ -61,16 +59,15 @@ module _ {K C R T S : Type 0} {eq : C → C → Bool} {same : R → R → Bool} 
     Grown-same g = record { forest = g.forest; entries = rw (contents-same inner inner' leaves leaves' nodes) at g.entries }
 
 -- maps that find the same
-pub IsForest-starts : {K C R T S : Type 0} {eq : C → C → Bool} {same : R → R → Bool} {eqk : K → K → Bool} {tip : Option ℕ} {inner : slab.Slab (InnerNode C R)} {leaves : slab.Slab (LeafNode K T)} {starts starts' : HashMap K (Start K) S} → ((k : K) → get eqk starts' k ≡ get eqk starts k) → IsForest eq same eqk tip inner leaves starts → IsForest eq same eqk tip inner leaves starts'
+pub IsForest-starts : {K C R T S : Type 0} {eq : C → C → Bool} {same : R → R → Bool} {eqk : K → K → Bool} {tip : Option ℕ} {inner : slab.Slab (InnerNode C R)} {leaves : slab.Slab (LeafNode K T)} {starts starts' : HashMap K Start S} → ((k : K) → get eqk starts' k ≡ get eqk starts k) → IsForest eq same eqk tip inner leaves starts → IsForest eq same eqk tip inner leaves starts'
 IsForest-starts {K} {eqk = eqk} {starts = starts} {starts' = starts'} gets forest =
-    let firsts : (k : K) → first_of eqk starts' k ≡ first_of eqk starts k = λ k. ap (option_map (λ (s : Start K). s.first)) (gets k) in
+    let firsts : (k : K) → first_of eqk starts' k ≡ first_of eqk starts k = λ k. ap (option_map (λ (s : Start). s.first)) (gets k) in
     record {
       answers = forest.answers;
       child = forest.child;
       start = λ k f e. forest.start k f (sym (firsts k) ∙ e);
-      shared = λ k start e. forest.shared k start (sym (gets k) ∙ e);
       apart = λ k l f d e. forest.apart k l f (sym (firsts k) ∙ d) (sym (firsts l) ∙ e);
-      led = λ x leaf e. let own = forest.led x leaf e in (own.0, firsts (arc_value leaf.key) ∙ own.1, own.2);
+      led = λ x leaf e. let own = forest.led x leaf e in (own.0, firsts leaf.key.value ∙ own.1, own.2);
       below = forest.below;
       distinct = forest.distinct;
       unmarked = forest.unmarked;

@@ -14,7 +14,6 @@ use Rattle.std.specs.List.{All, AllPairs, Any, IsDistinct, slice_get}
 use Rattle.std.proofs.lemmas.List.Elements.{All-from_recursion}
 use Rattle.std.specs.Map.{keys_of}
 use Rattle.std.specs.HashMap.{HashMap, get, IsUnique}
-use Rattle.std.specs.Arc.{arc_value}
 use Rattle.slab.specs.Slab as slab
 use Rattle.comemo_base.specs.Tree.{Stored, IsFront, IsSamePath}
 use Rattle.comemo_base.proofs.Paths.{turned, joined}
@@ -65,7 +64,7 @@ apart_keys_of eqk (k ∷ ks) h =
 any_at : {X : Type 0} (P : X → Type 0) (xs : List X) (i : ℕ) (x : X) → slice_get xs i ≡ Some x → P x → Any P xs
 any_at P xs i x e p = (i, x, slice_get_within xs i x e, get_or_from_slice_get xs i x x e, p)
 
-module _ {K C R T S : Type 0} {eq : C → C → Bool} {same : R → R → Bool} {eqk : K → K → Bool} (calls : IsEquivalence eq) (answers : IsEquivalence same) (keys : IsEquivalence eqk) {inner : slab.Slab (InnerNode C R)} {leaves : slab.Slab (LeafNode K T)} {starts : HashMap K (Start K) S} (forest : IsForest eq same eqk None inner leaves starts) (unique : IsUnique eqk starts) where
+module _ {K C R T S : Type 0} {eq : C → C → Bool} {same : R → R → Bool} {eqk : K → K → Bool} (calls : IsEquivalence eq) (answers : IsEquivalence same) (keys : IsEquivalence eqk) {inner : slab.Slab (InnerNode C R)} {leaves : slab.Slab (LeafNode K T)} {starts : HashMap K Start S} (forest : IsForest eq same eqk None inner leaves starts) (unique : IsUnique eqk starts) where
   -- each key with a first node is stored
   stored_first : (key : K) (first : Node) → first_of eqk starts key ≡ Some first → IsStoredKey eq same eqk (contents inner leaves) key
   stored_first key (Inner at) e =
@@ -81,22 +80,22 @@ module _ {K C R T S : Type 0} {eq : C → C → Bool} {same : R → R → Bool} 
   started key h =
       let l = leaf_of_any inner leaves (λ x. IsTrue (eqk x.key key)) h in
       let own = forest.led l.0 l.1 l.2 in
-      let key' = arc_value l.1.key in
+      let key' = l.1.key.value in
       by_lookup key' (turned keys key' key l.3) (get eqk starts key') refl own.0 own.1
     where
-      by_lookup : (other : K) → IsTrue (eqk key other) → (found : Option (Start K)) → get eqk starts other ≡ found → (first : Node) → first_of eqk starts other ≡ Some first → Any (λ k. IsTrue (eqk key k)) (keys_of starts.entries)
-      by_lookup other s None e first f = let l : None ≡ Some first = sym (ap (option_map (λ (x : Start K). x.first)) e) ∙ f in cc
+      by_lookup : (other : K) → IsTrue (eqk key other) → (found : Option Start) → get eqk starts other ≡ found → (first : Node) → first_of eqk starts other ≡ Some first → Any (λ k. IsTrue (eqk key k)) (keys_of starts.entries)
+      by_lookup other s None e first f = let l : None ≡ Some first = sym (ap (option_map (λ (x : Start). x.first)) e) ∙ f in cc
       by_lookup other s (Some start) e first f =
           let p = place_from_lookup (eqk other) starts.entries start e in
-          Any-map (λ (x : K × Start K). x.0) (λ k. IsTrue (eqk key k)) starts.entries (any_at (λ (x : K × Start K). IsTrue (eqk key x.0)) starts.entries p.0 (p.1, start) p.2 (joined keys key other p.1 s p.3))
+          Any-map (λ (x : K × Start). x.0) (λ k. IsTrue (eqk key k)) starts.entries (any_at (λ (x : K × Start). IsTrue (eqk key x.0)) starts.entries p.0 (p.1, start) p.2 (joined keys key other p.1 s p.3))
 
   pub count_starts : Counts (IsStoredKey eq same eqk (contents inner leaves)) (λ k l. IsTrue (eqk k l)) (length starts.entries)
   count_starts = record {
     things = keys_of starts.entries;
     apart = apart_keys_of eqk (keys_of starts.entries) unique;
-    only = All-map (IsStoredKey eq same eqk (contents inner leaves)) (λ (x : K × Start K). x.0) starts.entries (λ i d l.
+    only = All-map (IsStoredKey eq same eqk (contents inner leaves)) (λ (x : K × Start). x.0) starts.entries (λ i d l.
         let x = get_or starts.entries i d in
-        stored_first x.0 x.1.first (ap (option_map (λ (s : Start K). s.first)) (lookup_from_place keys starts.entries i x.0 x.1 unique (slice_get-get_or starts.entries i d l))));
+        stored_first x.0 x.1.first (ap (option_map (λ (s : Start). s.first)) (lookup_from_place keys starts.entries i x.0 x.1 unique (slice_get-get_or starts.entries i d l))));
     each = started;
     many = length-keys_of starts.entries;
   }

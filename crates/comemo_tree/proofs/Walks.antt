@@ -37,7 +37,7 @@ found_in : {R : Type 0} (b : Bool) (o : Option R) (answer : R) → Some answer �
 found_in true o answer e = cc
 found_in false o answer e = sym e
 
-module _ {C R : Type 0} {eq : C → C → Bool} {same : R → R → Bool} (calls : IsEquivalence eq) (answers : IsEquivalence same) {K T S : Type 0} {eqk : K → K → Bool} (keys : IsEquivalence eqk) {inner : slab.Slab (InnerNode C R)} {leaves : slab.Slab (LeafNode K T)} {starts : HashMap K (Start K) S} (forest : IsForest eq same eqk None inner leaves starts) (key : K) (s asked done : List (C × R)) (same_front : IsSamePath eq same asked done) (among : AllAmong eq same s asked) where
+module _ {C R : Type 0} {eq : C → C → Bool} {same : R → R → Bool} (calls : IsEquivalence eq) (answers : IsEquivalence same) {K T S : Type 0} {eqk : K → K → Bool} (keys : IsEquivalence eqk) {inner : slab.Slab (InnerNode C R)} {leaves : slab.Slab (LeafNode K T)} {starts : HashMap K Start S} (forest : IsForest eq same eqk None inner leaves starts) (key : K) (s asked done : List (C × R)) (same_front : IsSamePath eq same asked done) (among : AllAmong eq same s asked) where
   -- a path of which all pairs are among the sequence's
   pub Exists-at_leaf : (at : ℕ) → LeadsFrom inner eqk starts key done (Leaf at) → Exists eq same (under eqk (contents inner leaves) key) s
   Exists-at_leaf at lead =

@@ -46,7 +46,7 @@ module _ {K T : Type 0} (keeps : T → Bool → T → Type 0) where
       by false rest h f at = let g : number r.3 ≡ suc (number slots) = f in absurd (omega (g, h, arith))
 
 -- ---- the tree stands
-module _ {C R : Type 0} {eq : C → C → Bool} {same : R → R → Bool} {K T S : Type 0} {eqk : K → K → Bool} {inner : slab.Slab (InnerNode C R)} {before : slab.Slab (LeafNode K T)} {starts : HashMap K (Start K) S} (forest : IsForest eq same eqk None inner before starts) (leaves : slab.Slab (LeafNode K T)) (keeps : T → Bool → T → Type 0) (retained : RetainsLeaves keeps before.slots leaves.slots) (as_many : slab_len leaves ≡ slab_len before) where
+module _ {C R : Type 0} {eq : C → C → Bool} {same : R → R → Bool} {K T S : Type 0} {eqk : K → K → Bool} {inner : slab.Slab (InnerNode C R)} {before : slab.Slab (LeafNode K T)} {starts : HashMap K Start S} (forest : IsForest eq same eqk None inner before starts) (leaves : slab.Slab (LeafNode K T)) (keeps : T → Bool → T → Type 0) (retained : RetainsLeaves keeps before.slots leaves.slots) (as_many : slab_len leaves ≡ slab_len before) where
   -- a node is where it was
   at_still : (node : Node) (parent : Option ℕ) (depth : ℕ) → IsAt inner before node parent depth → IsAt inner leaves node parent depth
   at_still (Inner at) parent depth h = h
@@ -64,7 +64,6 @@ module _ {C R : Type 0} {eq : C → C → Bool} {same : R → R → Bool} {K T S
         answers = forest.answers;
         child = λ at node answer next is points. (let c = forest.child at node answer next is points in (at_still next (Some at) (suc node.depth) c.0, c.1));
         start = λ key first e. at_still first None 0 (forest.start key first e);
-        shared = forest.shared;
         apart = forest.apart;
         led = λ at leaf is. (led_was forest leaves of at leaf is).0;
         below = forest.below;

@@ -1,6 +1,5 @@
 -- How the nodes of a tree lie to each other, and the entries that they hold. No public clause speaks of this.
 use Rattle.std.specs.Prelude.{◌≡◌, ◌≢◌, ℕ, zero, suc, Bool, false, cond, List, [], ◌∷◌, ◌++◌, map, Option, Some, None, IsTrue, option_map}
-use Rattle.std.specs.Arc.{arc_value}
 use Rattle.std.specs.Option.{option_to_list}
 use Rattle.std.specs.List.{slice_get, insert, IsDistinct}
 use Rattle.std.specs.Map.{keys_of, lookup}
@@ -27,7 +26,7 @@ abbrev pub Points : {R : Type 0} → List (R × Node) → R → Node → Type 0
 Points children answer next = (i : ℕ) × (slice_get children i ≡ Some (answer, next))
 
 -- the first node of a key
-abbrev pub first_of : {K S : Type 0} → (K → K → Bool) → HashMap K (Start K) S → K → Option Node
+abbrev pub first_of : {K S : Type 0} → (K → K → Bool) → HashMap K Start S → K → Option Node
 first_of eqk starts key = option_map (λ start. start.first) (get eqk starts key)
 
 module _ {C R : Type 0} (inner : slab.Slab (InnerNode C R)) where
@@ -53,7 +52,7 @@ module _ {C R : Type 0} (inner : slab.Slab (InnerNode C R)) where
       (at : ℕ) × (node : InnerNode C R) × (next : Node) × (from ≡ Inner at) × (slab.get inner at ≡ Some node) × (node.call ≡ p.0) × Points node.children p.1 next × Leads next ps to
 
   -- the pairs lead from the first node of a key
-  abbrev pub LeadsFrom : {K S : Type 0} → (K → K → Bool) → HashMap K (Start K) S → K → List (C × R) → Node → Type 0
+  abbrev pub LeadsFrom : {K S : Type 0} → (K → K → Bool) → HashMap K Start S → K → List (C × R) → Node → Type 0
   LeadsFrom eqk starts key ps to = (first : Node) × (first_of eqk starts key ≡ Some first) × Leads first ps to
 
 -- the path of a leaf, and its entry
@@ -62,7 +61,7 @@ module _ {K C R T : Type 0} (inner : slab.Slab (InnerNode C R)) where
   path_of at leaf = (origin inner leaf.depth (Leaf at) leaf.parent).1
 
   abbrev pub entry_of : ℕ × LeafNode K T → Stored K C R T
-  entry_of e = record { key = arc_value e.1.key; path = path_of e.0 e.1; value = e.1.value }
+  entry_of e = record { key = e.1.key.value; path = path_of e.0 e.1; value = e.1.value }
 
   -- the entries of the leaves
   abbrev pub contents : slab.Slab (LeafNode K T) → List (Stored K C R T)
@@ -80,19 +79,17 @@ IsEnd tip (Leaf at) = Unit {0}
 
 -- Each child knows its parent; each leaf is where its path leads from the start of its key; below each inner node lies a
 -- leaf, or the tip: a node that has no child yet while a path is added.
-pub record IsForest {K C R T S : Type 0} (eq : C → C → Bool) (same : R → R → Bool) (eqk : K → K → Bool) (tip : Option ℕ) (inner : slab.Slab (InnerNode C R)) (leaves : slab.Slab (LeafNode K T)) (starts : HashMap K (Start K) S) : Type 0 where
+pub record IsForest {K C R T S : Type 0} (eq : C → C → Bool) (same : R → R → Bool) (eqk : K → K → Bool) (tip : Option ℕ) (inner : slab.Slab (InnerNode C R)) (leaves : slab.Slab (LeafNode K T)) (starts : HashMap K Start S) : Type 0 where
   -- no two answers of a node are equal
   pub answers : (at : ℕ) (node : InnerNode C R) → slab.get inner at ≡ Some node → IsDistinct same (keys_of node.children)
   -- a child is there, one below its parent, and the answer is the first that names it
   pub child : (at : ℕ) (node : InnerNode C R) (answer : R) (next : Node) → slab.get inner at ≡ Some node → Points node.children answer next → IsAt inner leaves next (Some at) (suc node.depth) × (answer_to next node.children ≡ Some answer)
   -- the first node of a key is there, below none
   pub start : (key : K) (first : Node) → first_of eqk starts key ≡ Some first → IsAt inner leaves first None 0
-  -- the copy of a key that its leaves can share is equal to it
-  pub shared : (key : K) (start : Start K) → get eqk starts key ≡ Some start → IsTrue (eqk (arc_value start.key) key)
   -- keys with the same first node are equal
   pub apart : (k l : K) (first : Node) → first_of eqk starts k ≡ Some first → first_of eqk starts l ≡ Some first → IsTrue (eqk k l)
   -- a leaf is where its path leads from the start of its key
-  pub led : (at : ℕ) (leaf : LeafNode K T) → slab.get leaves at ≡ Some leaf → LeadsFrom inner eqk starts (arc_value leaf.key) (path_of inner at leaf) (Leaf at)
+  pub led : (at : ℕ) (leaf : LeafNode K T) → slab.get leaves at ≡ Some leaf → LeadsFrom inner eqk starts leaf.key.value (path_of inner at leaf) (Leaf at)
   -- from each inner node some pairs lead to an end
   pub below : (at : ℕ) (node : InnerNode C R) → slab.get inner at ≡ Some node → (to : Node) × (rest : List (C × R)) × Leads inner (Inner at) rest to × IsEnd tip to
   -- the calls of a path are distinct
@@ -138,7 +135,7 @@ pub record AddsLeaf {K C R T : Type 0} (old new : slab.Slab (InnerNode C R)) (le
   pub grown : above'.children ≡ insert above.children place (answer, Leaf id)
   pub vacant : slab.get leaves id ≡ None
   pub updates : slab.Updates leaves leaves' id (Some fresh)
-  pub fresh_key : arc_value fresh.key ≡ key
+  pub fresh_key : fresh.key.value ≡ key
   pub fresh_value : fresh.value ≡ value
   pub fresh_parent : fresh.parent ≡ Some parent
   pub fresh_depth : fresh.depth ≡ suc above.depth
@@ -146,7 +143,7 @@ pub record AddsLeaf {K C R T : Type 0} (old new : slab.Slab (InnerNode C R)) (le
 
 -- the path of a sequence parts from the stored ones at the inner node `at`, which the answer leads nowhere from, and the
 -- rest of the pairs are left
-pub record Forks {K C R T S : Type 0} (eq : C → C → Bool) (same : R → R → Bool) (eqk : K → K → Bool) (inner : slab.Slab (InnerNode C R)) (leaves : slab.Slab (LeafNode K T)) (starts : HashMap K (Start K) S) (key : K) (s : List (C × R)) (at : ℕ) (answer : R) (left : List (C × R)) : Type 0 where
+pub record Forks {K C R T S : Type 0} (eq : C → C → Bool) (same : R → R → Bool) (eqk : K → K → Bool) (inner : slab.Slab (InnerNode C R)) (leaves : slab.Slab (LeafNode K T)) (starts : HashMap K Start S) (key : K) (s : List (C × R)) (at : ℕ) (answer : R) (left : List (C × R)) : Type 0 where
   pub node : InnerNode C R
   pub is : slab.get inner at ≡ Some node
   pub none : lookup (same answer) node.children ≡ None

@@ -18,7 +18,7 @@ use std::hash::Hash;
 pub(crate) fn leaf_by_answers<K: Eq + Hash, C: Eq + Hash, R: Ord, T>(
     inner: &Slab<InnerNode<C, R>>,
     leaves: &Slab<LeafNode<K, T>>,
-    starts: &HashMap<K, Start<K>>,
+    starts: &HashMap<K, Start>,
     key: &K,
     answers: &[R],
 ) -> Option<usize>

@@ -1,11 +1,10 @@
 //! How a path is added to the nodes of a tree.
-ghost use Rattle.std.specs.Prelude.{◌≡◌, ◌++◌, ◌∷◌, ◌+◌, ◌<◌, ◌^◌, [], length, IsTrue, None, Some, IfSome, IsOk, OnOk, OnErr, List};
-ghost use Rattle.std.specs.Arc.{arc_value};
+ghost use Rattle.std.specs.Prelude.{◌≡◌, ◌++◌, ◌∷◌, ◌+◌, ◌<◌, ◌^◌, [], length, None, Some, IfSome, IfNone, IsOk, IfOk, OnOk, OnErr, List};
 ghost use Rattle.std.specs.HashMap as map;
 ghost use Rattle.slab.specs.Slab.{get, HasRoomFor};
 ghost use Rattle.comemo_tree.specs.declared.children.Node.TheVariants.{Inner};
-ghost use Rattle.comemo_tree.specs.Nodes.{LeadsFrom, IsForest};
-ghost use Rattle.comemo_tree.specs.Growth.{CanGrow, Grown, SameNodes};
+ghost use Rattle.comemo_tree.specs.Nodes.{LeadsFrom, IsForest, first_of};
+ghost use Rattle.comemo_tree.specs.Growth.{CanGrow, Grown, SameNodes, Begins, PutsFirst};
 
 use crate::children::{Children, Node};
 use crate::tree::{InnerNode, LeafNode, Start, attach_inner, attach_leaf};
@@ -13,8 +12,9 @@ use comemo_base::CallSequence;
 use slab::Slab;
 use std::alloc::{AllocError, Global};
 use std::collections::HashMap;
+use std::collections::hash_map::Entry;
 use std::hash::Hash;
-use std::sync::Arc;
+use std::snapshot::Snapshot;
 
 /// How many pairs a sequence has left. It looks at each of the sequence's slots.
 fn left<C: Eq + Hash, R>(sequence: &CallSequence<C, R>) -> usize
@@ -38,24 +38,24 @@ fn grow<K: Eq + Hash + Drop, C: Eq + Hash + Drop, R: Ord + Drop, T: Drop>(
     alloc: Global,
     inner: &mut Slab<InnerNode<C, R>>,
     leaves: &mut Slab<LeafNode<K, T>>,
-    starts: &HashMap<K, Start<K>>,
+    starts: &HashMap<K, Start>,
     above: usize,
     answer: R,
-    key: Arc<K>,
+    key: Snapshot<K>,
     mut sequence: CallSequence<C, R>,
     value: T,
 ) -> Result<(), AllocError>
     requires grows { CanGrow C.eq R.eq K.eq inner.old leaves.old starts.now
-        (arc_value key) above answer sequence.pairs }
+        key.value above answer sequence.pairs }
     requires shallow { IfSome (get inner.old above) (λ n.
         n.depth + 1 + length sequence.pairs < 2 ^ 64) }
     requires inner_room { HasRoomFor inner.old (length sequence.pairs) }
     requires leaf_room { HasRoomFor leaves.old 1 }
     ensures grown { (node : _) (done : List (C × R))
         → get inner.old above ≡ Some node
-        → LeadsFrom inner.old K.eq starts.now (arc_value key) done (Inner above)
+        → LeadsFrom inner.old K.eq starts.now key.value done (Inner above)
         → OnOk result (Grown C.eq R.eq K.eq inner.old leaves.old inner.new leaves.new starts.now
-        (arc_value key) (done ++ (node.call, answer) ∷ sequence.pairs) value) }
+        key.value (done ++ (node.call, answer) ∷ sequence.pairs) value) }
     ensures first { IfSome (get inner.old above) (λ n. n.children ≡ [] → IsOk result) }
     ensures err { OnErr result ((inner.new ≡ inner.old) × (leaves.new ≡ leaves.old)) }
 {
@@ -76,20 +76,20 @@ pub(crate) fn insert_below<K: Eq + Hash + Drop, C: Eq + Hash + Drop, R: Ord + Dr
     alloc: Global,
     inner: &mut Slab<InnerNode<C, R>>,
     leaves: &mut Slab<LeafNode<K, T>>,
-    starts: &HashMap<K, Start<K>>,
+    starts: &HashMap<K, Start>,
     above: usize,
     answer: R,
-    key: Arc<K>,
+    key: Snapshot<K>,
     sequence: CallSequence<C, R>,
     value: T,
 ) -> Result<(), AllocError>
     requires { CanGrow C.eq R.eq K.eq inner.old leaves.old starts.now
-        (arc_value key) above answer sequence.pairs }
+        key.value above answer sequence.pairs }
     ensures grown { (node : _) (done : List (C × R))
         → get inner.old above ≡ Some node
-        → LeadsFrom inner.old K.eq starts.now (arc_value key) done (Inner above)
+        → LeadsFrom inner.old K.eq starts.now key.value done (Inner above)
         → OnOk result (Grown C.eq R.eq K.eq inner.old leaves.old inner.new leaves.new starts.now
-        (arc_value key) (done ++ (node.call, answer) ∷ sequence.pairs) value) }
+        key.value (done ++ (node.call, answer) ∷ sequence.pairs) value) }
     ensures err { OnErr result (SameNodes inner.old leaves.old inner.new leaves.new) }
 {
     let count = left(&sequence);
@@ -103,50 +103,118 @@ pub(crate) fn insert_below<K: Eq + Hash + Drop, C: Eq + Hash + Drop, R: Ord + Dr
     )
 }
 
-/// Makes room for the first path of a key, the pairs of a sequence, and adds it with its leaf.
+/// The first node of a key; where it has none, the key begins with this node from now on.
 ///
-/// It clones the key for the map. All memory is taken before the first change: where there is none it answers
-/// `AllocError`, and no value changes.
-pub(crate) fn insert_first<K: Eq + Hash, C: Eq + Hash + Drop, R: Ord + Drop, T: Drop>(
+/// The key is hashed once. Where there is no memory it answers `AllocError`, and nothing changes.
+fn first_or_put<K: Eq + Hash>(
+    starts: &mut HashMap<K, Start>,
+    key: K,
+    start: Start,
+) -> Result<Option<Node>, AllocError>
+where
+    K: Drop,
+    ensures found { IfOk result (λ found. found ≡ first_of K.eq starts.old key) }
+    ensures stays { IfOk result (λ found. IfSome found
+        (λ _. starts.new.entries ≡ starts.old.entries)) }
+    ensures put { IfOk result (λ found. IfNone found
+        ((map.get K.eq starts.old key ≡ None)
+        × map.Updates K.eq starts.old starts.new key (Some start))) }
+    ensures err { OnErr result (starts.new.entries ≡ starts.old.entries) }
+{
+    match starts.entry(key) {
+        Ok(Entry::Occupied(there)) => Ok(Some(there.get().first)),
+        Ok(Entry::Vacant(place)) => {
+            let _ = place.insert(start);
+            Ok(None)
+        }
+        Err(_) => Err(AllocError),
+    }
+}
+
+/// The node that the first path of a key begins with: the next inner one, or the next leaf where it has no pairs.
+fn next_first<K, C: Eq + Hash, R: Ord, T>(
+    inner: &Slab<InnerNode<C, R>>,
+    leaves: &Slab<LeafNode<K, T>>,
+    count: usize,
+) -> Node
+    ensures { Begins inner.now leaves.now count result }
+{
+    if count == 0 {
+        Node::Leaf(leaves.vacant_key())
+    } else {
+        Node::Inner(inner.vacant_key())
+    }
+}
+
+/// Makes room for a path of a key, the pairs of a sequence, and says with which node the key begins; where it has none, it
+/// begins from now on with the node that is to come next.
+///
+/// All memory is taken before the key is put: where there is none it answers `AllocError`, and no value changes.
+pub(crate) fn begin_key<K: Eq + Hash, C: Eq + Hash + Drop, R: Ord + Drop, T: Drop>(
+    inner: &mut Slab<InnerNode<C, R>>,
+    leaves: &mut Slab<LeafNode<K, T>>,
+    starts: &mut HashMap<K, Start>,
+    key: K,
+    sequence: &CallSequence<C, R>,
+) -> Result<Option<Node>, AllocError>
+where
+    K: Drop,
+    ensures nodes { SameNodes inner.old leaves.old inner.new leaves.new }
+    ensures inner_room { OnOk result (HasRoomFor inner.new (length sequence.now.pairs)) }
+    ensures leaf_room { OnOk result (HasRoomFor leaves.new 1) }
+    ensures few { OnOk result (length sequence.now.pairs < 2 ^ 64) }
+    ensures found { IfOk result (λ found. found ≡ first_of K.eq starts.old key) }
+    ensures stays { IfOk result (λ found. IfSome found
+        (λ _. starts.new.entries ≡ starts.old.entries)) }
+    ensures put { IfOk result (λ found. IfNone found
+        ((map.get K.eq starts.old key ≡ None)
+        × PutsFirst K.eq inner.new leaves.new starts.old starts.new key
+        (length sequence.now.pairs))) }
+    ensures err { OnErr result (starts.new.entries ≡ starts.old.entries) }
+{
+    let pairs = left(sequence);
+    inner.reserve(pairs)?;
+    leaves.reserve(1)?;
+    let first = next_first(inner, leaves, pairs);
+    first_or_put(starts, key, Start { first })
+}
+
+/// Adds the first path of a key, the pairs of a sequence, with its leaf. There is room for its nodes, and the key begins with
+/// the first of them. Only the contract speaks of `starts` and of what it was `before`.
+pub(crate) fn plant<K: Eq + Hash, C: Eq + Hash + Drop, R: Ord + Drop, T: Drop>(
     alloc: Global,
     inner: &mut Slab<InnerNode<C, R>>,
     leaves: &mut Slab<LeafNode<K, T>>,
-    starts: &mut HashMap<K, Start<K>>,
-    key: K,
+    starts: &HashMap<K, Start>,
+    before: Snapshot<HashMap<K, Start>>,
+    key: Snapshot<K>,
     mut sequence: CallSequence<C, R>,
     value: T,
-) -> Result<(), AllocError>
+)
 where
-    K: Clone + Drop,
-    requires forest { IsForest C.eq R.eq K.eq None inner.old leaves.old starts.old }
-    requires clones_equal { (x y : K) → K.is_clone x y → IsTrue (K.eq x y) }
-    requires new { map.get K.eq starts.old key ≡ None }
-    ensures grown { OnOk result (Grown C.eq R.eq K.eq inner.old leaves.old
-        inner.new leaves.new starts.new key sequence.pairs value) }
-    ensures err { OnErr result (SameNodes inner.old leaves.old inner.new leaves.new
-        × (starts.new.entries ≡ starts.old.entries)) }
+    K: Drop,
+    requires forest { IsForest C.eq R.eq K.eq None inner.old leaves.old before.value }
+    requires new { map.get K.eq before.value key.value ≡ None }
+    requires put { PutsFirst K.eq inner.old leaves.old before.value starts.now key.value
+        (length sequence.pairs) }
+    requires inner_room { HasRoomFor inner.old (length sequence.pairs) }
+    requires leaf_room { HasRoomFor leaves.old 1 }
+    requires few { length sequence.pairs < 2 ^ 64 }
+    ensures { Grown C.eq R.eq K.eq inner.old leaves.old inner.new leaves.new starts.now
+        key.value sequence.pairs value }
 {
+    let _ = before;
     sequence.has_distinct_calls();
-    inner.reserve(left(&sequence))?;
-    leaves.reserve(1)?;
-    let copy = key.clone()?;
-    let shared = Arc::new(alloc, key)?;
-    let own = shared.clone()?;
     let Some((call, answer)) = sequence.next() else {
-        let first = Node::Leaf(leaves.vacant_key());
-        starts.insert(copy, Start { first, key: shared })?;
         leaves.insert_reserved(LeafNode {
-            key: own,
+            key,
             value,
             parent: None,
             depth: 0,
         });
-        return Ok(());
+        return;
     };
-    let id = inner.vacant_key();
-    let first = Node::Inner(id);
-    starts.insert(copy, Start { first, key: shared })?;
-    inner.insert_reserved(InnerNode {
+    let id = inner.insert_reserved(InnerNode {
         call,
         children: Children::new(alloc),
         parent: None,
@@ -154,9 +222,8 @@ where
         kept: false,
     });
     let Ok(()) = grow(
-        alloc, inner, leaves, starts, id, answer, own, sequence, value,
+        alloc, inner, leaves, starts, id, answer, key, sequence, value,
     ) else {
         unreachable!()
     };
-    Ok(())
 }

@@ -48,20 +48,17 @@ pub(crate) fn prune<K, C: Drop, R: Ord + Drop, T>(
 }
 
 /// Drops the keys whose first node is not there.
-///
-/// What the leaves share has a type of its own here, which is the keys': where the values' type names the keys', a call of
-/// `HashMap::retain` gets no proof.
-pub(crate) fn retain_starts<K: Eq + Hash + Drop, S: Drop, C, R: Ord, T>(
-    starts: &mut HashMap<K, Start<S>>,
+pub(crate) fn retain_starts<K: Eq + Hash + Drop, C, R: Ord, T>(
+    starts: &mut HashMap<K, Start>,
     inner: &Slab<InnerNode<C, R>>,
-    leaves: &Slab<LeafNode<S, T>>,
+    leaves: &Slab<LeafNode<K, T>>,
 )
     ensures entries { starts.new.entries
         ≡ filter (λ e. has_node inner.now leaves.now e.1.first) starts.old.entries }
     ensures unique { map.IsUnique K.eq starts.old }
 {
     starts.retain(
-        |_key: &K, start: &mut Start<S>| -> bool
+        |_key: &K, start: &mut Start| -> bool
             ensures stays { result ≡ has_node inner.entry.now leaves.entry.now start.old.first }
             ensures same { start.new ≡ start.old }
         { is_there(inner, leaves, start.first) },

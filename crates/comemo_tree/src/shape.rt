@@ -14,7 +14,7 @@ use std::hash::Hash;
 pub(crate) fn shape_of<K: Eq + Hash, C: Eq + Hash, R: Ord, T>(
     inner: &Slab<InnerNode<C, R>>,
     leaves: &Slab<LeafNode<K, T>>,
-    starts: &HashMap<K, Start<K>>,
+    starts: &HashMap<K, Start>,
 ) -> (usize, usize, usize, usize)
     requires { IsForest C.eq R.eq K.eq None inner.now leaves.now starts.now }
     ensures { IsShape C.eq R.eq K.eq (contents inner.now leaves.now) result }

@@ -8,7 +8,6 @@ ghost use Rattle.std.specs.List.{All, AllZip};
 ghost use Rattle.std.specs.Map.{lookup};
 ghost use Rattle.std.specs.HashMap as map;
 ghost use Rattle.std.specs.Fn.{AlwaysReturns};
-ghost use Rattle.std.specs.Arc.{arc_value};
 ghost use Rattle.slab.specs.Slab.{get, slab_len, HasRoomFor, ContainsKey};
 ghost use Rattle.comemo_base.specs.Answers.{Respects};
 ghost use Rattle.comemo_base.specs.Tree.{IsTree};
@@ -21,16 +20,18 @@ ghost use Rattle.comemo_tree.specs.Shape.{IsShape};
 
 use crate::change::leaf_by_answers;
 use crate::children::{Children, Node};
-use crate::insertion::{insert_below, insert_first};
+use crate::insertion::{begin_key, insert_below, plant};
 use crate::retention::{prune, retain_leaves, retain_starts};
 use crate::shape::shape_of;
 use comemo_base::{CallSequence, InsertError};
 use slab::Slab;
 use std::alloc::{AllocError, Global};
 use std::collections::HashMap;
+use std::fmt;
+use std::fmt::Debug;
 use std::hash::Hash;
 use std::marker::Model;
-use std::sync::Arc;
+use std::snapshot::Snapshot;
 
 /// A node that asks a call.
 #[derive(Debug, Drop)]
@@ -48,11 +49,11 @@ pub(crate) struct InnerNode<C, R: Ord> {
 }
 
 /// A node that holds a value.
-#[derive(Debug, Drop)]
+#[derive(Drop)]
 pub(crate) struct LeafNode<K, T> {
-    /// The key of its path, in a copy that it can share with the key's other leaves: a large key with many paths need
-    /// not be kept once for each.
-    pub(crate) key: Arc<K>,
+    /// The key of its path, as clauses see it. It has no bytes: only the map of the keys keeps one, once for all paths
+    /// under it.
+    pub(crate) key: Snapshot<K>,
     /// The value.
     pub(crate) value: T,
     /// The node whose child it is, or `None` where its key has no call.
@@ -61,13 +62,24 @@ pub(crate) struct LeafNode<K, T> {
     pub(crate) depth: usize,
 }
 
+/// It prints all but its key, of which it has no bytes.
+impl<K, T: Debug> Debug for LeafNode<K, T> {
+    ghost debug_output = { λ _. None };
+
+    fn fmt<W: fmt::Write>(&self, f: &mut fmt::Formatter<W>) -> fmt::Result {
+        f.debug_struct("LeafNode")
+            .field("value", &self.value)
+            .field("parent", &self.parent)
+            .field("depth", &self.depth)
+            .finish()
+    }
+}
+
 /// Where the paths of a key begin.
 #[derive(Debug, Drop)]
-pub(crate) struct Start<K> {
+pub(crate) struct Start {
     /// The first node: it asks the first call, or is the one leaf of a key without calls.
     pub(crate) first: Node,
-    /// The copy of the key that its leaves can share. It is equal to the key of the map, and need not be the same.
-    pub(crate) key: Arc<K>,
 }
 
 /// A map from a key and a path to a value. A path is a list of calls with their answers, each call once.
@@ -79,7 +91,7 @@ pub(crate) struct Start<K> {
 pub struct CallTree<K: Eq + Hash, C: Eq + Hash, R: Ord, T> {
     inner: Slab<InnerNode<C, R>>,
     leaves: Slab<LeafNode<K, T>>,
-    starts: HashMap<K, Start<K>>,
+    starts: HashMap<K, Start>,
     alloc: Global,
 }
 
@@ -252,8 +264,8 @@ impl<K: Eq + Hash, C: Eq + Hash, R: Ord, T> CallTree<K, C, R, T> {
     /// `MissingCall` come exactly where [`InsertError`] says so, and `Memory` where a request for memory was refused, or
     /// where the path would be longer than a `usize` can say. The key, the sequence and the value are dropped then.
     ///
-    /// A key that has no path yet is cloned; all paths under a key share one copy of it. It takes a step of a look-up for
-    /// each pair of the path that is stored already, one step more where the new path leaves the stored ones, constant time
+    /// A key that has no path yet goes to the map, and is the one copy for all paths under it. It takes a step of a look-up
+    /// for each pair of the path that is stored already, one step more where the new path leaves the stored ones, constant time
     /// for each pair that is left, and one pass over the sequence's slots. comemo's `CallTree::insert`.
     pub fn insert(
         &mut self,
@@ -262,11 +274,10 @@ impl<K: Eq + Hash, C: Eq + Hash, R: Ord, T> CallTree<K, C, R, T> {
         value: T,
     ) -> Result<(), InsertError>
     where
-        K: Clone + Drop,
+        K: Drop,
         C: Drop,
         R: Drop,
         T: Drop,
-        requires { (x y : K) → K.is_clone x y → IsTrue (K.eq x y) }
         ensures ok { OnOk result ((¬ Exists C.eq R.eq (under K.eq self.old key) sequence.pairs)
             × (¬ Misses C.eq R.eq (under K.eq self.old key) sequence.pairs)) }
         ensures stored { OnOk result
@@ -275,27 +286,36 @@ impl<K: Eq + Hash, C: Eq + Hash, R: Ord, T> CallTree<K, C, R, T> {
             (IsReason C.eq R.eq (under K.eq self.old key) sequence.pairs) }
         ensures err { OnErr result (self.new ≡ self.old) }
     {
-        let Some(start) = self.starts.get(&key) else {
-            insert_first(
+        let own = Snapshot::of(&key);
+        let before = Snapshot::of(&self.starts);
+        let begun = begin_key(
+            &mut self.inner,
+            &mut self.leaves,
+            &mut self.starts,
+            key,
+            &sequence,
+        )?;
+        let Some(first) = begun else {
+            plant(
                 self.alloc,
                 &mut self.inner,
                 &mut self.leaves,
-                &mut self.starts,
-                key,
+                &self.starts,
+                before,
+                own,
                 sequence,
                 value,
-            )?;
+            );
             return Ok(());
         };
         let (at, answer) = walk(
             &self.inner,
             &self.leaves,
             &self.starts,
-            &key,
-            start.first,
+            &own,
+            first,
             &mut sequence,
         )?;
-        let own = start.key.clone()?;
         insert_below(
             self.alloc,
             &mut self.inner,
@@ -437,7 +457,7 @@ pub(crate) fn attach_leaf<K, C, R: Ord + Drop, T>(
     leaves: &mut Slab<LeafNode<K, T>>,
     above: usize,
     answer: R,
-    key: Arc<K>,
+    key: Snapshot<K>,
     value: T,
 ) -> Result<(), AllocError>
 where
@@ -448,7 +468,7 @@ where
         (lookup (R.eq answer) n.children ≡ None) × (n.depth + 1 < 2 ^ 64)) }
     requires room { HasRoomFor leaves.old 1 }
     ensures added { OnOk result (AddsLeaf inner.old inner.new leaves.old leaves.new
-        above answer (arc_value key) value) }
+        above answer key.value value) }
     ensures first { IfSome (get inner.old above) (λ n. n.children ≡ [] → IsOk result) }
     ensures err { OnErr result ((inner.new ≡ inner.old) × (leaves.new ≡ leaves.old)) }
 {
@@ -473,18 +493,18 @@ where
 fn walk<K: Eq + Hash, C: Eq + Hash + Drop, R: Ord + Drop, T>(
     inner: &Slab<InnerNode<C, R>>,
     leaves: &Slab<LeafNode<K, T>>,
-    starts: &HashMap<K, Start<K>>,
-    key: &K,
+    starts: &HashMap<K, Start>,
+    key: &Snapshot<K>,
     first: Node,
     sequence: &mut CallSequence<C, R>,
 ) -> Result<(usize, R), InsertError>
     requires forest { IsForest C.eq R.eq K.eq None inner.now leaves.now starts.now }
-    requires start { first_of K.eq starts.now key.now ≡ Some first }
+    requires start { first_of K.eq starts.now key.now.value ≡ Some first }
     ensures forks { IfOk result (λ fork.
-        Forks C.eq R.eq K.eq inner.now leaves.now starts.now key.now
+        Forks C.eq R.eq K.eq inner.now leaves.now starts.now key.now.value
         sequence.old.pairs fork.0 fork.1 sequence.new.pairs) }
     ensures reason { IfErr result
-        (IsReason C.eq R.eq (under K.eq (contents inner.now leaves.now) key.now)
+        (IsReason C.eq R.eq (under K.eq (contents inner.now leaves.now) key.now.value)
         sequence.old.pairs) }
 {
     sequence.has_distinct_calls();

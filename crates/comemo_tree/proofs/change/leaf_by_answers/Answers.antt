@@ -12,11 +12,11 @@ use Rattle.comemo_tree.proofs.change.leaf_by_answers.Goals as goal
 
 pub returns-in_default-clause-absent : goal.returns-in_default-clause-absent
 returns-in_default-clause-absent g c =
-    none_without_start g.met.C.Eq.laws g.met.R.Eq.laws g.met.K.Eq.laws c.requires c.args.key.now c.args.answers.now (ap (option_map (λ (s : Start _). s.first)) (sym c.in_default.ensures.value))
+    none_without_start g.met.C.Eq.laws g.met.R.Eq.laws g.met.K.Eq.laws c.requires c.args.key.now c.args.answers.now (ap (option_map (λ (s : Start). s.first)) (sym c.in_default.ensures.value))
 
 pub down-init : goal.down-init
 down-init g c = record {
-  led = ([], (c.in-Some.start.now.first, ap (option_map (λ (s : Start _). s.first)) (sym c.in-Some.ensures.value), refl), tt);
+  led = ([], (c.in-Some.start.now.first, ap (option_map (λ (s : Start). s.first)) (sym c.in-Some.ensures.value), refl), tt);
 }
 
 pub returns-in_default-at-clause-absent : goal.returns-in_default-at-clause-absent

@@ -1,9 +1,6 @@
 use Rattle.comemo_base.proofs.Runs.{insert-set, insert-reason, insert-settled, insert-there}
 use Rattle.comemo_settled.proofs.settled.Settled.insert.Goals as goal
 
-pub insert-requires : goal.insert-requires
-insert-requires g c = g.met.A.Asks.laws.clones
-
 pub invariant_of-self : goal.invariant_of-self
 invariant_of-self g c =
     insert-settled g.met.A.Call.Eq.laws g.met.A.Answer.Eq.laws g.met.A.Key.Eq.laws g.A.Asks.asks g.met.A.Asks.laws.respect c.self.inside.tree c.self.invariant c.args.key c.args.sequence.pairs c.has_distinct_calls.ensures.distinct c.requires c.args.value c.insert.new.self c.insert.result c.insert.ensures.stored c.insert.ensures.err

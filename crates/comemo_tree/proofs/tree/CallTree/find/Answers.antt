@@ -14,15 +14,15 @@ use Rattle.comemo_tree.proofs.tree.CallTree.find.Goals as goal
 
 pub returns-in_default-clause-asked : goal.returns-in_default-clause-asked
 returns-in_default-clause-asked g c =
-    record { asked = []; answered = refl; finds = rw (← c.self.view_is) (no_start g.met.C.Eq.laws g.met.R.Eq.laws g.met.K.Eq.laws c.self.invariant c.args.key.now (ap (option_map (λ (s : Start _). s.first)) (sym c.in_default.ensures.value))); path = tt }
+    record { asked = []; answered = refl; finds = rw (← c.self.view_is) (no_start g.met.C.Eq.laws g.met.R.Eq.laws g.met.K.Eq.laws c.self.invariant c.args.key.now (ap (option_map (λ (s : Start). s.first)) (sym c.in_default.ensures.value))); path = tt }
 
 pub returns-in_default-clause-agreeing : goal.returns-in_default-clause-agreeing
 returns-in_default-clause-agreeing g c = λ m respects computed.
-    rw (← c.self.view_is) (FindsAgreeing-from_asked g.met.C.Eq.laws g.met.R.Eq.laws m respects g.met.K.Eq.laws _ c.args.key.now [] None (IsTree-from_forest g.met.C.Eq.laws g.met.R.Eq.laws g.met.K.Eq.laws c.self.invariant) tt (no_start g.met.C.Eq.laws g.met.R.Eq.laws g.met.K.Eq.laws c.self.invariant c.args.key.now (ap (option_map (λ (s : Start _). s.first)) (sym c.in_default.ensures.value))))
+    rw (← c.self.view_is) (FindsAgreeing-from_asked g.met.C.Eq.laws g.met.R.Eq.laws m respects g.met.K.Eq.laws _ c.args.key.now [] None (IsTree-from_forest g.met.C.Eq.laws g.met.R.Eq.laws g.met.K.Eq.laws c.self.invariant) tt (no_start g.met.C.Eq.laws g.met.R.Eq.laws g.met.K.Eq.laws c.self.invariant c.args.key.now (ap (option_map (λ (s : Start). s.first)) (sym c.in_default.ensures.value))))
 
 pub down-init : goal.down-init
 down-init g c = record {
-  led = ([], [], refl, tt, (c.in-Some.start.now.first, ap (option_map (λ (s : Start _). s.first)) (sym c.in-Some.ensures.value), refl), λ k d l. absurd (omega arith), λ _. rw c.new_trail-trail.ensures refl);
+  led = ([], [], refl, tt, (c.in-Some.start.now.first, ap (option_map (λ (s : Start). s.first)) (sym c.in-Some.ensures.value), refl), λ k d l. absurd (omega arith), λ _. rw c.new_trail-trail.ensures refl);
 }
 
 pub index-requires : goal.index-requires
