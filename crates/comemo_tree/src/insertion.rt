@@ -7,6 +7,7 @@ ghost use Rattle.comemo_tree.specs.Nodes.{LeadsFrom, IsForest, first_of};
 ghost use Rattle.comemo_tree.specs.Growth.{CanGrow, Grown, SameNodes, Begins, PutsFirst};
 
 use crate::children::{Children, Node};
+use crate::ghost_key::GhostKey;
 use crate::tree::{InnerNode, LeafNode, Start, attach_inner, attach_leaf};
 use comemo_base::CallSequence;
 use slab::Slab;
@@ -41,7 +42,7 @@ fn grow<K: Eq + Hash + Drop, C: Eq + Hash + Drop, R: Ord + Drop, T: Drop>(
     starts: &HashMap<K, Start>,
     above: usize,
     answer: R,
-    key: Snapshot<K>,
+    key: GhostKey<K>,
     mut sequence: CallSequence<C, R>,
     value: T,
 ) -> Result<(), AllocError>
@@ -79,7 +80,7 @@ pub(crate) fn insert_below<K: Eq + Hash + Drop, C: Eq + Hash + Drop, R: Ord + Dr
     starts: &HashMap<K, Start>,
     above: usize,
     answer: R,
-    key: Snapshot<K>,
+    key: GhostKey<K>,
     sequence: CallSequence<C, R>,
     value: T,
 ) -> Result<(), AllocError>
@@ -187,7 +188,7 @@ pub(crate) fn plant<K: Eq + Hash, C: Eq + Hash + Drop, R: Ord + Drop, T: Drop>(
     leaves: &mut Slab<LeafNode<K, T>>,
     starts: &HashMap<K, Start>,
     before: Snapshot<HashMap<K, Start>>,
-    key: Snapshot<K>,
+    key: GhostKey<K>,
     mut sequence: CallSequence<C, R>,
     value: T,
 )

@@ -28,6 +28,7 @@
 
 mod change;
 pub mod children;
+mod ghost_key;
 mod insertion;
 mod retention;
 mod shape;

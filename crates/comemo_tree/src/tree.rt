@@ -20,6 +20,7 @@ ghost use Rattle.comemo_tree.specs.Shape.{IsShape};
 
 use crate::change::leaf_by_answers;
 use crate::children::{Children, Node};
+use crate::ghost_key::GhostKey;
 use crate::insertion::{begin_key, insert_below, plant};
 use crate::retention::{prune, retain_leaves, retain_starts};
 use crate::shape::shape_of;
@@ -53,7 +54,7 @@ pub(crate) struct InnerNode<C, R: Ord> {
 pub(crate) struct LeafNode<K, T> {
     /// The key of its path, as clauses see it. It has no bytes: only the map of the keys keeps one, once for all paths
     /// under it.
-    pub(crate) key: Snapshot<K>,
+    pub(crate) key: GhostKey<K>,
     /// The value.
     pub(crate) value: T,
     /// The node whose child it is, or `None` where its key has no call.
@@ -286,7 +287,7 @@ impl<K: Eq + Hash, C: Eq + Hash, R: Ord, T> CallTree<K, C, R, T> {
             (IsReason C.eq R.eq (under K.eq self.old key) sequence.pairs) }
         ensures err { OnErr result (self.new ≡ self.old) }
     {
-        let own = Snapshot::of(&key);
+        let own = GhostKey::of(&key);
         let before = Snapshot::of(&self.starts);
         let begun = begin_key(
             &mut self.inner,
@@ -457,7 +458,7 @@ pub(crate) fn attach_leaf<K, C, R: Ord + Drop, T>(
     leaves: &mut Slab<LeafNode<K, T>>,
     above: usize,
     answer: R,
-    key: Snapshot<K>,
+    key: GhostKey<K>,
     value: T,
 ) -> Result<(), AllocError>
 where
@@ -494,7 +495,7 @@ fn walk<K: Eq + Hash, C: Eq + Hash + Drop, R: Ord + Drop, T>(
     inner: &Slab<InnerNode<C, R>>,
     leaves: &Slab<LeafNode<K, T>>,
     starts: &HashMap<K, Start>,
-    key: &Snapshot<K>,
+    key: &GhostKey<K>,
     first: Node,
     sequence: &mut CallSequence<C, R>,
 ) -> Result<(usize, R), InsertError>

@@ -8,7 +8,7 @@ use crate::stopwatch::{Seen, Stopwatch};
 use crate::sums::{SumKey, SumMemo, sum};
 use crate::texts::{text_by_kept_number, text_by_number, text_itself};
 use crate::workload::Workload;
-use comemo::{CacheData, Fault, Track};
+use comemo::{CacheData, Fault, Track, Tracked};
 use comemo_samples::Cells;
 use std::alloc::Global;
 use std::rt::Clock;
@@ -88,7 +88,22 @@ fn hit_new_view<R: Clock>(
     Ok(watch.seen(rt, all))
 }
 
-/// Adds the first cells to 0, 1, 2 and so on, beginning with an empty cache.
+/// Adds so many of the first cells to 0, 1, 2 and so on, each under a key of its own, and gives the sum of all.
+fn sums_of_keys(
+    alloc: Global,
+    cache: &mut CacheData<SumMemo>,
+    view: &Tracked<'_, Cells>,
+    count: u32,
+    operations: u64,
+) -> Result<u64, Fault> {
+    let mut all: u64 = 0;
+    for start in 0..operations {
+        all = all.wrapping_add(sum(alloc, cache, SumKey { start, count }, view)?);
+    }
+    Ok(all)
+}
+
+/// Misses under new keys, into a cache that was filled so once and emptied, and has its room from that.
 fn miss_new_keys<R: Clock>(
     rt: &R,
     alloc: Global,
@@ -98,26 +113,39 @@ fn miss_new_keys<R: Clock>(
     let cells = Cells::new(alloc, CELLS)?;
     let mut cache: CacheData<SumMemo> = CacheData::new(alloc);
     let view = cells.track(alloc);
+    sums_of_keys(alloc, &mut cache, &view, count, operations)?;
+    cache.evict(0);
     let watch = Stopwatch::start(rt);
-    let mut all: u64 = 0;
-    for start in 0..operations {
-        all = all.wrapping_add(sum(alloc, &mut cache, SumKey { start, count }, &view)?);
-    }
+    let all = sums_of_keys(alloc, &mut cache, &view, count, operations)?;
     Ok(watch.seen(rt, all))
 }
 
-/// Adds ten cells to 1, where the last of them holds 0, 1, 2 and so on, beginning with an empty cache.
-fn miss_last_differs<R: Clock>(rt: &R, alloc: Global, operations: u64) -> Result<Seen, Fault> {
-    let mut cells = Cells::new(alloc, CELLS)?;
-    let mut cache: CacheData<SumMemo> = CacheData::new(alloc);
+/// Adds ten cells to 1, where the last of them holds 0, 1, 2 and so on, and gives the sum of all.
+fn sums_of_last(
+    alloc: Global,
+    cache: &mut CacheData<SumMemo>,
+    cells: &mut Cells,
+    operations: u64,
+) -> Result<u64, Fault> {
     let (start, count) = (1, 10);
     let key = SumKey { start, count };
-    let watch = Stopwatch::start(rt);
     let mut all: u64 = 0;
     for number in 0..operations {
         cells.set(9, number);
-        all = all.wrapping_add(sum(alloc, &mut cache, key, &cells.track(alloc))?);
+        all = all.wrapping_add(sum(alloc, cache, key, &cells.track(alloc))?);
     }
+    Ok(all)
+}
+
+/// Misses under one key by the last of ten cells, into a cache that was filled so once and emptied, and has its room from
+/// that.
+fn miss_last_differs<R: Clock>(rt: &R, alloc: Global, operations: u64) -> Result<Seen, Fault> {
+    let mut cells = Cells::new(alloc, CELLS)?;
+    let mut cache: CacheData<SumMemo> = CacheData::new(alloc);
+    sums_of_last(alloc, &mut cache, &mut cells, operations)?;
+    cache.evict(0);
+    let watch = Stopwatch::start(rt);
+    let all = sums_of_last(alloc, &mut cache, &mut cells, operations)?;
     Ok(watch.seen(rt, all))
 }
 

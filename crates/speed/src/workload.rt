@@ -10,9 +10,9 @@ pub enum Workload {
     HitSameView { calls: u32 },
     /// A kept sum of so many cells, by a view of its own each.
     HitNewView { calls: u32 },
-    /// Sums of so many cells, each under a key of its own, into a cache that is empty at first.
+    /// Sums of so many cells, each under a key of its own, into a cache that is empty at first, and has its room.
     MissNewKeys { calls: u32 },
-    /// Sums of ten cells under one key, of which the last cell differs each time.
+    /// Sums of ten cells under one key, of which the last cell differs each time, into such a cache.
     MissLastDiffers,
     /// Kept sums of one cell, among so many under one key.
     HitAmong { entries: u64 },
