@@ -3,11 +3,12 @@ use Rattle.std.proofs.Common.{◌≡◌, ℕ, ◌<◌, List, [], ◌∷◌, ◌+
 use Rattle.std.specs.Io.KnownBytes.{Appends}
 use Rattle.std.proofs.KnownBytes.{Appends-nil, Appends-trans}
 use Rattle.calc_lines.specs.declared.fault.RunFault.{RunFault}
-use Rattle.calc_lines.specs.Lines.{TakesLines}
+use Rattle.calc_lines.specs.declared.fault.RunFault.TheVariants.{Read, Write, Memory, NotText}
+use Rattle.calc_lines.specs.Lines.{TakesLines, IsReadFault}
 use Rattle.calc_lines.specs.Lines.{no_line as ends}
 use Rattle.calc_lines.specs.Answers.{Answered, answered, refused, empty_line, no_line, out_of_memory}
 use Rattle.calc_lines.specs.Written.{AnswersLine, WritesBeginning}
-use Rattle.calc_lines.specs.Runs.{AnswersFront}
+use Rattle.calc_lines.specs.Runs.{AnswersFront, Ran, StopsInRead}
 use Rattle.calc_lines.proofs.Cut.{more_lines}
 
 takes_none : (input : Option (List ℕ)) → TakesLines input [] input
@@ -19,9 +20,6 @@ takes_more None b c lines more p q = tt
 takes_more (Some x) None c lines more p q = absurd p
 takes_more (Some x) (Some y) None lines more p q = absurd q
 takes_more (Some x) (Some y) (Some z) lines more p q = more_lines p q
-
-pub at_some : {A : Type 0} (P : A → Type 0) (o : Option A) (x : A) → o ≡ Some x → IfSome o P → P x
-at_some P o x e h = subst (λ o. IfSome o P) e h
 
 pub failed_as : (r : Result (Unit {0}) RunFault) (fault : RunFault) → IsErrAnd r (λ e. e ≡ fault) → r ≡ Err fault
 failed_as (Ok _) fault h = absurd h
@@ -77,3 +75,10 @@ module _ {S : Type 0} (answers : S → List ℕ → List ℕ → S → Type 0) (
         answered_append s m t lines (line ∷ []) output text said here,
         Appends-trans before mid after output text wrote put,
       )
+
+-- a run that stops at a fault of a read
+pub stopped_in_read : {S : Type 0} (answers : S → List ℕ → List ℕ → S → Type 0) (refuses : S → List ℕ → S → Type 0) (input left before after : Option (List ℕ)) (s t : S) (r : Result (Unit {0}) RunFault) (fault : RunFault) → IsErrAnd r (λ e. e ≡ fault) → IsReadFault fault → StopsInRead answers refuses input left before after s t → Ran answers refuses input left before after s t r
+stopped_in_read answers refuses input left before after s t r Read is h stops = subst (λ r. Ran answers refuses input left before after s t r) (sym (failed_as r Read is)) stops
+stopped_in_read answers refuses input left before after s t r Memory is h stops = subst (λ r. Ran answers refuses input left before after s t r) (sym (failed_as r Memory is)) stops
+stopped_in_read answers refuses input left before after s t r Write is h stops = absurd h
+stopped_in_read answers refuses input left before after s t r NotText is h stops = absurd h

@@ -1,9 +1,8 @@
-ghost use Rattle.std.specs.Prelude.{◌≡◌, ◌≢◌, [], ◌∷◌, IfOk, IfErr, OnErr, IfSome, IfNone};
+ghost use Rattle.std.specs.Prelude.{◌≡◌, ◌≢◌, [], ◌∷◌, IfOk, IfErr, OnErr, IsTrue, not};
 ghost use Rattle.std.specs.Io.BufRead.{ends_with_byte};
 ghost use Rattle.calc_lines.specs.Lines.{without_line_end, TakesLines, BeginsLine, MeetsEnd, IsReadFault};
 
 use crate::RunFault;
-use std::alloc::Global;
 use std::io::{BufRead, ErrorKind};
 
 /// Why a line could not be read.
@@ -36,28 +35,25 @@ fn drop_line_end(line: &mut Vec<u8>)
     }
 }
 
-/// The next line without its end, or `None` at the end of the input.
+/// Reads the next line without its end into the room of an earlier one, or says that the input has ended.
 ///
 /// Refuses with `Read` or `Memory`; then what was read of the line is lost, and its line feed is not read yet.
-pub(crate) fn next_line<R: BufRead>(
-    alloc: Global,
-    reader: &mut R,
-) -> Result<Option<Vec<u8>>, RunFault>
-    ensures line { IfOk result (λ found. IfSome found
-        (λ line. TakesLines (R.remaining reader.old) (line.items ∷ []) (R.remaining reader.new))) }
-    ensures end { IfOk result (λ found. IfNone found
-        (MeetsEnd (R.remaining reader.old) (R.remaining reader.new))) }
+pub(crate) fn next_line<R: BufRead>(reader: &mut R, line: &mut Vec<u8>) -> Result<bool, RunFault>
+    ensures line { IfOk result (λ more. IsTrue more → TakesLines (R.remaining reader.old)
+        (line.new.items ∷ []) (R.remaining reader.new)) }
+    ensures end { IfOk result (λ more. IsTrue (not more)
+        → MeetsEnd (R.remaining reader.old) (R.remaining reader.new)) }
     ensures begun { OnErr result (BeginsLine (R.remaining reader.old) (R.remaining reader.new)) }
     ensures fault { IfErr result (λ fault. IsReadFault fault) }
 {
-    let mut line = Vec::new(alloc);
-    match reader.read_until(b'\n', &mut line) {
-        Ok(0) => Ok(None),
+    line.clear();
+    match reader.read_until(b'\n', line) {
+        Ok(0) => Ok(false),
         Err(error) if !is_ended(line.as_slice()) => Err(fault_of(error.kind())),
         // A line that came whole counts, also from a read that failed: the next read shows what is wrong.
         _ => {
-            drop_line_end(&mut line);
-            Ok(Some(line))
+            drop_line_end(line);
+            Ok(true)
         }
     }
 }

@@ -44,8 +44,8 @@ fn answer_line<W: Write, S: Session>(
 ///
 /// After `NotText` and `Write` the reader stands behind that line. After 2^64 - 1 lines, all answered and written, it
 /// gives up with `Read`, and after as many attempts at one write that a signal broke off with `Write`. It flushes
-/// nothing: a writer that buffers has to be flushed by its owner. It keeps one line in memory at a time, and takes
-/// time for the bytes read and written, and for the session's answers.
+/// nothing: a writer that buffers has to be flushed by its owner. It keeps one line in memory at a time, and the room of the
+/// longest so far; it takes time for the bytes read and written, and for the session's answers.
 ///
 /// The contract speaks of readers and writers that tell their bytes: where `R.remaining` is `None` it says nothing of
 /// which lines were read, and where `W.contents` is `None` nothing of what was written.
@@ -58,10 +58,12 @@ pub fn run<R: BufRead, W: Write, S: Session>(
     ensures { Ran S.answers S.refuses (R.remaining reader.old) (R.remaining reader.new)
         (W.contents writer.old) (W.contents writer.new) session.old session.new result }
 {
+    let mut line = Vec::new(alloc);
     for _ in 0..u64::MAX {
-        let Some(line) = next_line(alloc, reader)? else {
+        let is_there = next_line(reader, &mut line)?;
+        if !is_there {
             return Ok(());
-        };
+        }
         let Ok(text) = str::from_utf8(line.as_slice()) else {
             return Err(RunFault::NotText);
         };
