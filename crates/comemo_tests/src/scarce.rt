@@ -179,13 +179,14 @@ fn became(reply: Result<Reply<u64>, Fault>) -> Option<Result<How, Fault>> {
 fn pairs_in(sink: Recording) -> Option<u64> {
     let (mut reads, writes) = sink.into_parts();
     let mut count: u64 = 0;
-    while let Some((call, answer)) = reads.next() {
-        count = count.saturating_add(1);
-        if call.number != count || answer != count {
-            return None;
+    for number in 1..=2_u64 {
+        match reads.next() {
+            Some((call, answer)) if call.number == number && answer == number => count = number,
+            Some(_) => return None,
+            None => {}
         }
     }
-    writes.is_empty().then_some(count)
+    (reads.next().is_none() && writes.is_empty()).then_some(count)
 }
 
 /// The age of the function's entry, where one is kept.
