@@ -5,9 +5,12 @@ ghost use Rattle.std.proofs.Common.{rules};
 ghost use Rattle.comemo.specs.Steps.{IsStep};
 
 use crate::broken::Broken;
-use crate::calls::{call, gives};
 use crate::steps::{Anything, evict, look, store, touch};
-use comemo::{CacheData, Fault, Function, How, Meant, MemoOf, Recorder, Step, StepReply};
+use crate::tally::Tally;
+use comemo::{
+    CacheData, Constraint, Fault, Function, How, Meant, MemoOf, Recorder, Step, StepReply, Track,
+    memoized,
+};
 use std::alloc::{AllocError, Global};
 
 /// Gives 0.
@@ -31,9 +34,56 @@ impl Function for Null {
     }
 }
 
-/// Whether an eviction drops what is as old as its bound, and a hit makes what it gives young again.
+/// The age that an entry has after an eviction, if it stays.
+pub(crate) fn aged(age: Option<usize>, max_age: usize) -> Option<usize> {
+    match age {
+        Some(age) if age < max_age => Some(age.saturating_add(1)),
+        _ => None,
+    }
+}
+
+/// Calls the function of nothing, of which an entry of this age is kept or none. Takes note of what became of the call, and
+/// gives the age of the entry that is kept then.
+fn call_null(
+    alloc: Global,
+    cache: &mut CacheData<MemoOf<Null>>,
+    tally: &mut Tally,
+    kept: Option<usize>,
+    how: How,
+) -> Option<usize> {
+    let nothing = ();
+    let mut sink = Constraint::new(alloc);
+    let reply = memoized(
+        alloc,
+        cache,
+        &mut (),
+        (),
+        &nothing.track(alloc),
+        &mut sink,
+        true,
+    );
+    let went = match reply {
+        Ok(reply) => {
+            tally.hold(reply.output == 0);
+            Ok(reply.how)
+        }
+        Err(fault) => Err(fault),
+    };
+    let is_kept = tally.call(kept.is_some(), went, sink.is_whole());
+    tally.hold_if_ample(went == Ok(how));
+    tally.hold(cache.len() == usize::from(is_kept));
+    match went {
+        Ok(_) if is_kept => Some(0),
+        _ => kept,
+    }
+}
+
+/// Whether an eviction drops what is as old as its bound, and a hit makes what it gives young again. A call that is
+/// refused leaves the entry its age.
 pub(crate) fn hits_stay_young(alloc: Global) -> Result<bool, Broken> {
     let mut cache: CacheData<MemoOf<Null>> = CacheData::new(alloc);
+    let mut tally = Tally::new();
+    let mut kept = None;
     // How many evictions come before a call, their bound, and what becomes of the call.
     let calls: &[(u32, usize, How)] = &[
         (0, 0, How::Stored),
@@ -49,12 +99,11 @@ pub(crate) fn hits_stay_young(alloc: Global) -> Result<bool, Broken> {
     for (times, max_age, how) in calls {
         for _ in 0..*times {
             cache.evict(*max_age);
+            kept = aged(kept, *max_age);
         }
-        if !gives(call(alloc, &mut cache, (), &())?, 0, *how) {
-            return Ok(false);
-        }
+        kept = call_null(alloc, &mut cache, &mut tally, kept, *how);
     }
-    Ok(true)
+    tally.came_to()
 }
 
 /// What a step came to.
@@ -139,21 +188,83 @@ fn steps_of_one_path(alloc: Global) -> Steps
     add(steps, look(alloc, 1, &[(b'a', 10)], 0))
 }
 
-/// Whether a touch makes an entry young again, and a look-up doesn't.
+/// A step of one path: it stores an output, looks, touches, or evicts by a bound.
+#[derive(Clone, Copy, Drop)]
+enum Kind {
+    Store(u32),
+    Look,
+    Touch,
+    Evict(usize),
+}
+
+/// Takes note of what a step of one path is answered, before which an entry of this output and age was kept or none.
+/// Gives the output and the age of the entry that is kept then. A step that is refused changes nothing.
+fn after(
+    tally: &mut Tally,
+    kept: Option<(u32, usize)>,
+    kind: Kind,
+    reply: &StepReply<Anything>,
+) -> Option<(u32, usize)> {
+    match (kind, reply) {
+        (Kind::Store(output), StepReply::Stored) => {
+            tally.hold(kept.is_none());
+            return Some((output, 0));
+        }
+        (Kind::Store(_), StepReply::AlreadyExists) => tally.hold(kept.is_some()),
+        (Kind::Store(_), StepReply::Memory) => tally.refuse(),
+        (Kind::Look, StepReply::Found(found)) => {
+            tally.hold(kept == Some((found.output, found.age)) && found.writes.is_empty());
+        }
+        (Kind::Look, StepReply::NotFound) => tally.hold(kept.is_none()),
+        (Kind::Look, StepReply::Memory) => {
+            tally.hold(kept.is_some());
+            tally.refuse();
+        }
+        (Kind::Touch, StepReply::Done) => match kept {
+            Some((output, _)) => return Some((output, 0)),
+            None => return None,
+        },
+        (Kind::Evict(max_age), StepReply::Done) => match kept {
+            Some((output, age)) if age < max_age => {
+                return Some((output, age.saturating_add(1)));
+            }
+            _ => return None,
+        },
+        _ => tally.hold(false),
+    }
+    kept
+}
+
+/// Whether a touch makes an entry young again, and a look-up doesn't. A step that is refused changes nothing.
 pub(crate) fn touches_stay_young(alloc: Global) -> Result<bool, Broken> {
-    let wanted: &[Said] = &[
-        Said::Stored,
-        Said::Found(X),
-        Said::Done,
-        Said::Stored,
-        Said::Done,
-        Said::Done,
-        Said::Done,
-        Said::Found(Y),
-        Said::Done,
-        Said::NotFound,
+    let wanted: &[(Kind, Said)] = &[
+        (Kind::Store(X), Said::Stored),
+        (Kind::Look, Said::Found(X)),
+        (Kind::Evict(0), Said::Done),
+        (Kind::Store(Y), Said::Stored),
+        (Kind::Evict(1), Said::Done),
+        (Kind::Touch, Said::Done),
+        (Kind::Evict(1), Said::Done),
+        (Kind::Look, Said::Found(Y)),
+        (Kind::Evict(1), Said::Done),
+        (Kind::Look, Said::NotFound),
     ];
-    Ok(are_answered(alloc, steps_of_one_path(alloc)?, wanted)?)
+    let mut cache: CacheData<Anything> = CacheData::new(alloc);
+    let mut tally = Tally::new();
+    let steps = steps_of_one_path(alloc)?;
+    let Ok(replies) = cache.replay(alloc, steps) else {
+        tally.refuse();
+        tally.hold(cache.len() == 0);
+        return tally.came_to();
+    };
+    tally.hold(replies.len() == wanted.len());
+    let mut kept = None;
+    for (reply, (kind, said)) in replies.iter().zip(wanted) {
+        kept = after(&mut tally, kept, *kind, reply);
+        tally.hold_if_ample(said_by(reply) == *said);
+    }
+    tally.hold(cache.len() == usize::from(kept.is_some()));
+    tally.came_to()
 }
 
 /// Steps under one key, of paths of other calls with an answer that was there before.

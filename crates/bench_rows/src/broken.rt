@@ -4,9 +4,10 @@ use calc_lines::RunFault;
 use comemo::{Fault, InsertError};
 use std::alloc::AllocError;
 
-/// A row came to no end: there was no memory for it, or a call failed that was to succeed.
+/// A row was refused a request for memory, or a call of it failed that was to succeed.
 ///
-/// This project's own.
+/// A row of `run_scarce_rows` goes on after that, and answers this where all else was as it has to be; any other ends
+/// there. This project's own.
 #[derive(Clone, Copy, Debug, PartialEq, Eq)]
 pub struct Broken;
 

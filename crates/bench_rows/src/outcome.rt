@@ -1,5 +1,5 @@
 //! What became of rows: the first that failed.
-ghost use Rattle.std.specs.Prelude.{◌≡◌, ◌≢◌, true, None, Some, Ok, IsSome};
+ghost use Rattle.std.specs.Prelude.{◌≡◌, ◌≢◌, true, false, None, Some, Ok, IsSome};
 ghost use Rattle.bench_rows.specs.Started.{verdict, status_of};
 ghost use Rattle.calc_lines.specs.Started.{WritesFront};
 
@@ -32,8 +32,9 @@ impl Outcome {
         Outcome { failed: None }
     }
 
-    /// Takes note of what a row came to. It held where that is `Ok(true)`, and else it failed; after one that failed no
-    /// other counts. It takes no memory and refuses nothing.
+    /// Takes note of what a row came to. It held where that is `Ok(true)`, and else it failed: something was wrong where
+    /// that is `Ok(false)`, and memory was refused where it is an error. After one that failed no other counts. It takes
+    /// no memory and refuses nothing.
     pub fn row(&mut self, number: &'static str, came_to: Result<bool, Broken>)
         ensures held { came_to ≡ Ok true → self.new ≡ self.old }
         ensures earlier { IsSome self.old → self.new ≡ self.old }
@@ -44,6 +45,18 @@ impl Outcome {
         }
         if self.failed.is_none() {
             self.failed = Some(number);
+        }
+    }
+
+    /// Takes note of what a row came to that may have been refused memory. It failed where that is `Ok(false)` alone. It
+    /// takes no memory and refuses nothing.
+    pub fn scarce_row(&mut self, number: &'static str, came_to: Result<bool, Broken>)
+        ensures held { came_to ≢ Ok false → self.new ≡ self.old }
+        ensures earlier { IsSome self.old → self.new ≡ self.old }
+        ensures failed { self.old ≡ None → came_to ≡ Ok false → self.new ≡ Some number.now }
+    {
+        if let Ok(false) = came_to {
+            self.row(number, came_to);
         }
     }
 

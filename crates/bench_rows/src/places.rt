@@ -1,9 +1,11 @@
 //! The row of a function at many places, under one key.
 ghost use Rattle.std.proofs.Common.{rules};
 
+use crate::ages::aged;
 use crate::broken::Broken;
 use crate::place::{Place, PlaceAnswer, PlaceCall};
-use comemo::{Begun, CacheData, Constraint, Fault, How, Memo, Reply, Top, Track, begin};
+use crate::tally::Tally;
+use comemo::{Begun, CacheData, Constraint, Fault, How, Memo, Reply, Sink, Top, Track, begin};
 use std::alloc::{AllocError, Global};
 
 /// A function of a place of which any text is right.
@@ -43,13 +45,14 @@ fn said_of(
 }
 
 /// Calls the function of a place, and says how many calls its look-up asked.
-fn contextual(
+pub(crate) fn contextual<S: Sink<Call = PlaceCall, Answer = PlaceAnswer>>(
     alloc: Global,
     cache: &mut CacheData<AnySaid>,
     place: &Place,
+    sink: &mut S,
 ) -> Result<(Reply<String>, u64), Fault> {
     let before = place.asked();
-    let begun = begin(alloc, cache, &mut place.track(alloc), &mut Top::new(), true)?;
+    let begun = begin(alloc, cache, &mut place.track(alloc), sink, true)?;
     let asked = place.asked().wrapping_sub(before);
     match begun {
         Begun::Hit(output) => {
@@ -58,17 +61,17 @@ fn contextual(
         }
         Begun::Run(mut pending) => {
             let Ok(text) = said_of(alloc, place, pending.recording()) else {
-                pending.give_up(&mut Top::new());
+                pending.give_up(sink);
                 return Err(Fault::Memory);
             };
-            let reply = pending.finish(cache, &mut Top::new(), text)?;
+            let reply = pending.finish(cache, sink, text)?;
             Ok((reply, asked))
         }
     }
 }
 
 /// What the function gives at a location.
-fn expected_at(alloc: Global, location: u64) -> Result<String, AllocError> {
+pub(crate) fn expected_at(alloc: Global, location: u64) -> Result<String, AllocError> {
     if location == 5 {
         String::from_str(alloc, "Twenty has styles")
     } else {
@@ -76,24 +79,164 @@ fn expected_at(alloc: Global, location: u64) -> Result<String, AllocError> {
     }
 }
 
-/// Whether each of a thousand places is kept, and how many calls that takes.
-pub(crate) fn a_thousand_places_are_kept(alloc: Global) -> Result<bool, Broken> {
-    let mut cache = CacheData::new(alloc);
-    let mut in_vain: u64 = 0;
-    for location in 0..1000_u64 {
-        let (reply, asked) = contextual(alloc, &mut cache, &Place::at(alloc, location)?)?;
-        in_vain = in_vain.saturating_add(asked);
-        if reply.output != expected_at(alloc, location)? || reply.how != How::Stored {
-            return Ok(false);
+/// How many pairs a recording has, which are a beginning of what a run at a location asks. None where it has others.
+pub(crate) fn recorded(sink: Constraint<PlaceCall, PlaceAnswer>, location: u64) -> Option<u64> {
+    let (mut reads, writes) = sink.into_parts();
+    if !writes.is_empty() {
+        return None;
+    }
+    match reads.next() {
+        None => return Some(0),
+        Some((PlaceCall::Location, PlaceAnswer::At(at))) if at == location => {}
+        Some(_) => return None,
+    }
+    match reads.next() {
+        None => Some(1),
+        Some((PlaceCall::Styles, PlaceAnswer::Set(styles))) => {
+            let is_whole = styles.as_str() == "styles" && reads.next().is_none();
+            if is_whole && location == 5 {
+                Some(2)
+            } else {
+                None
+            }
+        }
+        Some(_) => None,
+    }
+}
+
+/// A cache, the age of the entry of each place that is kept in it, and what the calls so far came to.
+#[derive(Drop)]
+struct Places {
+    cache: CacheData<AnySaid>,
+    ages: Vec<Option<usize>>,
+    count: usize,
+    tally: Tally,
+}
+
+impl Places {
+    /// Calls the function of the place at a location, and takes note of what became of the call, but for what its sink was
+    /// told. A call that is refused leaves the entries their ages. Gives what became of it, where there was one.
+    fn visit<S: Sink<Call = PlaceCall, Answer = PlaceAnswer>>(
+        &mut self,
+        alloc: Global,
+        location: u64,
+        sink: &mut S,
+        is_told: bool,
+    ) -> Option<Result<How, Fault>> {
+        let Ok(place) = Place::at(alloc, location) else {
+            self.tally.refuse();
+            return None;
+        };
+        let Ok(expected) = expected_at(alloc, location) else {
+            self.tally.refuse();
+            return None;
+        };
+        let kept = match self.ages.get(location as usize) {
+            Some(age) => *age,
+            None => return None,
+        };
+        let went = match contextual(alloc, &mut self.cache, &place, sink) {
+            Ok((reply, asked)) => {
+                self.tally.hold(reply.output == expected);
+                let asks = self.asks(kept, location, is_told);
+                self.tally.hold(asked == asks);
+                Ok(reply.how)
+            }
+            Err(fault) => Err(fault),
+        };
+        let is_kept = self.tally.call(kept.is_some(), went, went.is_ok());
+        if is_kept && kept.is_none() {
+            self.count = self.count.saturating_add(1);
+        }
+        if let Some(age) = self.ages.get_mut(location as usize) {
+            if is_kept && went.is_ok() {
+                *age = Some(0);
+            }
+        }
+        self.tally.hold(self.cache.len() == self.count);
+        Some(went)
+    }
+
+    /// How many calls a look-up asks at a location, of which an entry of this age is kept or none: its path's, else one
+    /// where any entry is. Where the sink keeps nothing, those of an entry with an age are asked twice.
+    fn asks(&self, kept: Option<usize>, location: u64, is_told: bool) -> u64 {
+        if self.count == 0 {
+            return 0;
+        }
+        let Some(age) = kept else {
+            return 1;
+        };
+        match (location == 5, age == 0 || is_told) {
+            (true, true) => 2,
+            (true, false) => 4,
+            (false, true) => 1,
+            (false, false) => 2,
         }
     }
-    for location in 0..1000_u64 {
-        let (reply, asked) = contextual(alloc, &mut cache, &Place::at(alloc, location)?)?;
-        let wanted = if location == 5 { 2 } else { 1 };
-        let is_as_before = reply.output == expected_at(alloc, location)?;
-        if !is_as_before || reply.how != How::Hit || asked != wanted {
-            return Ok(false);
+
+    /// Calls the function of each place in turn, with no run around it.
+    fn pass_by(&mut self, alloc: Global, count: u64) {
+        for location in 0..count {
+            let _ = self.visit(alloc, location, &mut Top::new(), false);
         }
     }
-    Ok(in_vain == 999)
+
+    /// Calls the function of each place in turn, each within a run, and takes note of what the run is told.
+    fn visit_within(&mut self, alloc: Global, count: u64) {
+        for location in 0..count {
+            let mut sink = Constraint::new(alloc);
+            let went = self.visit(alloc, location, &mut sink, true);
+            let is_whole = sink.is_whole();
+            let told = recorded(sink, location);
+            let all = if location == 5 { 2 } else { 1 };
+            match went {
+                Some(Ok(_)) => self.tally.hold(is_whole && told == Some(all)),
+                Some(Err(_)) => self.tally.hold(!is_whole && told.is_some()),
+                None => self.tally.hold(is_whole && told == Some(0)),
+            }
+        }
+    }
+
+    /// Evicts by a bound.
+    fn evict(&mut self, max_age: usize) {
+        self.cache.evict(max_age);
+        let mut count: usize = 0;
+        for age in self.ages.iter_mut() {
+            *age = aged(*age, max_age);
+            if age.is_some() {
+                count = count.saturating_add(1);
+            }
+        }
+        self.count = count;
+        self.tally.hold(self.cache.len() == count);
+    }
+}
+
+/// The ages of so many places, of which none is kept.
+fn no_ages(alloc: Global, count: u64) -> Result<Vec<Option<usize>>, AllocError> {
+    let mut ages = Vec::new(alloc);
+    for _ in 0..count {
+        ages.push(None)?;
+    }
+    Ok(ages)
+}
+
+/// Whether each of so many places is kept, and how many calls that takes: where nobody is told what is asked, and within a
+/// run. Between the last times an eviction leaves what the time before it touched.
+pub(crate) fn places_are_kept(alloc: Global, count: u64) -> Result<bool, Broken> {
+    let mut places = Places {
+        cache: CacheData::new(alloc),
+        ages: no_ages(alloc, count)?,
+        count: 0,
+        tally: Tally::new(),
+    };
+    places.pass_by(alloc, count);
+    places.evict(0);
+    places.visit_within(alloc, count);
+    places.evict(1);
+    places.visit_within(alloc, count);
+    places.evict(1);
+    places.visit_within(alloc, count);
+    places.pass_by(alloc, count);
+    places.tally.came_to()
 }

@@ -2,59 +2,98 @@
 
 use crate::broken::Broken;
 use crate::steps::{Numbered, read, write};
+use crate::tally::Tally;
 use comemo::{Constraint, Sink, Track};
 use comemo_samples::{Context, ContextCall};
-use std::alloc::{AllocError, Global};
+use std::alloc::Global;
 
-/// Records two reads, with their answers, and a write.
+/// What a recording took: of two reads and a write each.
+#[derive(Clone, Copy, Drop)]
+struct Taken {
+    first: bool,
+    second: bool,
+    written: bool,
+}
+
+/// Records two reads, with their answers, and a write. Gives which of them the recording took.
 fn record(
     recording: &mut Constraint<Numbered, u64>,
+    tally: &mut Tally,
     first: (u8, u64),
     second: (u8, u64),
     written: u8,
-) -> Result<(), AllocError> {
-    let _ = recording.emit(read(first.0), Some(first.1))?;
-    let _ = recording.emit(read(second.0), Some(second.1))?;
-    let _ = recording.emit(write(written), None)?;
-    Ok(())
+) -> Taken {
+    let first = recording.emit(read(first.0), Some(first.1)).is_ok();
+    let second = recording.emit(read(second.0), Some(second.1)).is_ok();
+    let written = recording.emit(write(written), None).is_ok();
+    if !first || !second || !written {
+        tally.refuse();
+    }
+    tally.hold(recording.is_whole());
+    Taken {
+        first,
+        second,
+        written,
+    }
 }
 
-/// Whether a recording that absorbs another keeps its own answers, and has the other's writes after its own.
-fn what_is_absorbed_comes_after(alloc: Global) -> Result<bool, AllocError> {
+/// Whether a recording that absorbs another keeps its own answers, and has the other's writes after its own. What is
+/// refused to a recording is not in it. One that is refused another is spoiled, and else as before.
+fn what_is_absorbed_comes_after(alloc: Global, tally: &mut Tally) {
     let mut left = Constraint::new(alloc);
-    record(&mut left, (b'a', 1), (b'b', 2), b'1')?;
+    let own = record(&mut left, tally, (b'a', 1), (b'b', 2), b'1');
     let mut right = Constraint::new(alloc);
-    record(&mut right, (b'b', 9), (b'c', 3), b'2')?;
-    left.absorb(right)?;
-    let is_whole = left.is_whole();
+    let other = record(&mut right, tally, (b'b', 9), (b'c', 3), b'2');
+    let is_absorbed = left.absorb(right).is_ok();
+    if !is_absorbed {
+        tally.refuse();
+    }
+    tally.hold(left.is_whole() == is_absorbed);
     let (mut reads, writes) = left.into_parts();
-    for (letter, answer) in [(b'a', 1), (b'b', 2), (b'c', 3)] {
-        if reads.next() != Some((read(letter), answer)) {
-            return Ok(false);
+    let pairs: &[(bool, u8, u64)] = &[
+        (own.first, b'a', 1),
+        (own.second, b'b', 2),
+        (is_absorbed && other.first && !own.second, b'b', 9),
+        (is_absorbed && other.second, b'c', 3),
+    ];
+    for (is_held, letter, answer) in pairs {
+        if *is_held {
+            tally.hold(reads.next() == Some((read(*letter), *answer)));
         }
     }
-    let are_written = writes.as_slice() == [write(b'1'), write(b'2')].as_slice();
-    Ok(is_whole && reads.next().is_none() && are_written)
+    tally.hold(reads.next().is_none());
+    let mut rest = writes.iter();
+    if own.written {
+        tally.hold(rest.next() == Some(&write(b'1')));
+    }
+    if is_absorbed && other.written {
+        tally.hold(rest.next() == Some(&write(b'2')));
+    }
+    tally.hold(rest.next().is_none());
 }
 
 /// Whether a recording of a location holds there alone, and an empty one everywhere.
-fn recordings_hold_where_answers_are_the_same(alloc: Global) -> Result<bool, AllocError> {
+fn recordings_hold_where_answers_are_the_same(alloc: Global, tally: &mut Tally) {
     let [here, there] = [0, 1].map(|location| Context {
         location,
         styles: 5,
     });
     let mut location = Constraint::new(alloc);
-    let _ = here.track(alloc).ask(ContextCall::Location, &mut location)?;
+    let asked = here.track(alloc).ask(ContextCall::Location, &mut location);
+    if asked.is_err() {
+        tally.refuse();
+    }
+    tally.hold(location.validate(&here) == Ok(true));
+    tally.hold(location.validate(&there) == Ok(asked.is_err()));
     let nothing: Constraint<ContextCall, u64> = Constraint::new(alloc);
-    Ok(
-        location.validate(&here)?
-            && !location.validate(&there)?
-            && nothing.validate(&here)?
-            && nothing.validate(&there)?,
-    )
+    tally.hold(nothing.validate(&here) == Ok(true));
+    tally.hold(nothing.validate(&there) == Ok(true));
 }
 
 /// Whether recordings absorb others in order, and hold where the answers are the same.
 pub(crate) fn recordings_absorb_and_hold(alloc: Global) -> Result<bool, Broken> {
-    Ok(what_is_absorbed_comes_after(alloc)? && recordings_hold_where_answers_are_the_same(alloc)?)
+    let mut tally = Tally::new();
+    what_is_absorbed_comes_after(alloc, &mut tally);
+    recordings_hold_where_answers_are_the_same(alloc, &mut tally);
+    tally.came_to()
 }

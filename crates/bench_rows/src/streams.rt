@@ -1,9 +1,10 @@
 //! The row of the program `calc` over streams that fail.
 
 use crate::broken::Broken;
+use crate::tally::Tally;
 use calc_lines::RunFault;
 use calc_sessions::run;
-use std::alloc::Global;
+use std::alloc::{AllocError, Global};
 use std::io::{BufReader, Error, ErrorKind, Read, Result as IoResult, Write};
 
 /// Gives its bytes, and then fails.
@@ -42,38 +43,73 @@ impl Write for Full {
     }
 }
 
-/// Whether a line is answered before its reader fails.
-fn a_reader_that_fails(alloc: Global) -> bool {
+/// How many bytes are made room for, beside those of a writer that fails.
+const ROOM: usize = 32;
+
+/// A writer that fails where it has taken so many bytes.
+fn full_after(alloc: Global, room: usize) -> Result<Full, AllocError> {
+    let mut taken = Vec::new(alloc);
+    taken.reserve(ROOM)?;
+    Ok(Full { taken, room })
+}
+
+/// Takes note of a session of the line `size a` and another, that is to end in a fault: what it came to, and what was
+/// written.
+///
+/// Where memory is refused to the first line, this is written in the place of its answer; where it is refused to the
+/// session, that ends earlier, and says so.
+fn note_end(tally: &mut Tally, came_to: Result<(), RunFault>, fault: RunFault, written: &Full) {
+    let taken = written.taken.as_slice();
+    let is_answered = taken == b"miss 0\n".as_slice();
+    if is_answered && came_to == Err(fault) {
+        return;
+    }
+    tally.refuse();
+    let is_full = written.room == 0 && b"out of memory\n".as_slice().starts_with(taken);
+    let is_refused = is_full || taken == b"out of memory\n".as_slice();
+    if came_to == Err(RunFault::Memory) {
+        tally.hold(is_answered || is_refused || taken.is_empty());
+    } else {
+        tally.hold(is_refused && came_to == Err(fault));
+    }
+}
+
+/// Takes note of a line that is answered before its reader fails.
+fn a_reader_that_fails(alloc: Global, tally: &mut Tally) -> Result<(), Broken> {
+    let mut writer = full_after(alloc, ROOM)?;
     let Ok(mut reader) = BufReader::new(alloc, Ending(b"size a\n")) else {
-        return false;
+        return Err(Broken);
     };
-    let mut printed: Vec<u8> = Vec::new(alloc);
-    let came_to = run(alloc, &mut reader, &mut printed);
-    came_to == Err(RunFault::Read) && printed.as_slice() == b"miss 0\n".as_slice()
+    let came_to = run(alloc, &mut reader, &mut writer);
+    note_end(tally, came_to, RunFault::Read, &writer);
+    Ok(())
 }
 
-/// Whether a line is answered before one that is not UTF-8.
-fn a_line_that_is_no_text(alloc: Global) -> bool {
-    let mut printed: Vec<u8> = Vec::new(alloc);
-    let came_to = run(alloc, &mut b"size a\n\xff\n".as_slice(), &mut printed);
-    came_to == Err(RunFault::NotText) && printed.as_slice() == b"miss 0\n".as_slice()
+/// Takes note of a line that is answered before one that is not UTF-8.
+fn a_line_that_is_no_text(alloc: Global, tally: &mut Tally) -> Result<(), Broken> {
+    let mut writer = full_after(alloc, ROOM)?;
+    let came_to = run(alloc, &mut b"size a\n\xff\n".as_slice(), &mut writer);
+    note_end(tally, came_to, RunFault::NotText, &writer);
+    Ok(())
 }
 
-/// Whether the first of two answers is written where the writer fails at the second.
-fn a_writer_that_fails(alloc: Global) -> bool {
-    let mut writer = Full {
-        taken: Vec::new(alloc),
-        room: 7,
-    };
+/// Takes note of two answers of which the first is written and the writer fails at the second.
+fn a_writer_that_fails(alloc: Global, tally: &mut Tally) -> Result<(), Broken> {
+    let mut writer = full_after(alloc, 7)?;
     let came_to = run(alloc, &mut b"size a\nsize a\n".as_slice(), &mut writer);
-    came_to == Err(RunFault::Write) && writer.taken.as_slice() == b"miss 0\n".as_slice()
+    note_end(tally, came_to, RunFault::Write, &writer);
+    Ok(())
 }
 
 /// Whether a stream that fails, or a line that is not UTF-8, ends a run with its own fault, after all that was answered
 /// before.
 pub(crate) fn what_was_answered_was_written(alloc: Global) -> Result<bool, Broken> {
-    let read = a_reader_that_fails(alloc);
-    let text = a_line_that_is_no_text(alloc);
-    let written = a_writer_that_fails(alloc);
-    Ok(read && text && written)
+    let mut tally = Tally::new();
+    let read = a_reader_that_fails(alloc, &mut tally);
+    let text = a_line_that_is_no_text(alloc, &mut tally);
+    let written = a_writer_that_fails(alloc, &mut tally);
+    if read.is_err() || text.is_err() || written.is_err() {
+        tally.refuse();
+    }
+    tally.came_to()
 }

@@ -11,8 +11,9 @@ use crate::limits::a_limit_holds_for_a_hit;
 use crate::numbers::numbers_are_kept;
 use crate::orders::runs_in_another_order;
 use crate::outcome::Outcome;
-use crate::places::a_thousand_places_are_kept;
+use crate::places::places_are_kept;
 use crate::recordings::recordings_absorb_and_hold;
+use crate::refusals::{a_refused_write_is_done_again, a_run_that_lost_something_is_incomplete};
 use crate::sessions::{
     a_script_too_high_is_told_so, a_script_without_a_number_says_why,
     a_value_is_kept_until_its_files_change, scripts_that_misbehave_are_told_so,
@@ -40,7 +41,7 @@ use std::thread::Threads;
 /// Runs each row, and says which failed first.
 ///
 /// The longest starts seventeen threads, of which sixteen make two thousand calls each; one, of a thousand places, calls
-/// a function two thousand times, and one stores and looks up a thousand runs; each of the others makes some dozen calls.
+/// a function five thousand times, and one stores and looks up a thousand runs; each of the others makes some dozen calls.
 /// Three more start two threads each, of which two wait for each other.
 /// A row for which there is no memory fails. This project's own.
 pub fn run_rows<R: Threads + Wait + Clock + Sync>(rt: &R, alloc: Global) -> Outcome
@@ -60,7 +61,7 @@ pub fn run_rows<R: Threads + Wait + Clock + Sync>(rt: &R, alloc: Global) -> Outc
     rows.row("11", a_script_without_a_number_says_why(alloc));
     rows.row("12", hits_stay_young(alloc));
     rows.row("13", hits_write_again(alloc));
-    rows.row("14", a_thousand_places_are_kept(alloc));
+    rows.row("14", places_are_kept(alloc, 1000));
     rows.row("15", a_shared_cache_stores_one_of_two(rt, alloc));
     rows.row("16", runs_in_another_order(alloc));
     rows.row("17", numbers_are_kept(alloc));
@@ -84,5 +85,23 @@ pub fn run_rows<R: Threads + Wait + Clock + Sync>(rt: &R, alloc: Global) -> Outc
     rows.row("R14", what_is_said_to_be_kept_is_found(alloc));
     rows.row("R14", turned_orders(rt, alloc));
     rows.row("R15", late_runs(rt, alloc));
+    rows
+}
+
+/// Runs each row that goes on where memory is refused to it, and says which was wrong first.
+///
+/// The rows 12, 13, 14, of twenty places, 19, 21 and R12 of `run_rows`; 20, a run of which a nested call is refused; and of
+/// R12 also a hit of which a write is refused. At each refused request a row compares the answer with what it has to be,
+/// and what is kept, with its ages, what is written and what is recorded with what they were before. This project's own.
+pub fn run_scarce_rows(alloc: Global) -> Outcome {
+    let mut rows = Outcome::new();
+    rows.scarce_row("12", hits_stay_young(alloc));
+    rows.scarce_row("13", hits_write_again(alloc));
+    rows.scarce_row("14", places_are_kept(alloc, 20));
+    rows.scarce_row("19", recordings_absorb_and_hold(alloc));
+    rows.scarce_row("21", touches_stay_young(alloc));
+    rows.scarce_row("20", a_run_that_lost_something_is_incomplete(alloc));
+    rows.scarce_row("R12", a_refused_write_is_done_again(alloc));
+    rows.scarce_row("R12", what_was_answered_was_written(alloc));
     rows
 }

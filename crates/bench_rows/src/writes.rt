@@ -3,8 +3,10 @@ ghost use Rattle.std.specs.Prelude.{◌≡◌, [], ◌∷◌};
 ghost use Rattle.std.proofs.Common.{rules};
 ghost use Rattle.comemo.specs.MeaningLaws.{exact_laws};
 
+use crate::ages::aged;
 use crate::broken::Broken;
-use comemo::{CacheData, Fault, FunctionMut, How, MemoOfMut, RecorderMut, Top, memoized_mut};
+use crate::tally::Tally;
+use comemo::{CacheData, Constraint, Fault, FunctionMut, MemoOfMut, RecorderMut, memoized_mut};
 use comemo_samples::{Counter, CounterCall, Emitter, EmitterCall};
 use std::alloc::Global;
 
@@ -38,34 +40,143 @@ impl FunctionMut for Dump {
     }
 }
 
-/// Whether a hit emits again what its run emitted.
-fn a_hit_emits_again(alloc: Global) -> Result<bool, Fault> {
-    let mut cache: CacheData<MemoOfMut<Dump>> = CacheData::new(alloc);
-    let mut emitter = Emitter::new(alloc);
-    let mut needs = alloc;
-    for (text, how) in [
-        ("a", How::Stored),
-        ("b", How::Stored),
-        ("c", How::Stored),
-        ("a", How::Hit),
-        ("b", How::Hit),
-    ] {
-        let text = String::from_str(alloc, text)?;
-        let sink = &mut Top::new();
-        let reply = memoized_mut(
-            alloc,
-            &mut cache,
-            &mut needs,
-            text,
-            &mut emitter,
-            sink,
-            true,
-        )?;
-        if reply.how != how {
-            return Ok(false);
+/// By how many of these parts, one byte each, a text has grown. None where it has grown by others.
+fn grown_by(text: &str, before: usize, parts: &[u8]) -> Option<usize> {
+    let Some(grown) = text.as_bytes().get(before..) else {
+        return None;
+    };
+    if grown.len() <= parts.len() && parts.starts_with(grown) {
+        return Some(grown.len());
+    }
+    None
+}
+
+/// How many writes a recording has, which are a beginning of these parts, one byte each. None where it has others, or reads.
+fn recorded(sink: Constraint<EmitterCall, ()>, parts: &[u8]) -> Option<usize> {
+    let (mut reads, writes) = sink.into_parts();
+    if reads.next().is_some() || writes.len() > parts.len() {
+        return None;
+    }
+    for (write, part) in writes.iter().zip(parts) {
+        let EmitterCall::Emit(text) = write;
+        if text.as_bytes() != [*part].as_slice() {
+            return None;
         }
     }
-    Ok(emitter.text() == "a1b1c1a1b1")
+    Some(writes.len())
+}
+
+/// What has a text and then `1` emitted, and what the calls so far came to.
+#[derive(Drop)]
+struct Emitting {
+    cache: CacheData<MemoOfMut<Dump>>,
+    emitter: Emitter,
+    tally: Tally,
+}
+
+impl Emitting {
+    /// Has a text emitted, of one byte, and `1` behind it. Takes note of what became of the call, of which an entry of this
+    /// age was kept or none, and gives the age of the entry that is kept then.
+    ///
+    /// A hit that is refused emits nothing. One of which a write is refused has the age 0, and its recording has the
+    /// writes that were done. A run that is refused emits a beginning.
+    fn emit(
+        &mut self,
+        alloc: Global,
+        name: &str,
+        parts: &[u8],
+        kept: Option<usize>,
+    ) -> Option<usize> {
+        let Ok(text) = String::from_str(alloc, name) else {
+            self.tally.refuse();
+            return kept;
+        };
+        let before = self.emitter.text().len();
+        let mut needs = alloc;
+        let mut sink = Constraint::new(alloc);
+        let reply = memoized_mut(
+            alloc,
+            &mut self.cache,
+            &mut needs,
+            text,
+            &mut self.emitter,
+            &mut sink,
+            true,
+        );
+        let is_whole = sink.is_whole();
+        let sent = recorded(sink, parts);
+        let grown = grown_by(self.emitter.text(), before, parts);
+        let went = match reply {
+            Ok(reply) => Ok(reply.how),
+            Err(fault) => Err(fault),
+        };
+        if went == Err(Fault::Write) {
+            self.tally.refuse();
+            self.tally.hold(!is_whole && kept.is_some());
+            self.tally.hold(grown == sent && grown.is_some() && grown != Some(parts.len()));
+            return Some(0);
+        }
+        match went {
+            Ok(_) => self.tally.hold(grown == Some(parts.len()) && grown == sent),
+            Err(_) => {
+                self.tally.hold(grown.is_some() && sent.is_some());
+                self.tally.hold(kept.is_none() || grown == Some(0));
+            }
+        }
+        let is_kept = self.tally.call(kept.is_some(), went, is_whole);
+        match went {
+            Ok(_) if is_kept => Some(0),
+            _ => kept,
+        }
+    }
+}
+
+/// Evicts by a bound from a cache, and gives the ages of these entries then. Takes note of how many there are.
+fn evict(
+    cache: &mut CacheData<MemoOfMut<Dump>>,
+    tally: &mut Tally,
+    kept: [Option<usize>; 3],
+    max_age: usize,
+) -> [Option<usize>; 3] {
+    cache.evict(max_age);
+    let kept = kept.map(|age| aged(age, max_age));
+    let mut count: usize = 0;
+    for age in &kept {
+        if age.is_some() {
+            count = count.saturating_add(1);
+        }
+    }
+    tally.hold(cache.len() == count);
+    kept
+}
+
+/// Whether a hit emits again what its run emitted.
+fn a_hit_emits_again(alloc: Global) -> Result<bool, Broken> {
+    let mut emitting = Emitting {
+        cache: CacheData::new(alloc),
+        emitter: Emitter::new(alloc),
+        tally: Tally::new(),
+    };
+    let mut kept = [None, None, None];
+    // Which of the three texts, the text, and what is emitted.
+    let calls: &[(usize, &str, &str)] = &[
+        (0, "a", "a1"),
+        (1, "b", "b1"),
+        (2, "c", "c1"),
+        (0, "a", "a1"),
+        (1, "b", "b1"),
+    ];
+    for (place, name, parts) in calls {
+        kept = evict(&mut emitting.cache, &mut emitting.tally, kept, 9);
+        if *place < 3 {
+            kept[*place] = emitting.emit(alloc, *name, parts.as_bytes(), kept[*place]);
+        }
+    }
+    // Of the first two an entry goes now that no hit touched after its run.
+    let _ = evict(&mut emitting.cache, &mut emitting.tally, kept, 3);
+    let is_so = emitting.emitter.text() == "a1b1c1a1b1";
+    emitting.tally.hold_if_ample(is_so);
+    emitting.tally.came_to()
 }
 
 /// Adds 3 to a counter.
@@ -126,30 +237,64 @@ impl FunctionMut for AddsByAnother {
     }
 }
 
-/// Whether a hit writes what a function wrote that its run called.
-fn a_hit_writes_what_was_written_within(alloc: Global) -> Result<bool, Fault> {
-    let mut cache: CacheData<MemoOfMut<AddsByAnother>> = CacheData::new(alloc);
-    let mut kept = CacheData::new(alloc);
-    for (number, how) in [(0, How::Stored), (1, How::Stored), (1, How::Hit)] {
-        let mut counter = Counter { number: 0 };
-        let sink = &mut Top::new();
-        let reply = memoized_mut(
-            alloc,
-            &mut cache,
-            &mut kept,
-            number,
-            &mut counter,
-            sink,
-            true,
-        )?;
-        if reply.how != how || counter.number != 3 {
-            return Ok(false);
-        }
-    }
-    Ok(true)
+/// Whether a recording has the one write that adds 3, or else, if that is not asked for, nothing.
+fn has_added(sink: Constraint<CounterCall, u64>, is_sure: bool) -> bool {
+    let (mut reads, writes) = sink.into_parts();
+    let has_one = writes.as_slice() == [CounterCall::Add(3)].as_slice();
+    reads.next().is_none() && (has_one || !is_sure && writes.is_empty())
 }
 
-/// Whether a hit does again what its run wrote, itself or by the functions that it called.
+/// Calls on a new counter the function that has 3 added by another. Takes note of what became of the call, of which an
+/// entry was kept or not, and gives whether one is kept then.
+fn add_by_another(
+    alloc: Global,
+    cache: &mut CacheData<MemoOfMut<AddsByAnother>>,
+    inner: &mut CacheData<MemoOfMut<AddsThree>>,
+    tally: &mut Tally,
+    number: u64,
+    was_kept: bool,
+) -> bool {
+    let before = inner.len();
+    let mut counter = Counter { number: 0 };
+    let mut sink = Constraint::new(alloc);
+    let reply = memoized_mut(alloc, cache, inner, number, &mut counter, &mut sink, true);
+    let is_whole = sink.is_whole();
+    let went = match reply {
+        Ok(reply) => Ok(reply.how),
+        Err(fault) => Err(fault),
+    };
+    // A run that is refused may have added before.
+    let is_added = counter.number == 3;
+    tally.hold(is_added || went.is_err() && counter.number == 0);
+    tally.hold(went.is_ok() || !was_kept || !is_added);
+    tally.hold(has_added(sink, went.is_ok()));
+    if inner.len() != 1 {
+        tally.refuse();
+    }
+    tally.hold(inner.len() <= 1 && before <= inner.len());
+    tally.call(was_kept, went, is_whole)
+}
+
+/// Whether a hit writes what a function wrote that its run called.
+fn a_hit_writes_what_was_written_within(alloc: Global) -> Result<bool, Broken> {
+    let mut cache: CacheData<MemoOfMut<AddsByAnother>> = CacheData::new(alloc);
+    let mut inner = CacheData::new(alloc);
+    let mut tally = Tally::new();
+    let zero = add_by_another(alloc, &mut cache, &mut inner, &mut tally, 0, false);
+    let one = add_by_another(alloc, &mut cache, &mut inner, &mut tally, 1, false);
+    let again = add_by_another(alloc, &mut cache, &mut inner, &mut tally, 1, one);
+    tally.hold(cache.len() == usize::from(zero).saturating_add(usize::from(again)));
+    tally.came_to()
+}
+
+/// Whether a hit does again what its run wrote, itself or by the functions that it called. A call that is refused says so,
+/// and leaves a beginning of what it was to write.
 pub(crate) fn hits_write_again(alloc: Global) -> Result<bool, Broken> {
-    Ok(a_hit_emits_again(alloc)? && a_hit_writes_what_was_written_within(alloc)?)
+    let emitted = a_hit_emits_again(alloc);
+    let written = a_hit_writes_what_was_written_within(alloc);
+    match (emitted, written) {
+        (Ok(false), _) | (_, Ok(false)) => Ok(false),
+        (Ok(true), Ok(true)) => Ok(true),
+        _ => Err(Broken),
+    }
 }

@@ -21,6 +21,8 @@ mod notes;
 #[cfg(test)]
 mod runs;
 #[cfg(test)]
+mod scarce;
+#[cfg(test)]
 mod touching;
 #[cfg(test)]
 mod views;

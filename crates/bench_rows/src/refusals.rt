@@ -1,0 +1,271 @@
+//! Rows of what is refused: a write of a hit, and what a call within a run was to tell the run.
+ghost use Rattle.std.specs.Prelude.{◌≡◌, [], ◌∷◌};
+ghost use Rattle.std.proofs.Common.{rules};
+ghost use Rattle.comemo.specs.MeaningLaws.{exact_laws};
+
+use crate::broken::Broken;
+use crate::place::{Place, PlaceAnswer, PlaceCall};
+use crate::places::{AnySaid, contextual, expected_at, recorded};
+use crate::tally::Tally;
+use comemo::{
+    Begun, CacheData, Constraint, Fault, FunctionMut, How, MemoOfMut, RecorderMut, Reply, Track,
+    begin, memoized_mut,
+};
+use comemo_samples::NotebookCall;
+use std::alloc::{AllocError, Global};
+use std::marker::Model;
+
+/// Lines, of which one is refused once: the one before which so many more were taken.
+#[derive(Drop)]
+pub(crate) struct Book {
+    lines: Vec<u64>,
+    refuses_after: Option<usize>,
+}
+
+impl Model for Book {
+    ghost use Rattle.std.specs.Prelude.{List, ℕ};
+
+    ghost Value = { List ℕ };
+
+    ghost view = { λ s. s.lines.items };
+}
+
+impl Track for Book {
+    type Call = NotebookCall;
+
+    type Answer = u64;
+
+    ghost use Rattle.std.specs.Prelude.{◌++◌};
+    ghost use Rattle.comemo_samples.specs.Notebooks.{noted};
+
+    ghost answers = { λ _ _. 7 };
+
+    ghost wrote = { λ s call t. t ≡ s ++ noted call };
+
+    ghost alike = { λ s x y h. Prim.search rules };
+
+    ghost clones = { λ x y h. Prim.search rules };
+
+    fn ask(&self, _call: &NotebookCall) -> Result<u64, AllocError> {
+        Ok(7)
+    }
+
+    fn call_mut(&mut self, call: &NotebookCall) -> Result<(), AllocError> {
+        match call {
+            NotebookCall::Owner => Ok(()),
+            NotebookCall::Note(number) => match self.refuses_after {
+                Some(0) => {
+                    self.refuses_after = None;
+                    Err(AllocError)
+                }
+                Some(count) => {
+                    self.lines.push(*number)?;
+                    self.refuses_after = Some(count.saturating_sub(1));
+                    Ok(())
+                }
+                None => Ok(self.lines.push(*number)?),
+            },
+        }
+    }
+}
+
+/// Notes 1, 2 and 3, and gives its number.
+struct NotesThree;
+
+impl FunctionMut for NotesThree {
+    type Key = u64;
+
+    type Of = Book;
+
+    type Out = u64;
+
+    type Needs = ();
+
+    ghost use Rattle.comemo_samples.specs.declared.notebook.NotebookCall.TheVariants.{Note};
+
+    ghost means = { λ n m out writes. (out ≡ n) × (writes ≡ Note 1 ∷ Note 2 ∷ Note 3 ∷ []) };
+
+    ghost laws = { exact_laws (λ x y h. Prim.search rules) (λ x y h. Prim.search rules)
+        (λ x y h. Prim.search rules) (λ a b h. Prim.search rules) };
+
+    fn run(n: &u64, book: &mut RecorderMut<'_, '_, Book>, _needs: &mut ()) -> Result<u64, Fault> {
+        book.write(NotebookCall::Note(1))?;
+        book.write(NotebookCall::Note(2))?;
+        book.write(NotebookCall::Note(3))?;
+        Ok(*n)
+    }
+}
+
+/// How many writes a recording has, which are the first of the notes 1, 2 and 3. None where it has others, or reads.
+fn sent(sink: Constraint<NotebookCall, u64>) -> Option<usize> {
+    let (mut reads, writes) = sink.into_parts();
+    let notes = [1, 2, 3].map(|number| NotebookCall::Note(number));
+    if reads.next().is_none() && notes.as_slice().starts_with(writes.as_slice()) {
+        return Some(writes.len());
+    }
+    None
+}
+
+/// Notes three lines in a book. Gives what became of the call, whether its sink is whole then, and how many of the writes
+/// were sent to it.
+fn note(
+    alloc: Global,
+    cache: &mut CacheData<MemoOfMut<NotesThree>>,
+    tally: &mut Tally,
+    book: &mut Book,
+) -> (Result<How, Fault>, bool, Option<usize>) {
+    let mut sink = Constraint::new(alloc);
+    let reply = memoized_mut(alloc, cache, &mut (), 5, book, &mut sink, true);
+    let is_whole = sink.is_whole();
+    match reply {
+        Ok(reply) => {
+            tally.hold(reply.output == 5);
+            (Ok(reply.how), is_whole, sent(sink))
+        }
+        Err(fault) => (Err(fault), is_whole, sent(sink)),
+    }
+}
+
+/// An empty book, with room for so many lines, of which one is refused once.
+fn book_of(alloc: Global, room: usize, refuses_after: Option<usize>) -> Result<Book, AllocError> {
+    let mut lines = Vec::new(alloc);
+    lines.reserve(room)?;
+    Ok(Book {
+        lines,
+        refuses_after,
+    })
+}
+
+/// Takes note of a hit of which the second write is refused, and of the same call again. Before, the entry has the age 1.
+fn is_stopped_and_goes_on(
+    alloc: Global,
+    cache: &mut CacheData<MemoOfMut<NotesThree>>,
+    tally: &mut Tally,
+    book: &mut Book,
+) {
+    let (went, is_whole, sent) = note(alloc, cache, tally, book);
+    if went != Err(Fault::Write) {
+        let is_kept = tally.call(true, went, is_whole);
+        tally.hold(is_kept && went.is_err() && book.lines.is_empty() && sent == Some(0));
+        cache.evict(1);
+        tally.hold(cache.len() == 0);
+        return;
+    }
+    tally.hold(!is_whole && sent == Some(1));
+    tally.hold(book.lines.as_slice() == [1].as_slice());
+    cache.evict(1);
+    tally.hold(cache.len() == 1);
+    let (went, is_whole, sent) = note(alloc, cache, tally, book);
+    let is_kept = tally.call(true, went, is_whole);
+    cache.evict(1);
+    if went.is_ok() {
+        tally.hold(book.lines.as_slice() == [1, 1, 2, 3].as_slice() && sent == Some(3));
+        tally.hold(is_kept && cache.len() == 1);
+    } else {
+        tally.hold(book.lines.as_slice() == [1].as_slice() && sent == Some(0));
+        tally.hold(cache.len() == 0);
+    }
+}
+
+/// Whether a hit of which a write is refused says so, leaves those before it, and has the age 0; and whether the same call
+/// again is a hit and does all its writes.
+pub(crate) fn a_refused_write_is_done_again(alloc: Global) -> Result<bool, Broken> {
+    let mut cache: CacheData<MemoOfMut<NotesThree>> = CacheData::new(alloc);
+    let mut tally = Tally::new();
+    let mut first = book_of(alloc, 3, None)?;
+    let mut book = book_of(alloc, 4, Some(1))?;
+    let (went, is_whole, sent) = note(alloc, &mut cache, &mut tally, &mut first);
+    let is_kept = tally.call(false, went, is_whole);
+    tally.hold(cache.len() == usize::from(is_kept));
+    if went.is_ok() {
+        tally.hold(first.lines.as_slice() == [1, 2, 3].as_slice() && sent == Some(3));
+    }
+    if is_kept {
+        cache.evict(5);
+        is_stopped_and_goes_on(alloc, &mut cache, &mut tally, &mut book);
+    }
+    tally.came_to()
+}
+
+/// Calls the function of a place, of which the run calls the same function by another cache, and gives what it gives.
+/// Gives also whether that call was refused.
+fn call_within(
+    alloc: Global,
+    outer: &mut CacheData<AnySaid>,
+    inner: &mut CacheData<AnySaid>,
+    place: &Place,
+    sink: &mut Constraint<PlaceCall, PlaceAnswer>,
+) -> (Result<Reply<String>, Fault>, bool) {
+    match begin(alloc, outer, &mut place.track(alloc), sink, true) {
+        Ok(Begun::Hit(output)) => {
+            let how = How::Hit;
+            (Ok(Reply { output, how }), false)
+        }
+        Ok(Begun::Run(mut pending)) => {
+            let called = contextual(alloc, inner, place, pending.recording());
+            match called {
+                Ok((reply, _)) => (pending.finish(outer, sink, reply.output), false),
+                Err(_) => (pending.finish(outer, sink, String::new(alloc)), true),
+            }
+        }
+        Err(fault) => (Err(fault), false),
+    }
+}
+
+/// Takes note of a call of the function of the place at a location, of which the run calls the same function by another
+/// cache. An entry of the outer call was kept or not; gives whether one is kept then.
+fn is_told_of_a_loss(
+    alloc: Global,
+    outer: &mut CacheData<AnySaid>,
+    inner: &mut CacheData<AnySaid>,
+    tally: &mut Tally,
+    location: u64,
+    was_kept: bool,
+) -> Result<bool, AllocError> {
+    let place = Place::at(alloc, location)?;
+    let expected = expected_at(alloc, location)?;
+    let mut sink = Constraint::new(alloc);
+    let (reply, is_lost) = call_within(alloc, outer, inner, &place, &mut sink);
+    let is_whole = sink.is_whole();
+    let told = recorded(sink, location);
+    let all = if location == 5 { 2 } else { 1 };
+    let went = match reply {
+        Ok(reply) => {
+            tally.hold(reply.output == expected);
+            tally.hold(told == Some(all));
+            Ok(reply.how)
+        }
+        Err(fault) => {
+            tally.hold(told.is_some());
+            Err(fault)
+        }
+    };
+    if is_lost {
+        tally.refuse();
+        tally.hold(went == Err(Fault::Incomplete) && !is_whole && told == Some(0));
+        return Ok(was_kept);
+    }
+    Ok(tally.call(was_kept, went, is_whole))
+}
+
+/// Whether a run that called another, which was refused, is incomplete: it is not stored, its caller is told so, and its
+/// recording is not given.
+pub(crate) fn a_run_that_lost_something_is_incomplete(alloc: Global) -> Result<bool, Broken> {
+    let mut outer = CacheData::new(alloc);
+    let mut inner = CacheData::new(alloc);
+    let mut tally = Tally::new();
+    let mut five = false;
+    let mut six = false;
+    let locations: &[u64] = &[5, 5, 6, 5];
+    for location in locations {
+        let kept = if *location == 5 { five } else { six };
+        let called = is_told_of_a_loss(alloc, &mut outer, &mut inner, &mut tally, *location, kept);
+        match called {
+            Ok(is_kept) if *location == 5 => five = is_kept,
+            Ok(is_kept) => six = is_kept,
+            Err(_) => tally.refuse(),
+        }
+        tally.hold(outer.len() == usize::from(five).saturating_add(usize::from(six)));
+    }
+    tally.came_to()
+}
