@@ -68,7 +68,45 @@ fn add_up<R: Wait>(
     Ok(all)
 }
 
-/// Takes sums by so many threads through one cache.
+/// Keeps the sums that are hit.
+fn keep_sums<R: Wait>(
+    rt: &R,
+    alloc: Global,
+    cache: &Cache<SumMemo>,
+    cells: &Cells,
+    count: u32,
+) -> Result<(), Fault> {
+    let view = cells.track(alloc);
+    for start in 0..KEYS {
+        sum(alloc, &mut cache.hold(rt), SumKey { start, count }, &view)?;
+    }
+    Ok(())
+}
+
+/// The sums that so many threads take, added up.
+fn add_up_all<R: Threads + Wait + Sync>(
+    rt: &R,
+    alloc: Global,
+    cache: &Cache<SumMemo>,
+    cells: &Cells,
+    share: Share,
+    threads: u32,
+) -> Result<u64, Fault> {
+    let taken = map_indices(
+        rt,
+        alloc,
+        threads as usize,
+        &|thread| { add_up(rt, alloc, cache, cells, share, thread as u64) },
+    );
+    let mut all: u64 = 0;
+    for part in taken? {
+        all = all.wrapping_add(part?);
+    }
+    Ok(all)
+}
+
+/// Takes sums by so many threads through one cache. Where some miss, the cache was filled so once and emptied, and has its
+/// room from that.
 pub fn take_sums<R: Clock + Threads + Wait + Sync>(
     rt: &R,
     alloc: Global,
@@ -77,22 +115,13 @@ pub fn take_sums<R: Clock + Threads + Wait + Sync>(
 ) -> Result<Seen, Fault> {
     let cells = Cells::new(alloc, CELLS)?;
     let cache: Cache<SumMemo> = Cache::new(alloc);
-    let count = share.count;
-    for start in 0..KEYS {
-        let key = SumKey { start, count };
-        sum(alloc, &mut cache.hold(rt), key, &cells.track(alloc))?;
+    keep_sums(rt, alloc, &cache, &cells, share.count)?;
+    if share.misses {
+        add_up_all(rt, alloc, &cache, &cells, share, threads)?;
+        cache.evict(rt, 0);
+        keep_sums(rt, alloc, &cache, &cells, share.count)?;
     }
     let watch = Stopwatch::start(rt);
-    let taken = map_indices(
-        rt,
-        alloc,
-        threads as usize,
-        &|thread| { add_up(rt, alloc, &cache, &cells, share, thread as u64) },
-    );
-    let nanoseconds = watch.nanoseconds(rt);
-    let mut sum: u64 = 0;
-    for part in taken? {
-        sum = sum.wrapping_add(part?);
-    }
-    Ok(Seen { nanoseconds, sum })
+    let all = add_up_all(rt, alloc, &cache, &cells, share, threads)?;
+    Ok(watch.seen(rt, all))
 }
