@@ -1,4 +1,4 @@
-mod Notebooks
+pub mod Notebooks
 pub mod Cells
 pub mod Contexts
 pub mod Towns
