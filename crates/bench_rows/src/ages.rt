@@ -42,8 +42,8 @@ pub(crate) fn aged(age: Option<usize>, max_age: usize) -> Option<usize> {
     }
 }
 
-/// Calls the function of nothing, of which an entry of this age is kept or none. Takes note of what became of the call, and
-/// gives the age of the entry that is kept then.
+/// Calls the function of nothing, of which an entry of this age is kept or none. Takes note of what became of the
+/// call, and gives the age of the entry that is kept then.
 fn call_null(
     alloc: Global,
     cache: &mut CacheData<MemoOf<Null>>,

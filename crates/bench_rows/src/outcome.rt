@@ -32,9 +32,9 @@ impl Outcome {
         Outcome { failed: None }
     }
 
-    /// Takes note of what a row came to. It held where that is `Ok(true)`, and else it failed: something was wrong where
-    /// that is `Ok(false)`, and memory was refused where it is an error. After one that failed no other counts. It takes
-    /// no memory and refuses nothing.
+    /// Takes note of what a row came to. It held where that is `Ok(true)`, and else it failed: something was wrong
+    /// where that is `Ok(false)`, and memory was refused where it is an error. After one that failed no other counts.
+    /// It takes no memory and refuses nothing.
     pub fn row(&mut self, number: &'static str, came_to: Result<bool, Broken>)
         ensures held { came_to ≡ Ok true → self.new ≡ self.old }
         ensures earlier { IsSome self.old → self.new ≡ self.old }
@@ -48,8 +48,8 @@ impl Outcome {
         }
     }
 
-    /// Takes note of what a row came to that may have been refused memory. It failed where that is `Ok(false)` alone. It
-    /// takes no memory and refuses nothing.
+    /// Takes note of what a row came to that may have been refused memory. It failed where that is `Ok(false)` alone.
+    /// It takes no memory and refuses nothing.
     pub fn scarce_row(&mut self, number: &'static str, came_to: Result<bool, Broken>)
         ensures held { came_to ≢ Ok false → self.new ≡ self.old }
         ensures earlier { IsSome self.old → self.new ≡ self.old }
@@ -60,8 +60,8 @@ impl Outcome {
         }
     }
 
-    /// Prints `rows ok`, or `row N failed` with the number of the first row that failed, and gives the program's status:
-    /// 0 or 1. A failure of the writer changes nothing but what is written. It takes no memory.
+    /// Prints `rows ok`, or `row N failed` with the number of the first row that failed, and gives the program's
+    /// status: 0 or 1. A failure of the writer changes nothing but what is written. It takes no memory.
     pub fn report<W: Write>(&self, writer: &mut W) -> u8
         ensures status { result ≡ status_of self.now }
         ensures written { WritesFront (W.contents writer.old) (W.contents writer.new)

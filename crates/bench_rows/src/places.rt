@@ -114,8 +114,9 @@ struct Places {
 }
 
 impl Places {
-    /// Calls the function of the place at a location, and takes note of what became of the call, but for what its sink was
-    /// told. A call that is refused leaves the entries their ages. Gives what became of it, where there was one.
+    /// Calls the function of the place at a location, and takes note of what became of the call, but for what its
+    /// sink was told. A call that is refused leaves the entries their ages. Gives what became of it, where there was
+    /// one.
     fn visit<S: Sink<Call = PlaceCall, Answer = PlaceAnswer>>(
         &mut self,
         alloc: Global,
@@ -221,8 +222,8 @@ fn no_ages(alloc: Global, count: u64) -> Result<Vec<Option<usize>>, AllocError> 
     Ok(ages)
 }
 
-/// Whether each of so many places is kept, and how many calls that takes: where nobody is told what is asked, and within a
-/// run. Between the last times an eviction leaves what the time before it touched.
+/// Whether each of so many places is kept, and how many calls that takes: where nobody is told what is asked, and
+/// within a run. Between the last times an eviction leaves what the time before it touched.
 pub(crate) fn places_are_kept(alloc: Global, count: u64) -> Result<bool, Broken> {
     let mut places = Places {
         cache: CacheData::new(alloc),

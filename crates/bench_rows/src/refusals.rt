@@ -106,8 +106,8 @@ fn sent(sink: Constraint<NotebookCall, u64>) -> Option<usize> {
     None
 }
 
-/// Notes three lines in a book. Gives what became of the call, whether its sink is whole then, and how many of the writes
-/// were sent to it.
+/// Notes three lines in a book. Gives what became of the call, whether its sink is whole then, and how many of the
+/// writes were sent to it.
 fn note(
     alloc: Global,
     cache: &mut CacheData<MemoOfMut<NotesThree>>,
@@ -136,7 +136,8 @@ fn book_of(alloc: Global, room: usize, refuses_after: Option<usize>) -> Result<B
     })
 }
 
-/// Takes note of a hit of which the second write is refused, and of the same call again. Before, the entry has the age 1.
+/// Takes note of a hit of which the second write is refused, and of the same call again. Before, the entry has the
+/// age 1.
 fn is_stopped_and_goes_on(
     alloc: Global,
     cache: &mut CacheData<MemoOfMut<NotesThree>>,
@@ -167,8 +168,8 @@ fn is_stopped_and_goes_on(
     }
 }
 
-/// Whether a hit of which a write is refused says so, leaves those before it, and has the age 0; and whether the same call
-/// again is a hit and does all its writes.
+/// Whether a hit of which a write is refused says so, leaves those before it, and has the age 0; and whether the same
+/// call again is a hit and does all its writes.
 pub(crate) fn a_refused_write_is_done_again(alloc: Global) -> Result<bool, Broken> {
     let mut cache: CacheData<MemoOfMut<NotesThree>> = CacheData::new(alloc);
     let mut tally = Tally::new();
@@ -248,8 +249,8 @@ fn is_told_of_a_loss(
     Ok(tally.call(was_kept, went, is_whole))
 }
 
-/// Whether a run that called another, which was refused, is incomplete: it is not stored, its caller is told so, and its
-/// recording is not given.
+/// Whether a run that called another, which was refused, is incomplete: it is not stored, its caller is told so, and
+/// its recording is not given.
 pub(crate) fn a_run_that_lost_something_is_incomplete(alloc: Global) -> Result<bool, Broken> {
     let mut outer = CacheData::new(alloc);
     let mut inner = CacheData::new(alloc);

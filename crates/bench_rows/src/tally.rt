@@ -43,8 +43,9 @@ impl Tally {
     /// Takes note of what became of a call of a memoized function, and whether its sink is whole then. Of the call an
     /// entry was kept or not. Gives whether one is kept now.
     ///
-    /// A call is right if it is a hit exactly where an entry was kept, or else a run that is stored. It is refused if it
-    /// says that there was no memory: a run that is not stored, or a fault, which spoils the sink. All else is wrong.
+    /// A call is right if it is a hit exactly where an entry was kept, or else a run that is stored. It is refused if
+    /// it says that there was no memory: a run that is not stored, or a fault, which spoils the sink. All else is
+    /// wrong.
     pub fn call(&mut self, was_kept: bool, went: Result<How, Fault>, is_whole: bool) -> bool {
         self.hold(went.is_ok() == is_whole);
         match (was_kept, went) {

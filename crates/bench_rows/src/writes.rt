@@ -51,7 +51,8 @@ fn grown_by(text: &str, before: usize, parts: &[u8]) -> Option<usize> {
     None
 }
 
-/// How many writes a recording has, which are a beginning of these parts, one byte each. None where it has others, or reads.
+/// How many writes a recording has, which are a beginning of these parts, one byte each. None where it has others, or
+/// reads.
 fn recorded(sink: Constraint<EmitterCall, ()>, parts: &[u8]) -> Option<usize> {
     let (mut reads, writes) = sink.into_parts();
     if reads.next().is_some() || writes.len() > parts.len() {
@@ -75,8 +76,8 @@ struct Emitting {
 }
 
 impl Emitting {
-    /// Has a text emitted, of one byte, and `1` behind it. Takes note of what became of the call, of which an entry of this
-    /// age was kept or none, and gives the age of the entry that is kept then.
+    /// Has a text emitted, of one byte, and `1` behind it. Takes note of what became of the call, of which an entry
+    /// of this age was kept or none, and gives the age of the entry that is kept then.
     ///
     /// A hit that is refused emits nothing. One of which a write is refused has the age 0, and its recording has the
     /// writes that were done. A run that is refused emits a beginning.
@@ -287,8 +288,8 @@ fn a_hit_writes_what_was_written_within(alloc: Global) -> Result<bool, Broken> {
     tally.came_to()
 }
 
-/// Whether a hit does again what its run wrote, itself or by the functions that it called. A call that is refused says so,
-/// and leaves a beginning of what it was to write.
+/// Whether a hit does again what its run wrote, itself or by the functions that it called. A call that is refused
+/// says so, and leaves a beginning of what it was to write.
 pub(crate) fn hits_write_again(alloc: Global) -> Result<bool, Broken> {
     let emitted = a_hit_emits_again(alloc);
     let written = a_hit_writes_what_was_written_within(alloc);

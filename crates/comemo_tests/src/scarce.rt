@@ -1,5 +1,5 @@
-//! Calls of which one clone is refused, whichever it is: what becomes of a call of a memoized function, of its sink, of its
-//! cache and of the age of its entry.
+//! Calls of which one clone is refused, whichever it is: what becomes of a call of a memoized function, of its sink,
+//! of its cache and of the age of its entry.
 ghost use Rattle.std.specs.Prelude.{◌≡◌, false, nat_eq, refl, IfOk};
 ghost use Rattle.std.specs.List.{All};
 ghost use Rattle.std.proofs.Common.{rules};
@@ -203,8 +203,8 @@ fn age_of(alloc: Global, left: &Left, cache: &CacheData<AnyEcho>) -> Option<usiz
     }
 }
 
-/// Whether this becomes of a call of which so many clones are granted before one is refused, and its sink then has so many
-/// of the pairs, and is whole unless the call failed, and the entry has this age, or there is none.
+/// Whether this becomes of a call of which so many clones are granted before one is refused, and its sink then has so
+/// many of the pairs, and is whole unless the call failed, and the entry has this age, or there is none.
 fn becomes(
     alloc: Global,
     left: &Left,
@@ -399,7 +399,8 @@ fn said_by(reply: &StepReply<AnyEcho>) -> Said {
     }
 }
 
-/// Whether the steps are answered so where so many clones are granted before one is refused, and so many entries are kept.
+/// Whether the steps are answered so where so many clones are granted before one is refused, and so many entries are
+/// kept.
 fn are_answered(alloc: Global, granted: u64, wanted: [Said; 4], len: usize) -> bool {
     let Ok(left) = Arc::new(alloc, AtomicU64::new(granted)) else {
         return false;
