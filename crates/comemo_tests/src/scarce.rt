@@ -55,11 +55,12 @@ impl Eq for Scarce {
 }
 
 impl Hash for Scarce {
-    ghost use Rattle.std.specs.Hash.{fed};
+    ghost use Rattle.std.specs.Hash as fed;
+    ghost use Rattle.std.specs.Cmp.Rules.{hashing};
 
     ghost hash_input = { λ s. fed.u64 s.number };
 
-    ghost respects_eq = { Prim.search rules };
+    ghost respects_eq = { Prim.search (hashing, rules) };
 
     fn hash<H: Hasher>(&self, state: &mut H) {
         state.write_u64(self.number);
