@@ -252,8 +252,9 @@ fn evaluate_within(
 ///
 /// Each call, a nested one and a hit too, finds the script by one hash look-up, and follows one stored path: it finds
 /// the text of each file on it in an ordered map of the texts that are kept at its place. It copies the script, and the
-/// path of each such file; their texts are shared. Runs nest on the stack, at most `limit` of them. comemo's example
-/// `calc` has `evaluate` with neither a limit nor faults.
+/// path of each such file; their texts are shared. Runs nest on the stack, at most `limit` of them, some 1,160 bytes for
+/// each: 8 MiB last for some 7,000, and a program that goes deeper ends there. comemo's example `calc` has `evaluate`
+/// with neither a limit nor faults.
 pub fn evaluate<S: Sink<Call = JoinedCall, Answer = JoinedAnswer>>(
     alloc: Global,
     cache: &mut CacheData<Eval>,
