@@ -15,35 +15,38 @@ struct Taken {
     written: bool,
 }
 
-/// Records two reads, with their answers, and a write. Gives which of them the recording took.
+/// Records two reads, with their answers, and a write, where there is one. Gives which of them the recording took.
 fn record(
     recording: &mut Constraint<Numbered, u64>,
     tally: &mut Tally,
     first: (u8, u64),
     second: (u8, u64),
-    written: u8,
+    written: Option<u8>,
 ) -> Taken {
     let first = recording.emit(read(first.0), Some(first.1)).is_ok();
     let second = recording.emit(read(second.0), Some(second.1)).is_ok();
-    let written = recording.emit(write(written), None).is_ok();
-    if !first || !second || !written {
+    let is_taken = match written {
+        Some(number) => recording.emit(write(number), None).is_ok(),
+        None => true,
+    };
+    if !first || !second || !is_taken {
         tally.refuse();
     }
     tally.hold(recording.is_whole());
     Taken {
         first,
         second,
-        written,
+        written: is_taken && written.is_some(),
     }
 }
 
-/// Whether a recording that absorbs another keeps its own answers, and has the other's writes after its own. What is
-/// refused to a recording is not in it. One that is refused another is spoiled, and else as before.
-fn what_is_absorbed_comes_after(alloc: Global, tally: &mut Tally) {
+/// Whether a recording that absorbs another keeps its own answers, and has the other's writes after its own, if it has one.
+/// What is refused to a recording is not in it. One that is refused another is spoiled, and else as before.
+fn what_is_absorbed_comes_after(alloc: Global, tally: &mut Tally, own_write: Option<u8>) {
     let mut left = Constraint::new(alloc);
-    let own = record(&mut left, tally, (b'a', 1), (b'b', 2), b'1');
+    let own = record(&mut left, tally, (b'a', 1), (b'b', 2), own_write);
     let mut right = Constraint::new(alloc);
-    let other = record(&mut right, tally, (b'b', 9), (b'c', 3), b'2');
+    let other = record(&mut right, tally, (b'b', 9), (b'c', 3), Some(b'2'));
     let is_absorbed = left.absorb(right).is_ok();
     if !is_absorbed {
         tally.refuse();
@@ -93,7 +96,9 @@ fn recordings_hold_where_answers_are_the_same(alloc: Global, tally: &mut Tally) 
 /// Whether recordings absorb others in order, and hold where the answers are the same.
 pub(crate) fn recordings_absorb_and_hold(alloc: Global) -> Result<bool, Broken> {
     let mut tally = Tally::new();
-    what_is_absorbed_comes_after(alloc, &mut tally);
+    what_is_absorbed_comes_after(alloc, &mut tally, Some(b'1'));
+    // Its writes have no room before.
+    what_is_absorbed_comes_after(alloc, &mut tally, None);
     recordings_hold_where_answers_are_the_same(alloc, &mut tally);
     tally.came_to()
 }
