@@ -6,7 +6,9 @@ ghost use Rattle.comemo.specs.MeaningLaws.{exact_laws};
 use crate::ages::aged;
 use crate::broken::Broken;
 use crate::tally::Tally;
-use comemo::{CacheData, Constraint, Fault, FunctionMut, MemoOfMut, RecorderMut, memoized_mut};
+use comemo::{
+    CacheData, Constraint, Fault, FunctionMut, How, MemoOfMut, RecorderMut, memoized_mut,
+};
 use comemo_samples::{Counter, CounterCall, Emitter, EmitterCall};
 use std::alloc::Global;
 
@@ -111,14 +113,28 @@ impl Emitting {
             Ok(reply) => Ok(reply.how),
             Err(fault) => Err(fault),
         };
+        self.note(kept, went, is_whole, (grown, sent), parts.len())
+    }
+
+    /// Takes note of a call that went so: whether its sink is whole then, how many of its parts were emitted and sent,
+    /// of so many. Gives the age of the entry that is kept then.
+    fn note(
+        &mut self,
+        kept: Option<usize>,
+        went: Result<How, Fault>,
+        is_whole: bool,
+        (grown, sent): (Option<usize>, Option<usize>),
+        count: usize,
+    ) -> Option<usize> {
         if went == Err(Fault::Write) {
             self.tally.refuse();
             self.tally.hold(!is_whole && kept.is_some());
-            self.tally.hold(grown == sent && grown.is_some() && grown != Some(parts.len()));
+            self.tally
+                .hold(grown == sent && grown.is_some() && grown != Some(count));
             return Some(0);
         }
         match went {
-            Ok(_) => self.tally.hold(grown == Some(parts.len()) && grown == sent),
+            Ok(_) => self.tally.hold(grown == Some(count) && grown == sent),
             Err(_) => {
                 self.tally.hold(grown.is_some() && sent.is_some());
                 self.tally.hold(kept.is_none() || grown == Some(0));
