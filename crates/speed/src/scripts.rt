@@ -41,7 +41,12 @@ fn play(alloc: Global, scripts: u64) -> Result<u64, AllocError> {
     for file in 0..FILES {
         let path = format!(in alloc; "m{file}")?;
         let text = format!(in alloc; "{file} + {file}")?;
-        fold = carry_out(alloc, &mut state, CommandRef::Write(path.as_str(), text.as_str()), fold)?;
+        fold = carry_out(
+            alloc,
+            &mut state,
+            CommandRef::Write(path.as_str(), text.as_str()),
+            fold,
+        )?;
     }
     for _ in 0..PASSES {
         for number in 0..scripts {
