@@ -11,6 +11,9 @@ use comemo::{
     register_evictor,
 };
 use comemo_guide::double::Double;
+use comemo_guide::shared::warmths;
+use comemo_guide::warmth::Warmth;
+use comemo_samples::Town;
 use std::alloc::{AllocError, Global};
 use std::sync::{Arc, Mutex, RwLock, Wait};
 use std::test::Fail;
@@ -103,6 +106,29 @@ fn each_share_finds_what_another_kept(rt: HostRuntime) {
     for _ in 0..9_u32 {
         assert!(rt; age_of_seven(&mut cache.hold(&rt)).is_none());
     }
+}
+
+#[test]
+fn a_table_is_made_by_threads(rt: HostRuntime) -> Result<(), Fail> {
+    let alloc = rt.alloc();
+    let cache: Cache<MemoOf<Warmth>> = Cache::new(alloc);
+    let people = 900;
+    let towns = vec![in alloc;
+        Town {
+            people,
+            degrees: 21
+        },
+        Town { people, degrees: 4 },
+        Town {
+            people,
+            degrees: 30
+        },
+    ]?;
+    for _ in 0..2_u32 {
+        let table = warmths(&rt, alloc, &cache, towns.as_slice())?;
+        assert_eq!(rt; table.as_slice(), [Ok(21), Ok(4), Ok(30)].as_slice());
+    }
+    Ok(())
 }
 
 #[test]

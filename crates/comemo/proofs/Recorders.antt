@@ -66,12 +66,12 @@ module _ {V C R : Type 0} {eq : C → C → Bool} {same : R → R → Bool} {s t
   -- a refusal for want of memory, which doesn't say that the recording is incomplete
   pub tells_memory : {X : Type 0} {P : X → (C → R) → Type 0} (r : Result X Fault) → IsErrAnd r (λ f. f ≡ fault.Memory) → Tells (Fits eq same) s t r P
   tells_memory (Ok x) h = absurd h
-  tells_memory (Err f) h = record { same_value = value; before = tt; told = tt; fault = λ e. let no : fault.Memory ≡ fault.Incomplete = sym h ∙ e in cc }
+  tells_memory (Err f) h = record { same_value = value; before = tt; told = tt; whole = tt; fault = λ e. let no : fault.Memory ≡ fault.Incomplete = sym h ∙ e in cc }
 
   -- a fault after which the recording is spoiled
   pub tells_broken : {X : Type 0} {P : X → (C → R) → Type 0} (r : Result X Fault) → IsErr r → t.recording.whole ≡ false → Tells (Fits eq same) s t r P
   tells_broken (Ok x) h w = let no : false ≡ true = h in cc
-  tells_broken (Err f) h w = record { same_value = value; before = tt; told = tt; fault = λ e. w }
+  tells_broken (Err f) h w = record { same_value = value; before = tt; told = tt; whole = tt; fault = λ e. w }
 
   module _ (calls : IsEquivalence eq) (answers : IsEquivalence same) (m : C → R) (respects : Respects eq same m) (before : s.recording.whole ≡ true → Agrees same m s.recording.pairs) where
     -- answers that fit a recording fitted it before a read, and answer the read as it was answered
@@ -80,6 +80,7 @@ module _ {V C R : Type 0} {eq : C → C → Bool} {same : R → R → Bool} {s t
       same_value = value;
       before = fitted calls answers m respects ((call, k.noted) ∷ []) [] k.sent (k.alike, tt) before;
       told = λ n f. joined answers (n call) k.noted answer (fits_taken calls answers m respects ((call, k.noted) ∷ []) [] k.sent (k.alike, tt) before n f).0 (joined answers k.noted (m call) answer (turned answers (m call) k.noted k.alike) k.gives);
+      whole = k.sent.whole;
       fault = tt;
     }
 
@@ -113,6 +114,7 @@ module _ {K C R O : Type 0} (M : Meaning K C R O) (calls : IsEquivalence M.same_
         same_value = value;
         before = fitted calls answers call.answers respects k.gives.given k.writes k.gives.are_sent agrees before;
         told = λ n f. p n (k.stands n f.respects ((k.gives.agreeing n f.respects).0 (fits_taken calls answers call.answers respects k.gives.given k.writes k.gives.are_sent agrees before n f)));
+        whole = k.gives.are_sent.whole;
         fault = tt;
       }
 

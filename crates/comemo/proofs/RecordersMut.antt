@@ -170,6 +170,7 @@ module _ {V C R : Type 0} (wrote : V → C → V → Type 0) (w : C → Bool) (t
         goes = goes_on s t ((call, k.noted) ∷ []) [] k.sent (read, tt) (k.alike, tt) place same_recording value;
         before = fitted_mut s t ((call, k.noted) ∷ []) [] k.sent (read, tt) (k.alike, tt) has;
         told = λ n f. joined laws (n call) k.noted answer (taken_mut s t ((call, k.noted) ∷ []) [] k.sent (read, tt) (k.alike, tt) has n f).0 (joined laws k.noted (answers s.value.now call) answer (turned laws (answers s.value.now call) k.noted k.alike) k.gives);
+        whole = k.sent.whole;
         fault = tt;
       }
 
@@ -187,6 +188,7 @@ module _ {V C R : Type 0} (wrote : V → C → V → Type 0) (w : C → Bool) (t
         goes = goes_on s t [] W took tt tt place same_recording did;
         before = fitted_mut s t [] W took tt tt has;
         told = λ n f. tt;
+        whole = took.whole;
         fault = tt;
       }
 
@@ -197,6 +199,7 @@ module _ {V C R : Type 0} (wrote : V → C → V → Type 0) (w : C → Bool) (t
       goes = goes_on s t [] [] took tt tt place same_recording value;
       before = tt;
       told = tt;
+      whole = tt;
       fault = λ e. let no : fault.Memory ≡ fault.Incomplete = sym h ∙ e in cc;
     }
 
@@ -288,6 +291,7 @@ module _ {V K C R O : Type 0} (M : Meaning K C R O) (wrote : V → C → V → T
         goes = goes_on wrote w touches M.same_answer answers calls laws alike s t k.gives.given k.writes k.gives.are_sent read_reads read_agreed place same_recording nothing;
         before = fitted_mut wrote w touches M.same_answer answers calls laws alike s t k.gives.given k.writes k.gives.are_sent read_reads read_agreed has;
         told = λ n f. subst (λ W. M.def key n reply.output W) none (k.stands n f.respects ((k.gives.agreeing n f.respects).0 (taken_mut wrote w touches M.same_answer answers calls laws alike s t k.gives.given k.writes k.gives.are_sent read_reads read_agreed has n f)));
+        whole = k.gives.are_sent.whole;
         fault = tt;
       }
 
@@ -314,7 +318,7 @@ module _ {V C R : Type 0} (wrote : V → C → V → Type 0) (w : C → Bool) (t
   -- after a fault, by which the recording is spoiled
   pub tells_failed : {fits : Recording C R → (C → R) → Type 0} {X : Type 0} {P : X → (C → R) → Type 0} (r : Result X Fault) → IsErr r → TellsMut (Goes (Done wrote w touches same answers) touches same answers) fits s t r P
   tells_failed (Ok x) h = let no : false ≡ true = h in cc
-  tells_failed (Err f) h = record { goes = goes_failed; before = tt; told = tt; fault = λ e. broken }
+  tells_failed (Err f) h = record { goes = goes_failed; before = tt; told = tt; whole = tt; fault = λ e. broken }
 
   -- the same, of a call of a function that writes
   pub writes_failed : {fits : Recording C R → (C → R) → Type 0} {X : Type 0} {P : X → (C → R) → List C → Type 0} (r : Result X Fault) → IsErr r → TellsWrites (Goes (Done wrote w touches same answers) touches same answers) fits s t r P

@@ -19,8 +19,13 @@ use Rattle.comemo.proofs.Recorders.{still_agrees, fitted, fits_taken, stays_earl
 module _ {V C R X : Type 0} {fits : Recording C R → (C → R) → Type 0} {s t : Recorded V C R} where
   -- a call of a function that calls itself is a call
   pub own_tells : {P : X → (C → R) → Type 0} (r : Result X Fault) → TellsOwn fits s t r P → Tells fits s t r P
-  own_tells (Ok x) a = record { same_value = a.same_value; before = a.before; told = a.told; fault = tt }
-  own_tells (Err f) a = record { same_value = a.same_value; before = tt; told = tt; fault = λ e. absurd (a.fault e) }
+  own_tells (Ok x) a = record { same_value = a.same_value; before = a.before; told = a.told; whole = a.whole; fault = tt }
+  own_tells (Err f) a = record { same_value = a.same_value; before = tt; told = tt; whole = tt; fault = λ e. absurd (a.fault e) }
+
+  -- a question or a call of another function tells what a call of itself tells, but for a fault that says that a recording is incomplete
+  pub tells_own : {P : X → (C → R) → Type 0} (r : Result X Fault) → Tells fits s t r P → IfErr r (λ f. f ≡ fault.Incomplete → ⊥) → TellsOwn fits s t r P
+  tells_own (Ok x) a never = record { same_value = a.same_value; before = a.before; told = a.told; whole = a.whole; fault = tt }
+  tells_own (Err f) a never = record { same_value = a.same_value; before = tt; told = tt; whole = tt; fault = never }
 
   -- a want of memory
   pub own_memory : {P : X → (C → R) → Type 0} (r : Result X Fault) → t.value ≡ s.value → IsErrAnd r (λ f. f ≡ fault.Memory) → TellsOwn fits s t r P
@@ -42,12 +47,13 @@ module _ {V C R : Type 0} {fits : Recording C R → (C → R) → Type 0} {X Y :
     fault = tt;
   }
 
-  -- two questions or calls in turn, where nothing is said of a loss
+  -- two questions or calls of other functions in turn do so too
   pub tells_then : {Z : Type 0} {s t u : Recorded V C R} {S : Z → (C → R) → Type 0} {z : Z} → Tells fits s t (Ok x) P → Tells fits t u (Ok y) Q → ((m : C → R) → fits u.recording m → P x m → Q y m → S z m) → Tells fits s u (Ok z) S
   tells_then a b both = record {
     same_value = b.same_value ∙ a.same_value;
     before = λ m f. a.before m (b.before m f);
     told = λ m f. both m f (a.told m (b.before m f)) (b.told m f);
+    whole = b.whole ∙ a.whole;
     fault = tt;
   }
 
@@ -95,9 +101,8 @@ handed (Ok y) f e X x = tt
 handed (Err g) f e X x = subst X (sym e) x
 
 -- a run that is to be stored and wrote nothing, was finished so
-pub finished_as : {K C R O : Type 0} (M : Meaning K C R O) (es es' : Entries K C R O) (pending : PendingRun K C R) {S : Type 0} (took : S → S → List (C × R) → List C → Type 0) (lates : S → S → Type 0) {i j : S} (output : O) (reply : Reply O) → pending.enabled ≡ true → pending.recording.writes ≡ [] → pending.recording.late ≡ false → Finished M es pending (TookAs took lates pending.recording.late i j) output reply es' → FinishedAs M es false (took i j) (run pending.key pending.recording.pairs output []) es'
+pub finished_as : {K C R O : Type 0} (M : Meaning K C R O) (es es' : Entries K C R O) (pending : PendingRun K C R) {S : Type 0} (took : S → S → List (C × R) → List C → Type 0) (lates : S → S → Type 0) {i j : S} (output : O) (reply : Reply O) → pending.enabled ≡ true → pending.recording.writes ≡ [] → pending.recording.late ≡ false → Finished M es pending (TookAs took lates pending.recording.late i j) output reply es' → FinishedAs M es false (took i j) (run pending.key pending.recording.pairs output []) reply.how es'
 finished_as M es es' pending took lates {i = i} {j = j} output reply enabled none early done = record {
-  became = reply.how;
   enabled = λ d. let no : true ≡ false = sym enabled ∙ (done.disabled.0 d).0 in cc;
   is_late = (λ l. sym early ∙ done.late.0 l, λ f. let no : false ≡ true = f in cc);
   ends = subst (λ ws. Ends M es (run pending.key pending.recording.pairs output ws) reply.how es') none done.ends;

@@ -49,7 +49,6 @@ module _ {V C R : Type 0} {did : V → V → List C → Type 0} {touches : C →
   }
 
   module _ {X : Type 0} {x : X} {s t : Lent V C R} where
-    -- a question writes nothing
     -- a write writes itself
     pub wrote : {P : X → (C → R) → Type 0} → TellsMut (Goes did touches same answers) fits s t (Ok x) P → (eq reach : C → C → Bool) (W : List C) → Took eq reach s.recording.now t.recording.now [] W → TellsWrites (Goes did touches same answers) fits s t (Ok x) (λ y m V. V ≡ W)
     wrote a eq reach W one = record { goes = a.goes; before = a.before; told = λ m f. (W, one.writes, refl); whole = one.whole; fault = tt }
@@ -77,6 +76,10 @@ module _ {V C R : Type 0} {did : V → V → List C → Type 0} {touches : C →
   -- a question writes nothing
   pub asked : {s t : Lent V C R} {x : R} {P : R → (C → R) → Type 0} → TellsMut (Goes did touches same answers) fits s t (Ok x) P → (eq reach : C → C → Bool) (like : R → R → Bool) (m : C → R) (call : C) → Asks like m call x (Took eq reach s.recording.now t.recording.now) → TellsWrites (Goes did touches same answers) fits s t (Ok x) (λ y n W. (W ≡ []) × P y n)
   asked a eq reach like m call k = record { goes = a.goes; before = a.before; told = λ n f. ([], k.sent.writes, (refl, a.told n f)); whole = k.sent.whole; fault = tt }
+
+  -- nor does a call of a function that reads
+  pub called : {X : Type 0} {s t : Lent V C R} {x : X} {P : X → (C → R) → Type 0} → TellsMut (Goes did touches same answers) fits s t (Ok x) P → t.recording.now.writes ≡ s.recording.now.writes → TellsWrites (Goes did touches same answers) fits s t (Ok x) (λ y n W. (W ≡ []) × P y n)
+  called {s = s} a none = record { goes = a.goes; before = a.before; told = λ n f. ([], none ∙ sym (append-nil s.recording.now.writes), (refl, a.told n f)); whole = a.whole; fault = tt }
 
   -- what was told tells what follows from it
   pub writes_as : {X : Type 0} (r : Result X Fault) {s t : Lent V C R} {P Q : X → (C → R) → List C → Type 0} → TellsWrites (Goes did touches same answers) fits s t r P → ((x : X) (m : C → R) (W : List C) → fits t.recording.now m → P x m W → Q x m W) → TellsWrites (Goes did touches same answers) fits s t r Q
@@ -106,9 +109,8 @@ fault_on A B Y (Ok x) f h = tt
 fault_on A B Y (Err g) f h = same_fault A B f g h.0
 
 -- a run that is to be stored was finished so
-pub finished_with : {K C R O : Type 0} (M : Meaning K C R O) (es es' : Entries K C R O) (pending : PendingRun K C R) {sent : List (C × R) → List C → Type 0} (output : O) (reply : Reply O) → pending.enabled ≡ true → Finished M es pending sent output reply es' → FinishedAs M es pending.recording.late sent (run pending.key pending.recording.pairs reply.output pending.recording.writes) es'
+pub finished_with : {K C R O : Type 0} (M : Meaning K C R O) (es es' : Entries K C R O) (pending : PendingRun K C R) {sent : List (C × R) → List C → Type 0} (output : O) (reply : Reply O) → pending.enabled ≡ true → Finished M es pending sent output reply es' → FinishedAs M es pending.recording.late sent (run pending.key pending.recording.pairs reply.output pending.recording.writes) reply.how es'
 finished_with M es es' pending {sent} output reply enabled done = record {
-  became = reply.how;
   enabled = λ d. let no : true ≡ false = sym enabled ∙ (done.disabled.0 d).0 in cc;
   is_late = done.late;
   ends = subst (λ o. Ends M es (run pending.key pending.recording.pairs o pending.recording.writes) reply.how es') (sym done.same) done.ends;

@@ -1,5 +1,5 @@
--- For the authors of functions whose keys or calls are texts, or lists of texts.
-use Rattle.std.specs.Prelude.{◌≡◌, List, [], ◌∷◌, Bool, String, string_bytes}
+-- For the authors of functions whose keys, calls or answers are texts, or lists of texts or of anything else.
+use Rattle.std.specs.Prelude.{◌≡◌, List, [], ◌∷◌, Bool, String, map, string_bytes}
 use Rattle.std.specs.Global.{Global}
 use Rattle.std.specs.List.{AllZip, fold}
 use Rattle.std.specs.String.{string_eq}
@@ -21,16 +21,34 @@ bytes_of_equal a b h = search (rules, same_text)
 pub equal_of_bytes : (a b : String Global) → string_bytes b ≡ string_bytes a → IsTrue (string_eq a b)
 equal_of_bytes a b h = search (rules, nat_list_eq_equiv)
 
-pub texts_refl : (xs : List (String Global)) → IsTrue (pointwise string_eq xs xs)
-texts_refl [] = search rules
-texts_refl (x ∷ xs) = search (rules, equal_of_bytes x x refl, texts_refl xs)
+module _ {X : Type 0} (same : X → X → Bool) where
+  -- a list is equal to itself where each item is
+  pub items_refl : ((x : X) → IsTrue (same x x)) → (xs : List X) → IsTrue (pointwise same xs xs)
+  items_refl each [] = search rules
+  items_refl each (x ∷ xs) = search (rules, each x, items_refl each xs)
 
--- texts and their clones are equal in turn
+  -- and to its clone where each item is to its own
+  pub items_clone : (clone : X → X → Type 0) → ((x y : X) → clone x y → IsTrue (same x y)) → (xs ys : List X) → AllZip clone xs ys → IsTrue (pointwise same xs ys)
+  items_clone clone each [] [] h = search rules
+  items_clone clone each [] (y ∷ ys) h = search rules
+  items_clone clone each (x ∷ xs) [] h = search rules
+  items_clone clone each (x ∷ xs) (y ∷ ys) h = search (rules, each x y h.0, items_clone clone each xs ys h.1)
+
+-- so are texts
+pub texts_refl : (xs : List (String Global)) → IsTrue (pointwise string_eq xs xs)
+texts_refl = items_refl string_eq (λ x. equal_of_bytes x x refl)
+
 pub texts_clone : (xs ys : List (String Global)) → AllZip (λ s t. string_bytes t ≡ string_bytes s) xs ys → IsTrue (pointwise string_eq xs ys)
-texts_clone [] [] h = search rules
-texts_clone [] (y ∷ ys) h = search rules
-texts_clone (x ∷ xs) [] h = search rules
-texts_clone (x ∷ xs) (y ∷ ys) h = search (rules, equal_of_bytes x y h.0, texts_clone xs ys h.1)
+texts_clone = items_clone string_eq (λ s t. string_bytes t ≡ string_bytes s) equal_of_bytes
+
+-- texts that are equal in turn have the same bytes
+pub bytes_in_turn : (xs ys : List (String Global)) → IsTrue (pointwise string_eq xs ys) → map string_bytes xs ≡ map string_bytes ys
+bytes_in_turn [] [] h = refl
+bytes_in_turn [] (y ∷ ys) h = search rules
+bytes_in_turn (x ∷ xs) [] h = search rules
+bytes_in_turn (x ∷ xs) (y ∷ ys) h =
+    let both : IsTrue (string_eq x y) × IsTrue (pointwise string_eq xs ys) = search rules in
+    rw (bytes_of_equal x y both.0, bytes_in_turn xs ys both.1) refl
 
 -- a fold whose step tells no equal items apart, gives the same for items that are equal in turn
 pub fold_alike : {O X : Type 0} (same : X → X → Bool) (f : O → X → O) → ((o : O) (x y : X) → IsTrue (same x y) → f o x ≡ f o y) → (o : O) (xs ys : List X) → IsTrue (pointwise same xs ys) → fold f o xs ≡ fold f o ys

@@ -56,6 +56,7 @@ module _ {C D R Q : Type 0} (eq : C → C → Bool) (same : R → R → Bool) (e
           let all = fits_taken calls answers n respects (mapped_pairs f g k.gives.given) (map f k.writes) k.gives.are_sent (given_agrees before k) before o fits in
           let right = k.stands part r ((k.gives.agreeing part r).0 (agrees_part o part e k.gives.given all)) in
           subst (λ ws. def key part reply.output ws) (reads part k.writes right) right;
+      whole = k.gives.are_sent.whole;
       fault = tt;
     }
 

@@ -52,13 +52,14 @@ SettlesAs eqk eq same (names asks) key t r = OnOk r (t.whole ≡ true → t.late
 abbrev pub SettlesRun : {K C R X : Type 0} → (K → K → Bool) → (C → C → Bool) → (R → R → Bool) → Naming K C R → K → Recording C R → Recording C R → Result X Fault → Type 0
 SettlesRun eqk eq same N key s t r = s.pairs ≡ [] → SettlesAs eqk eq same N key t r
 
--- what a run is told by a question or a call, which took its recorder from s to t: of the same value, where it is answered, what
--- fits the recording fitted it before, and P holds of the answer and of whatever fits; and it says that the recording is
--- incomplete only where it is spoiled
+-- what a run is told by a question or a call, which took its recorder from s to t: of the same value, where it is answered, nothing
+-- was lost, what fits the recording fitted it before, and P holds of the answer and of whatever fits; and it says that the
+-- recording is incomplete only where it is spoiled
 pub record Tells {V C R X : Type 0} (fits : Recording C R → (C → R) → Type 0) (s t : Recorded V C R) (r : Result X Fault) (P : X → (C → R) → Type 0) : Type 0 where
   pub same_value : t.value ≡ s.value
   pub before : OnOk r ((m : C → R) → fits t.recording m → fits s.recording m)
   pub told : IfOk r (λ answer. (m : C → R) → fits t.recording m → P answer m)
+  pub whole : OnOk r (t.recording.whole ≡ s.recording.whole)
   pub fault : IfErr r (λ f. f ≡ fault.Incomplete → t.recording.whole ≡ false)
 
 -- what holds of the answers of a part, whichever they are: the part's calls are calls of the whole by f, and its answers

@@ -58,16 +58,17 @@ Since {C = C} s t P = (writes : List C) × (t.recording.now.writes ≡ s.recordi
 
 module _ {V C R : Type 0} (leads : Lent V C R → Lent V C R → Type 0) where
   -- what a run is told by a question, a write or a call, which took what its recorder was lent from s to t: where it is answered,
-  -- what fits the recording fitted it before, and P holds of the answer and of whatever fits; and it says that the recording is
-  -- incomplete only where it is spoiled
+  -- nothing was lost, what fits the recording fitted it before, and P holds of the answer and of whatever fits; and it says that
+  -- the recording is incomplete only where it is spoiled
   pub record TellsMut {X : Type 0} (fits : Recording C R → (C → R) → Type 0) (s t : Lent V C R) (r : Result X Fault) (P : X → (C → R) → Type 0) : Type 0 where
     pub goes : leads s t
     pub before : OnOk r ((m : C → R) → fits t.recording.now m → fits s.recording.now m)
     pub told : IfOk r (λ answer. (m : C → R) → fits t.recording.now m → P answer m)
+    pub whole : OnOk r (t.recording.now.whole ≡ s.recording.now.whole)
     pub fault : IfErr r (λ f. f ≡ fault.Incomplete → t.recording.now.whole ≡ false)
 
   -- what a run is told by a call of a function that writes: the same, where P holds of the answer, of whatever fits, and of the
-  -- writes that were recorded since; and where it is answered, nothing was lost
+  -- writes that were recorded since
   pub record TellsWrites {X : Type 0} (fits : Recording C R → (C → R) → Type 0) (s t : Lent V C R) (r : Result X Fault) (P : X → (C → R) → List C → Type 0) : Type 0 where
     pub goes : leads s t
     pub before : OnOk r ((m : C → R) → fits t.recording.now m → fits s.recording.now m)

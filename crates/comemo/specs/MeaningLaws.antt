@@ -1,5 +1,5 @@
 -- Laws of what functions mean, which traits ask. They say nothing that a reader must believe.
-use Rattle.std.proofs.Common.{◌≡◌, ◌∙◌, Bool, List, [], ◌∷◌, IsTrue, refl, sym, ap, subst}
+use Rattle.std.proofs.Common.{◌≡◌, ◌∙◌, Bool, List, [], ◌∷◌, IsTrue, map, refl, sym, ap, subst}
 use Rattle.comemo_cache.specs.Meaning.{SameWrites}
 use Rattle.comemo_cache.specs.Cache.{MemoLaws}
 use Rattle.comemo.specs.FunctionMut.{LawsMut}
@@ -16,6 +16,13 @@ same_writes exact [] [] same = refl
 same_writes exact [] (w ∷ W) same = absurd same
 same_writes exact (v ∷ V) [] same = absurd same
 same_writes exact (v ∷ V) (w ∷ W) same = ap (λ c. c ∷ W) (exact v w same.0) ∙ ap (λ X. v ∷ X) (same_writes exact V W same.1)
+
+-- what tells no equal calls apart tells no equal writes apart
+pub map_writes : {C X : Type 0} {eq : C → C → Bool} (f : C → X) → ((x y : C) → IsTrue (eq x y) → f x ≡ f y) → (V W : List C) → SameWrites eq V W → map f V ≡ map f W
+map_writes f alike [] [] same = refl
+map_writes f alike [] (w ∷ W) same = absurd same
+map_writes f alike (v ∷ V) [] same = absurd same
+map_writes f alike (v ∷ V) (w ∷ W) same = rw (alike v w same.0, map_writes f alike V W same.1) refl
 
 -- the laws of any meaning, where equal calls and equal keys are the same, and a clone is its original
 module _ {C R K O : Type 0} {eq : C → C → Bool} {same : R → R → Bool} {eqk : K → K → Bool} {key_clone : K → K → Type 0} {cloned : O → O → Type 0} {def : K → (C → R) → O → List C → Type 0} (calls : (x y : C) → IsTrue (eq x y) → y ≡ x) (keys : (x y : K) → IsTrue (eqk x y) → y ≡ x) (clones : (x y : K) → key_clone x y → IsTrue (eqk x y)) (outputs : (a b : O) → cloned a b → b ≡ a) where

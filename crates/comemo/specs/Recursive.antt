@@ -45,8 +45,7 @@ module _ {K C R O : Type 0} (M : Meaning K C R O) (es : Entries K C R O) where
 
   -- a run that came to this was finished: its pairs went to the recorder that started it, and it was stored, or it is said why not;
   -- it was late, or not
-  pub record FinishedAs (late : Bool) (sent : List (C × R) → List C → Type 0) (ran : Run K C R O) (es' : Entries K C R O) : Type 0 where
-    pub became : How
+  pub record FinishedAs (late : Bool) (sent : List (C × R) → List C → Type 0) (ran : Run K C R O) (became : How) (es' : Entries K C R O) : Type 0 where
     pub enabled : became ≡ how.Disabled → ⊥
     pub is_late : (became ≡ how.Late) ↔ (late ≡ true)
     pub ends : Ends M es ran became es'

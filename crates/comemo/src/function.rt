@@ -376,9 +376,8 @@ fn run_kept<M: FunctionOf<T>, H: Hold<M>, T: Track, S: Sink<Call = T::Call, Answ
 
 /// Calls a memoized function that needs nothing, and that no other run is around: `memoized` for the plain case.
 ///
-/// It costs what `memoized` costs with a `Top` as its sink. A hit clones the calls of the path that it found and its
-/// output, as `begin` says. The end of a run clones the output alone: its pairs go to the cache as they are, since a
-/// `Top` keeps none. This project's own: a call of a function under comemo's `#[memoize]`.
+/// It costs what `memoized` costs with a `Top` as its sink, which keeps nothing: a hit of an entry of age 0 clones its
+/// output alone, and so does the end of a run. This project's own: a call of a function under comemo's `#[memoize]`.
 pub fn called<M: FunctionOf<T, Needs = ()>, H: Hold<M>, T: Track>(
     alloc: Global,
     cache: &mut H,

@@ -230,10 +230,41 @@ impl<'a, T: Track> Recorder<'a, T> {
             inner.recorder.recording.pairs }
         ensures tells { TellsOwn ⟦<T as Told>⟧.fits self.old self.new result
             (λ out m. G.means key.now m out) }
-        ensures finished { IfOk result (λ out. (out ≡ output)
+        ensures finished { IfOk result (λ out. (out ≡ output) × (became : How)
             × Leads (H.entries cache.old) (H.entries cache.new) (λ es es'.
             FinishedAs ⟦<G as Meant>⟧.meaning es false (⟦<T as Told>⟧.took self.old self.new)
-            (run inner.entry.own inner.entry.recorder.recording.pairs output []) es')) }
+            (run inner.entry.own inner.entry.recorder.recording.pairs output []) became es')) }
+        ensures err { IfErr result (λ fault. (fault ≡ Fault.Memory)
+            × Stays (H.entries cache.old) (H.entries cache.new)
+            × ⟦<T as Told>⟧.broke_off self.old self.new) }
+    {
+        let reply = self.finish_reply(cache, key, inner, output)?;
+        Ok(reply.output)
+    }
+
+    /// Finishes a run that was started here, as `finish` does, and gives its reply: whether it was stored, or why not.
+    ///
+    /// A fault is as of `finish`, and it costs the same.
+    pub fn finish_reply<G: ReadsAlone<Call = T::Call, Answer = T::Answer>, H: Hold<G>>(
+        &mut self,
+        cache: &mut H,
+        key: &G::Key,
+        inner: Inner<'_, G::Key, T>,
+        output: G::Out,
+    ) -> Result<Reply<G::Out>, Fault>
+        requires own { IsTrue (G.Key.eq key.now inner.own) }
+        requires value { inner.recorder.value ≡ self.now.value }
+        requires whole { inner.recorder.recording.whole ≡ true }
+        requires right { (m : T.Call → T.Answer)
+            → ⟦<T as Told>⟧.fits inner.recorder.recording m → G.means key.now m output }
+        requires settled { IsNamedRun ⟦<G as Meant>⟧.meaning key.now
+            inner.recorder.recording.pairs }
+        ensures tells { TellsOwn ⟦<T as Told>⟧.fits self.old self.new result
+            (λ reply m. G.means key.now m reply.output) }
+        ensures finished { IfOk result (λ reply. (reply.output ≡ output)
+            × Leads (H.entries cache.old) (H.entries cache.new) (λ es es'.
+            FinishedAs ⟦<G as Meant>⟧.meaning es false (⟦<T as Told>⟧.took self.old self.new)
+            (run inner.entry.own inner.entry.recorder.recording.pairs output []) reply.how es')) }
         ensures err { IfErr result (λ fault. (fault ≡ Fault.Memory)
             × Stays (H.entries cache.old) (H.entries cache.new)
             × ⟦<T as Told>⟧.broke_off self.old self.new) }
@@ -251,6 +282,6 @@ impl<'a, T: Track> Recorder<'a, T> {
             recording,
         };
         let reply = pending.finish(cache, &mut self.recording, output)?;
-        Ok(reply.output)
+        Ok(reply)
     }
 }

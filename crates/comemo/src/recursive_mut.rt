@@ -122,8 +122,8 @@ impl<'a, 'b, K: Clone + Eq + Hash, T: Track> Input for LentKeyMut<'a, 'b, K, T> 
       b.2 ∙ a.2,
     ) };
 
-    ghost keeps = { λ s t W a. done_keeps T.wrote T.Call.is_write T.Call.touches T.Answer.eq T.answers
-        T.Answer.Eq.laws s.value.now t.value.now W a.0 };
+    ghost keeps = { λ s t W a. done_keeps T.wrote T.Call.is_write T.Call.touches
+        T.Answer.eq T.answers T.Answer.Eq.laws s.value.now t.value.now W a.0 };
 
     ghost keeps_key = { λ s t W a. equal_if_one K.Eq.laws _ _ a.2 };
 
@@ -245,12 +245,13 @@ impl<'a, 'b, T: Track> RecorderMut<'a, 'b, T> {
             → TellsWrites ⟦<T as ToldMut>⟧.goes ⟦<T as Told>⟧.fits
             s (lent self.new.value self.new.recording) result
             (λ output m writes. G.def key.now m output writes) }
-        ensures finished { IfOk result (λ output. (ran ≡ Ok output)
+        ensures finished { IfOk result (λ output. (ran ≡ Ok output) × (became : How)
             × Leads (H.entries cache.old) (H.entries cache.new) (λ es es'.
             FinishedAs ⟦<G as Meant>⟧.meaning es self.old.recording.now.late
             (TookAs (Took T.Call.eq T.Call.touches) MarkedLate self.old.recording.now.late
             inner.around self.new.recording.now)
-            (run inner.own self.old.recording.now.pairs output self.old.recording.now.writes) es')) }
+            (run inner.own self.old.recording.now.pairs output self.old.recording.now.writes)
+            became es')) }
         ensures value { self.new.value ≡ self.old.value }
         ensures incomplete { IfOk ran
             (λ _. (result ≡ Err Fault.Incomplete) ↔ (self.old.recording.now.whole ≡ false)) }

@@ -3,6 +3,7 @@ pub mod Kinds
 pub mod KindLaws
 pub mod Chains
 pub mod Loads
+pub mod ListingLaws
 pub mod LoadLaws
 pub mod Regions
 pub mod RegionLaws

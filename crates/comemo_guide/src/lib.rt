@@ -4,17 +4,17 @@
 //! How warm a town is, asked before the town has grown and after it:
 //!
 //! ```rust
-//! use comemo::{CacheData, How, MemoOf, Top, Track, memoized};
+//! use comemo::{CacheData, How, MemoOf, Track, called};
 //! use comemo_guide::warmth::Warmth;
 //! use comemo_samples::Town;
 //!
 //! let mut cache: CacheData<MemoOf<Warmth>> = CacheData::new(alloc);
 //! let mut town = Town { people: 900, degrees: 21 };
-//! let first = memoized(alloc, &mut cache, &mut (), (), &town.track(alloc), &mut Top::new(), true)?;
+//! let first = called(alloc, &mut cache, (), &town.track(alloc))?;
 //! assert_eq!(rt; (first.output, first.how), (21, How::Stored));
 //!
 //! town.people = 7000;
-//! let grown = memoized(alloc, &mut cache, &mut (), (), &town.track(alloc), &mut Top::new(), true)?;
+//! let grown = called(alloc, &mut cache, (), &town.track(alloc))?;
 //! assert_eq!(rt; (grown.output, grown.how), (21, How::Hit));
 //! ```
 //!
@@ -30,6 +30,7 @@ pub mod double;
 pub mod greetings;
 pub mod kinds;
 pub mod late;
+pub mod listing;
 pub mod loader;
 pub mod named;
 pub mod numbers;

@@ -1,12 +1,12 @@
 //! A function that several threads call through one cache.
-ghost use Rattle.std.specs.Prelude.{◌≡◌, IfOk};
+ghost use Rattle.std.specs.Prelude.{◌≡◌, ◌<◌, ℕ, length, IfOk, slice_index_or};
 
 use crate::warmth::Warmth;
-use comemo::{Cache, Fault, MemoOf, Top, Track, memoized};
+use comemo::{Cache, Fault, MemoOf, Track, called};
 use comemo_samples::Town;
-use std::alloc::Global;
+use std::alloc::{AllocError, Global};
 use std::sync::Wait;
-use std::thread::{Threads, join};
+use std::thread::{Threads, join, map_indices};
 
 /// How warm a town is, kept in a cache that other threads use too.
 pub fn shared_warmth<R: Wait>(
@@ -19,7 +19,7 @@ pub fn shared_warmth<R: Wait>(
 {
     let held = &mut cache.hold(rt);
     let view = town.track(alloc);
-    let reply = memoized(alloc, held, &mut (), (), &view, &mut Top::new(), true)?;
+    let reply = called(alloc, held, (), &view)?;
     Ok(reply.output)
 }
 
@@ -40,4 +40,25 @@ pub fn both_warmths<R: Threads + Wait + Sync>(
         || shared_warmth(rt, alloc, cache, south),
     );
     Ok((left?, right?))
+}
+
+/// How warm each of these towns is, in their order: a table that threads make through one cache.
+///
+/// Fails if there was no memory for the table. A town whose call failed has its fault in the table.
+pub fn warmths<R: Threads + Wait + Sync>(
+    rt: &R,
+    alloc: Global,
+    cache: &Cache<MemoOf<Warmth>>,
+    towns: &[Town],
+) -> Result<Vec<Result<u64, Fault>>, AllocError>
+    ensures { IfOk result (λ table. (i : ℕ) (d : _) (e : _) → i < length towns.now
+        → IfOk (slice_index_or table.items i e)
+        (λ degrees. degrees ≡ (slice_index_or towns.now i d).degrees)) }
+{
+    map_indices(
+        rt,
+        alloc,
+        towns.len(),
+        &|i| shared_warmth(rt, alloc, cache, &towns[i]),
+    )
 }

@@ -1,13 +1,19 @@
--- What the writes of an emitter and of a counter say.
+-- What the writes of an emitter, of a log and of a counter say.
 use Rattle.std.specs.Prelude.{ℕ, Bool, true, false, List, string_bytes}
 use Rattle.comemo_samples.specs.declared.emitter.EmitterCall.{EmitterCall}
 use Rattle.comemo_samples.specs.declared.emitter.EmitterCall.TheVariants.{Emit}
+use Rattle.comemo_samples.specs.declared.log.LogCall.{LogCall}
+use Rattle.comemo_samples.specs.declared.log.LogCall.TheVariants.{Line}
 use Rattle.comemo_samples.specs.declared.counter.CounterCall.{CounterCall}
 use Rattle.comemo_samples.specs.declared.counter.CounterCall.TheVariants.{Get, Add}
 
 -- what a write to an emitter puts behind its text
 abbrev pub emitted : EmitterCall → List ℕ
 emitted (Emit text) = string_bytes text
+
+-- what a write to a log puts on its next line
+abbrev pub logged : LogCall → List ℕ
+logged (Line text) = string_bytes text
 
 -- which call to a counter is a write
 abbrev pub is_add : CounterCall → Bool

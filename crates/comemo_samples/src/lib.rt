@@ -25,14 +25,15 @@
 //! assert_eq!(rt; counter.number, 2);
 //! ```
 //!
-//! An emitter and a counter take writes alone, a notebook takes reads and writes, each of the other values answers reads alone. Answers that are numbers take
-//! no memory and are never refused.
+//! An emitter, a log and a counter take writes alone, a notebook takes reads and writes, each of the other values answers
+//! reads alone. Answers that are numbers take no memory and are never refused.
 #![tactic(auto)]
 
 pub mod cells;
 pub mod contexts;
 pub mod counter;
 pub mod emitter;
+pub mod log;
 pub mod notebook;
 pub mod town;
 
@@ -40,5 +41,6 @@ pub use cells::{Cells, Get};
 pub use contexts::{Context, ContextCall, Page, Place, Row};
 pub use counter::{Counter, CounterCall};
 pub use emitter::{Emitter, EmitterCall};
+pub use log::{Log, LogCall};
 pub use notebook::{Notebook, NotebookCall};
 pub use town::{Town, TownCall};

@@ -18,5 +18,6 @@ fn counters_touch_alike()
 /// The writes of an emitter and of a notebook touch nothing.
 fn others_touch_alike()
     ensures emitter { TouchesAlike ⟦<EmitterCall as PartialEq>⟧.eq ⟦<EmitterCall as Call>⟧.touches }
-    ensures notebook { TouchesAlike ⟦<NotebookCall as PartialEq>⟧.eq ⟦<NotebookCall as Call>⟧.touches }
+    ensures notebook { TouchesAlike ⟦<NotebookCall as PartialEq>⟧.eq
+        ⟦<NotebookCall as Call>⟧.touches }
 {}

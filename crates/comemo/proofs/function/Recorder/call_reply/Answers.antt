@@ -18,7 +18,7 @@ returns-clause-tells g c =
     let i = c.self.inside in
     let k = (some_by (g.H.Hold.entries c.args.cache.now) (g.H.Hold.entries c.args.cache.now) (g.H.Hold.entries c.memoized.new.cache) _ c.in_ok-reply.ensures.reply).3 in
     let t = tells_output _ g.met.T.Call.Eq.laws g.met.T.Answer.Eq.laws _ _ _ _ (g.met.T.Track.alike i.view) refl c.self.invariant.agrees {P = λ output m. g.G.Memo.def c.args.key m output []} c.in_ok-reply.reply k (λ n d. subst (λ ws. g.G.Memo.def c.args.key n c.in_ok-reply.reply.output ws) (g.met.G.FunctionOf.reads c.args.key n c.in_ok-reply.reply.output k.writes d) d) in
-    rw (← c.self.view_is) (record { same_value = t.same_value; before = t.before; told = t.told; fault = tt })
+    rw (← c.self.view_is) (record { same_value = t.same_value; before = t.before; told = t.told; whole = t.whole; fault = tt })
 
 pub returns-in_err-reply-clause-tells : goal.returns-in_err-reply-clause-tells
 returns-in_err-reply-clause-tells g c = rw (← c.self.view_is) (tells_broken refl c.from_residual.result c.from_residual.ensures.0 (not_whole c.in_err-reply.ensures.err.1))

@@ -32,7 +32,7 @@ pub returns-in-Ok-clause-finished : goal.returns-in-Ok-clause-finished
 returns-in-Ok-clause-finished g c =
     let ended = rw (c.replace-recording.ensures.value, c.replace-recording.ensures.after) at c.in-Ok.ensures.finished in
     let done = (some_led (g.H.Hold.entries c.args.cache.now) (g.H.Hold.entries c.end.new.cache) _ ended.2).2 in
-    (ended.1 ∙ ap (λ o. Ok o) (sym done.same), leads_map (g.H.Hold.entries c.args.cache.now) (g.H.Hold.entries c.end.new.cache) _ _ (λ es es' is. finished_with _ es es' _ ended.0 c.in-Ok.reply refl is) ended.2)
+    (ended.1 ∙ ap (λ o. Ok o) (sym done.same), c.in-Ok.reply.how, leads_map (g.H.Hold.entries c.args.cache.now) (g.H.Hold.entries c.end.new.cache) _ _ (λ es es' is. finished_with _ es es' _ ended.0 c.in-Ok.reply refl is) ended.2)
 
 pub returns-in-Err-clause-tells : goal.returns-in-Err-clause-tells
 returns-in-Err-clause-tells g c =
