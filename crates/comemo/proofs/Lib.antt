@@ -1,5 +1,6 @@
 pub mod Endings
 pub mod PartsAsked
+pub mod PartsMut
 pub mod Recorders
 pub mod NamedRuns
 pub mod RecordersMut

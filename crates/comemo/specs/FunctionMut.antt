@@ -1,5 +1,5 @@
 -- What a memoized function that writes means, and what its run does and is told.
-use Rattle.std.specs.Prelude.{◌≡◌, ◌⊎◌, ◌++◌, Bool, true, false, IsTrue, List, Result, IfOk, OnOk, IfErr}
+use Rattle.std.specs.Prelude.{◌≡◌, ◌⊎◌, ◌++◌, Bool, true, false, IsTrue, List, map, Result, IfOk, OnOk, IfErr}
 use Rattle.std.specs.Borrow.{MutBor}
 use Rattle.comemo_base.specs.Answers.{Respects, Agrees}
 use Rattle.comemo_track.specs.Recording.{Recording}
@@ -7,6 +7,7 @@ use Rattle.comemo_cache.specs.Meaning.{Meaning, Invocation, SameWrites}
 use Rattle.comemo_cache.specs.Cache.{Entries, Touches}
 use Rattle.comemo.specs.Begin.{Reaches, IsStopped}
 use Rattle.comemo.specs.Called.{IsOfRun}
+use Rattle.comemo.specs.Function.{OnPart}
 use Rattle.comemo.specs.declared.pending.Fault.{Fault}
 use Rattle.comemo.specs.declared.pending.Fault.TheVariants as fault
 
@@ -55,6 +56,10 @@ module _ {V C R : Type 0} (did : V → V → List C → Type 0) (touches : C →
 -- the writes that were recorded from s to t are such
 abbrev pub Since : {V C R : Type 0} → Lent V C R → Lent V C R → (List C → Type 0) → Type 0
 Since {C = C} s t P = (writes : List C) × (t.recording.now.writes ≡ s.recording.now.writes ++ writes) × P writes
+
+-- what holds of the answers of a part, whichever they are, and of its own writes, where these are the writes of the whole
+abbrev pub OnPartWrites : {C D R Q : Type 0} → (C → D) → (R → Q) → (D → Q) → List D → ((C → R) → List C → Type 0) → Type 0
+OnPartWrites {C} f g m writes holds = (own : List C) × (writes ≡ map f own) × OnPart f g m (λ part. holds part own)
 
 module _ {V C R : Type 0} (leads : Lent V C R → Lent V C R → Type 0) where
   -- what a run is told by a question, a write or a call, which took what its recorder was lent from s to t: where it is answered,

@@ -287,7 +287,7 @@ impl<F: FunctionMut> Memo for MemoOfMut<F> {
 }
 
 /// A memoized function of a key and `T`, which it reads and writes, where `T` may borrow: several tracked values as one,
-/// by `BothMut`, or a user's own.
+/// by `BothMut` or `ReadAndWrite`, or a user's own.
 ///
 /// What the function means is its `Memo`, which names no lifetime, so that its cache outlives the values. A
 /// `FunctionMut` is one by its `MemoOfMut`, with nothing to write. This project's own.

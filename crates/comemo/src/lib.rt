@@ -36,6 +36,7 @@ pub mod closure;
 pub mod function;
 pub mod function_mut;
 pub mod parts;
+pub mod parts_mut;
 pub mod pending;
 pub mod recursive;
 pub mod recursive_mut;
@@ -49,8 +50,8 @@ pub use comemo_cache::{
 pub use comemo_settled::{Asks, Keep, Settled, TreeOp, TreeReply};
 pub use comemo_track::{
     Accelerated, Both, BothMut, Breaking, Call, CallMap, Constraint, First, Hashed, Input, Keyed,
-    KeyedMut, MappedSink, Multi, MultiAnswer, MultiCall, Second, Sink, Top, Track, Tracked,
-    TrackedMut, TrackedMutWith, TrackedWith, Written,
+    KeyedMut, MappedSink, Multi, MultiAnswer, MultiCall, ReadAndWrite, Second, Sink, Top, Track,
+    Tracked, TrackedMut, TrackedMutWith, TrackedWith, Written,
 };
 pub use comemo_tree::CallTree;
 pub use function::{Function, FunctionOf, MemoOf, Recorder, Told, called, memoized};

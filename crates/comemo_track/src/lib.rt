@@ -38,6 +38,7 @@ pub mod constraint;
 pub mod input;
 pub mod mapped;
 pub mod multi;
+pub mod read_and_write;
 pub mod track;
 pub mod writing;
 
@@ -48,5 +49,6 @@ pub use constraint::Constraint;
 pub use input::{Hashed, Input, Keyed, KeyedMut};
 pub use mapped::{CallMap, MappedSink};
 pub use multi::{First, Multi, MultiAnswer, MultiCall, Second};
+pub use read_and_write::ReadAndWrite;
 pub use track::{Breaking, Call, Sink, Top, Track, Tracked, TrackedWith, Written};
 pub use writing::{TrackedMut, TrackedMutWith};

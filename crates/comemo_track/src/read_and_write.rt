@@ -1,0 +1,67 @@
+//! A tracked value that is read, joined with one that is written.
+ghost use Rattle.std.specs.Prelude.{◌≡◌};
+ghost use Rattle.std.proofs.Common.{rules};
+
+use crate::multi::{MultiAnswer, MultiCall};
+use crate::track::{Track, Tracked};
+use std::alloc::AllocError;
+
+/// Two tracked values as one: a view of the first, which is read, and a reference to the second, which is read and
+/// written.
+///
+/// Each call is a call of one part, as for `BothMut`. The first value may be borrowed elsewhere too, since it is held
+/// by a view. The struct takes no memory of its own. comemo has no such type: its functions take their tracked
+/// arguments side by side.
+#[derive(Drop)]
+pub struct ReadAndWrite<'a, A, B> {
+    /// The view of the first value.
+    pub first: Tracked<'a, A>,
+    /// The second value.
+    pub second: &'a mut B,
+}
+
+/// The part of the call answers it. A read fails if its part fails. A write fails if it is a call of the first value,
+/// or if the second value fails.
+impl<'a, A: Track, B: Track> Track for ReadAndWrite<'a, A, B> {
+    type Call = MultiCall<A::Call, B::Call>;
+
+    type Answer = MultiAnswer<A::Answer, B::Answer>;
+
+    ghost use Rattle.comemo_track.specs.Multi.{part_answers, OnCall};
+    ghost use Rattle.comemo_track.specs.Writing.{WroteAt};
+    ghost use Rattle.comemo_track.specs.MultiLaws.{by_parts, by_answers};
+
+    ghost answers = { λ s. part_answers (A.answers s.first) (B.answers s.second.now) };
+
+    ghost alike = { λ s. by_parts _ (A.alike s.first) (B.alike s.second.now)
+        (λ c d h. Prim.search rules) (λ c d h. Prim.search rules) };
+
+    ghost clones = { by_answers _ A.clones B.clones
+        (λ a b h. Prim.search rules) (λ a b h. Prim.search rules) };
+
+    // a write of the second value changes that value alone, and a write of the first is never done
+    ghost wrote = { λ s call t. OnCall
+        (λ _. ⊥)
+        (λ c. WroteAt B.wrote s.second c t.second × (t.first ≡ s.first))
+        call };
+
+    fn ask(
+        &self,
+        call: &MultiCall<A::Call, B::Call>,
+    ) -> Result<MultiAnswer<A::Answer, B::Answer>, AllocError> {
+        match call {
+            MultiCall::A(call) => Ok(MultiAnswer::A(self.first.read(call)?)),
+            MultiCall::B(call) => Ok(MultiAnswer::B(self.second.ask(call)?)),
+        }
+    }
+
+    fn call_mut(&mut self, call: &MultiCall<A::Call, B::Call>) -> Result<(), AllocError> {
+        match call {
+            MultiCall::A(_) => Err(AllocError),
+            MultiCall::B(call) => {
+                self.second.call_mut(call)?;
+                Ok(())
+            }
+        }
+    }
+}
