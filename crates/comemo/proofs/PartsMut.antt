@@ -111,6 +111,7 @@ module _ {C D R Q : Type 0} (eq : C → C → Bool) (same : R → R → Bool) (e
             goes = a.goes;
             before = a.before;
             told = λ n fits part e. rw (answers_apart (part call) answer) at (rw (e call) at (a.told n fits));
+            whole = a.whole;
             fault = tt;
           }
 
@@ -163,6 +164,7 @@ module _ {C D R Q : Type 0} (eq : C → C → Bool) (same : R → R → Bool) (e
           goes = part_goes k k.gives.are_sent nothing;
           before = part_before k k.gives.are_sent nothing;
           told = λ n fits part e. subst (λ W. def key part reply.output W) none (part_told k k.gives.are_sent nothing n fits part e);
+          whole = k.gives.are_sent.whole;
           fault = tt;
         }
 
