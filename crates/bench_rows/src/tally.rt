@@ -1,4 +1,5 @@
 //! What a row comes to that goes on after a refused request for memory.
+ghost use Rattle.std.specs.Prelude.{◌≡◌, ◌||◌, not, true, false, Ok, IfOk};
 
 use crate::broken::Broken;
 use comemo::{Fault, How};
@@ -14,7 +15,10 @@ pub struct Tally {
 
 impl Tally {
     /// Nothing was wrong yet, and nothing refused.
-    pub fn new() -> Self {
+    pub fn new() -> Self
+        ensures wrong { result.is_wrong ≡ false }
+        ensures refused { result.was_refused ≡ false }
+    {
         Tally {
             is_wrong: false,
             was_refused: false,
@@ -22,19 +26,29 @@ impl Tally {
     }
 
     /// Takes note that something is as it has to be, or is not.
-    pub fn hold(&mut self, holds: bool) {
+    pub fn hold(&mut self, holds: bool)
+        ensures wrong { self.new.is_wrong ≡ (self.old.is_wrong || not holds) }
+        ensures refused { self.new.was_refused ≡ self.old.was_refused }
+    {
         if !holds {
             self.is_wrong = true;
         }
     }
 
     /// Takes note of a refused request.
-    pub fn refuse(&mut self) {
+    pub fn refuse(&mut self)
+        ensures wrong { self.new.is_wrong ≡ self.old.is_wrong }
+        ensures refused { self.new.was_refused ≡ true }
+    {
         self.was_refused = true;
     }
 
     /// Takes note that something is as it has to be where nothing was refused so far, or is not.
-    pub fn hold_if_ample(&mut self, holds: bool) {
+    pub fn hold_if_ample(&mut self, holds: bool)
+        ensures wrong { self.new.is_wrong
+            ≡ (self.old.is_wrong || not (holds || self.old.was_refused)) }
+        ensures refused { self.new.was_refused ≡ self.old.was_refused }
+    {
         if !self.was_refused {
             self.hold(holds);
         }
@@ -68,7 +82,13 @@ impl Tally {
 
     /// What the row came to: `Ok(false)` if something was wrong, else `Err(Broken)` if a request was refused, else
     /// `Ok(true)`.
-    pub fn came_to(&self) -> Result<bool, Broken> {
+    pub fn came_to(&self) -> Result<bool, Broken>
+        ensures wrong { self.now.is_wrong ≡ true → result ≡ Ok false }
+        ensures refused { self.now.is_wrong ≡ false → self.now.was_refused ≡ true
+            → IfOk result (λ _. ⊥) }
+        ensures right { self.now.is_wrong ≡ false → self.now.was_refused ≡ false
+            → result ≡ Ok true }
+    {
         if self.is_wrong {
             return Ok(false);
         }

@@ -3,6 +3,8 @@ use Rattle.std.specs.Prelude.{◌≡◌, ◌≢◌, ◌⊎◌, ℕ, ◌<◌, ◌
 use Rattle.std.specs.Str.Parse.{IsNumeral, digits_value}
 use Rattle.calc_commands.specs.declared.command.Command.{Command}
 use Rattle.calc_commands.specs.declared.command.Command.TheVariants.{Write, Eval, Size, Evict}
+use Rattle.calc_commands.specs.declared.command.CommandRef.{CommandRef}
+use Rattle.calc_commands.specs.declared.command.CommandRef.TheVariants as lent
 
 -- what a line asks for, at paths and texts as bytes
 pub data Request : Type 0 where
@@ -17,6 +19,13 @@ request_of (Write path text) = write (string_bytes path) (string_bytes text)
 request_of (Eval script) = eval (string_bytes script)
 request_of (Size path) = size (string_bytes path)
 request_of (Evict max_age) = evict max_age
+
+-- and what one asks for whose texts are borrowed
+abbrev pub asked_by : CommandRef → Request
+asked_by (lent.Write path text) = write path.now text.now
+asked_by (lent.Eval script) = eval script.now
+asked_by (lent.Size path) = size path.now
+asked_by (lent.Evict max_age) = evict max_age
 
 -- a path that `write` can name: of at least one byte, and without a blank
 abbrev pub IsWord : List ℕ → Type 0

@@ -74,6 +74,9 @@ fn fault_text(fault: CalcFault) -> &'static str
     }
 }
 
+/// The bytes that the longest line of a value needs: `miss not a number` and its end.
+const VALUE_ROOM: usize = 18;
+
 /// The line of a script's value.
 fn value_text(
     alloc: Global,
@@ -83,11 +86,13 @@ fn value_text(
     ensures { IfOk result (λ text. string_bytes text
         ≡ found.now ++ text_of_value value ++ 10 ∷ []) }
 {
+    let mut text = String::with_capacity(alloc, VALUE_ROOM)?;
     match value {
-        Ok(number) => format!(in alloc; "{found}{number}\n"),
+        Ok(number) => write!(text, "{found}{number}\n")?,
         Err(fault) => {
             let fault = fault_text(fault);
-            format!(in alloc; "{found}{fault}\n")
+            write!(text, "{found}{fault}\n")?;
         }
     }
+    Ok(text)
 }

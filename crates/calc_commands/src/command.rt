@@ -1,6 +1,6 @@
 //! What a line asks for.
-ghost use Rattle.std.specs.Prelude.{ℕ, IfOk, MatchOption};
-ghost use Rattle.calc_commands.specs.Requests.{IsNumber, IsLineOf, IsNoCommand, request_of};
+ghost use Rattle.std.specs.Prelude.{◌≡◌, ℕ, IfOk, MatchOption};
+ghost use Rattle.calc_commands.specs.Requests.{IsNumber, IsLineOf, IsNoCommand, request_of, asked_by};
 
 use std::alloc::{AllocError, Global};
 
@@ -17,6 +17,19 @@ pub enum Command {
     Evict(usize),
 }
 
+/// A command whose texts are borrowed, of a line or of a `Command`.
+#[derive(Clone, Copy, Debug, PartialEq, Eq)]
+pub enum CommandRef<'a> {
+    /// Writes a text to the file at a path: the path, then the text.
+    Write(&'a str, &'a str),
+    /// Asks for the value of a script.
+    Eval(&'a str),
+    /// Asks for the size of the file at a path.
+    Size(&'a str),
+    /// Drops what was kept of scripts and of sizes whose age is the bound or more; the rest grows one older.
+    Evict(usize),
+}
+
 /// The number that digits alone write, where a `usize` holds it.
 fn number_of(digits: &str) -> Option<usize>
     ensures { MatchOption result ((n : ℕ) → ¬ IsNumber digits.now n) (IsNumber digits.now) }
@@ -27,38 +40,84 @@ fn number_of(digits: &str) -> Option<usize>
     digits.parse().ok()
 }
 
-impl Command {
+impl<'a> CommandRef<'a> {
     /// The command that a line asks for, or `None` where it asks for nothing. The line comes without its end.
     ///
     /// `write PATH TEXT` has as PATH all up to the next blank, at least one character, and as TEXT all after that
     /// blank, which is empty where there is none. `eval SCRIPT` and `size PATH` have all after their first blank, which
     /// may be nothing. `evict N` has digits alone after its blank, at least one, and any number of zeros before the
-    /// others; they write a number that a `usize` holds. An error says that there was no memory for its texts. It takes
-    /// time for the line's length, and memory for the texts, which are copied.
-    pub fn parse(alloc: Global, line: &str) -> Result<Option<Command>, AllocError>
-        ensures { IfOk result (λ found. MatchOption found (IsNoCommand line.now)
-            (λ command. IsLineOf line.now (request_of command))) }
+    /// others; they write a number that a `usize` holds.
+    pub fn parse(line: &'a str) -> Option<Self>
+        ensures { MatchOption result (IsNoCommand line.now)
+            (λ command. IsLineOf line.now (asked_by command)) }
     {
         if let Some(rest) = line.strip_prefix("write ") {
             let (path, text) = rest.split_once(' ').unwrap_or((rest, ""));
             if path.is_empty() {
-                return Ok(None);
+                return None;
             }
-            let path = String::from_str(alloc, path)?;
-            let text = String::from_str(alloc, text)?;
-            return Ok(Some(Command::Write(path, text)));
+            return Some(CommandRef::Write(path, text));
         }
         if let Some(script) = line.strip_prefix("eval ") {
-            let script = String::from_str(alloc, script)?;
-            return Ok(Some(Command::Eval(script)));
+            return Some(CommandRef::Eval(script));
         }
         if let Some(digits) = line.strip_prefix("evict ") {
-            return Ok(number_of(digits).map(Command::Evict));
+            let max_age = number_of(digits)?;
+            return Some(CommandRef::Evict(max_age));
         }
-        let Some(path) = line.strip_prefix("size ") else {
-            return Ok(None);
-        };
-        let path = String::from_str(alloc, path)?;
-        Ok(Some(Command::Size(path)))
+        let path = line.strip_prefix("size ")?;
+        Some(CommandRef::Size(path))
+    }
+
+    /// The command with texts of its own, which are copied. An error says that there was no memory for them.
+    pub fn to_owned(self, alloc: Global) -> Result<Command, AllocError>
+        ensures { IfOk result (λ command. request_of command ≡ asked_by self.entry) }
+    {
+        match self {
+            CommandRef::Write(path, text) => {
+                let path = String::from_str(alloc, path)?;
+                let text = String::from_str(alloc, text)?;
+                Ok(Command::Write(path, text))
+            }
+            CommandRef::Eval(script) => {
+                let script = String::from_str(alloc, script)?;
+                Ok(Command::Eval(script))
+            }
+            CommandRef::Size(path) => {
+                let path = String::from_str(alloc, path)?;
+                Ok(Command::Size(path))
+            }
+            CommandRef::Evict(max_age) => Ok(Command::Evict(max_age)),
+        }
+    }
+}
+
+impl Command {
+    /// The command that a line asks for, as `CommandRef::parse` finds it, with copies of its texts.
+    ///
+    /// An error says that there was no memory for them.
+    pub fn parse(alloc: Global, line: &str) -> Result<Option<Command>, AllocError>
+        ensures { IfOk result (λ found. MatchOption found (IsNoCommand line.now)
+            (λ command. IsLineOf line.now (request_of command))) }
+    {
+        match CommandRef::parse(line) {
+            Some(command) => {
+                let own = command.to_owned(alloc)?;
+                Ok(Some(own))
+            }
+            None => Ok(None),
+        }
+    }
+
+    /// The command with its texts borrowed.
+    pub fn as_ref(&self) -> CommandRef<'_>
+        ensures { asked_by result ≡ request_of self.now }
+    {
+        match self {
+            Command::Write(path, text) => CommandRef::Write(path.as_str(), text.as_str()),
+            Command::Eval(script) => CommandRef::Eval(script.as_str()),
+            Command::Size(path) => CommandRef::Size(path.as_str()),
+            Command::Evict(max_age) => CommandRef::Evict(*max_age),
+        }
     }
 }

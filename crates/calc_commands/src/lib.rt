@@ -19,4 +19,4 @@ pub mod answer;
 pub mod command;
 
 pub use answer::Answer;
-pub use command::Command;
+pub use command::{Command, CommandRef};

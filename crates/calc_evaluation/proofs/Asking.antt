@@ -37,11 +37,12 @@ use Rattle.calc_files.specs.declared.files.Files.{Files}
 use Rattle.calc_files.specs.declared.files.FileCall.TheVariants.{Read}
 use Rattle.calc_files.specs.Files.{JoinedCall, JoinedAnswer, with_key, answers_of}
 use Rattle.calc_files.specs.Joined.{FilesFit, same_call, same_answer, same_key, touches, with_files}
-use Rattle.calc_files.proofs.FileCalls.{same_shared, key_bytes}
+use Rattle.calc_files.proofs.FileCalls.{same_shared}
 use Rattle.calc_files.proofs.JoinedCalls.{tests, was_early}
 use Rattle.calc_files.proofs.WhatReadsTell.{files_respect, asked, read}
 use Rattle.calc_scripts.specs.Calls.{RunLeads}
 use Rattle.calc_evaluation.specs.Calls.{moves, EvalReply}
+use Rattle.calc_evaluation.proofs.Evaluations.{same_script}
 use Rattle.calc_evaluation.specs.Evaluations.{In, At, PartComes, OnRead, ScriptAsks, APartAsks, LeftAsk, EvalAsks, Outcomes, evaluating}
 
 -- equal reads are of one path
@@ -72,8 +73,8 @@ answer_is (answer.A u) text h = let z : false ≡ true = h in cc
 answer_is (answer.B t) text h = ap (λ x. second_answer x) (same_shared t text h)
 
 -- the asked calls of `evaluate` tell no equal keys and no equal calls apart
-pub asks_respect : AsksRespect same_key same_call EvalAsks
-asks_respect k j m c d e f h = subst (λ script. ScriptAsks script m d) (key_bytes k.0 j.0 e) (read_alike (ScriptAsksFor (In m) (string_bytes k.0)) c d f h)
+pub asks_respect : AsksRespect (same_key bytes_eq) same_call EvalAsks
+asks_respect k j m c d e f h = subst (λ script. ScriptAsks script m d) (same_script k.0 j.0 e) (read_alike (ScriptAsksFor (In m) k.0) c d f h)
 
 -- one text stands at each path
 pub one_text : (m : JoinedCall → JoinedAnswer) → Respects same_call same_answer m → (path text other : List ℕ) → In m path text → In m path other → text ≡ other
@@ -95,9 +96,9 @@ module _ (files : Files) where
         (settles_absorbed (keyed_calls tests) (keyed_answers tests) (with_key (answers_of files)) now_respects (λ m c. IsTrue (same_call (second_call (Read own)) c)) s.pairs ((second_call (Read own), a.noted) ∷ []) fits.agrees (a.alike, tt) (run_of_one (keyed_calls tests) (keyed_answers tests) (second_call (Read own)) a.noted))
 
     -- the text that was read, and then what its script asked, is what a part asks that calls it
-    pub settles_part : {part path : List ℕ} {key : String Global} {u : Recording JoinedCall JoinedAnswer} {es mid es' : Outcomes} {reply : Reply Outcome} → FilesFit files t
+    pub settles_part : {part path : List ℕ} {u : Recording JoinedCall JoinedAnswer} {es mid es' : Outcomes} {reply : Reply Outcome} → FilesFit files t
         → ((m : JoinedCall → JoinedAnswer) → Respects same_call same_answer m → Agrees same_answer m t.pairs → m (second_call (Read own)) ≡ second_answer text)
-        → (replied : IsReply evaluating (with_files key files) es mid (Took same_call touches t u) reply es') → IsRun same_call same_answer (ScriptAsks text) replied.pairs
+        → (replied : IsReply evaluating (with_files text files) es mid (Took same_call touches t u) reply es') → IsRun same_call same_answer (ScriptAsks text) replied.pairs
         → IsEval part path → string_bytes own ≡ path → Settles same_call same_answer (APartAsks part) nothing_left s.pairs u.pairs
     settles_part {part = part} {path = path} {u = u} fits_t told replied whole is named =
         let calls = keyed_calls tests in
@@ -190,25 +191,23 @@ pub script_run : {script : List ℕ} (ps ts : List (JoinedCall × JoinedAnswer))
 script_run {script = script} ps ts none settles =
     run_from_settles (keyed_calls tests) (keyed_answers tests) (ScriptAsks script) (λ m c d e h. read_alike (ScriptAsksFor (In m) script) c d e h) ts (subst (λ xs. Settles same_call same_answer (ScriptAsks script) nothing_left xs ts) none settles)
 
-pub keys : IsEquivalence same_key
+pub keys : IsEquivalence (same_key bytes_eq)
 keys = search rules
 
 -- so it may be stored under the key of the run
-pub script_settled : {script : List ℕ} (key : String Global) (own : String Global × ⊤) (ps : List (JoinedCall × JoinedAnswer)) → string_bytes key ≡ script → IsTrue (same_key (key, tt) own) → IsRun same_call same_answer (ScriptAsks script) ps → IsNamedRun evaluating own ps
-script_settled {script = script} key own ps named has whole =
-    run_named (keyed_calls tests) (keyed_answers tests) keys EvalAsks asks_respect own ps (subst (λ x. IsRun same_call same_answer (ScriptAsks x) ps) (sym named ∙ key_bytes key own.0 has) whole)
+pub script_settled : {script : List ℕ} (own : List ℕ × ⊤) (ps : List (JoinedCall × JoinedAnswer)) → IsTrue (same_key bytes_eq (script, tt) own) → IsRun same_call same_answer (ScriptAsks script) ps → IsNamedRun evaluating own ps
+script_settled {script = script} own ps has whole =
+    run_named (keyed_calls tests) (keyed_answers tests) keys EvalAsks asks_respect own ps (subst (λ x. IsRun same_call same_answer (ScriptAsks x) ps) (same_script script own.0 has) whole)
 
 -- what a reply rests on is what the script asks for
-pub settled_reply : (files : Files) {script : List ℕ} {key : String Global} {es mid es' : Outcomes} {sent : List (JoinedCall × JoinedAnswer) → List JoinedCall → Type 0} {reply : Reply Outcome} → string_bytes key ≡ script → (replied : IsReply evaluating (with_files key files) es mid sent reply es') → IsRun same_call same_answer (ScriptAsks script) replied.pairs
-settled_reply files {key = key} named replied =
-    subst (λ x. IsRun same_call same_answer (ScriptAsks x) replied.pairs) named (run_from_named (keyed_calls tests) (keyed_answers tests) keys EvalAsks asks_respect (key, tt) replied.pairs replied.settled)
+pub settled_reply : (files : Files) {script : List ℕ} {es mid es' : Outcomes} {sent : List (JoinedCall × JoinedAnswer) → List JoinedCall → Type 0} {reply : Reply Outcome} → (replied : IsReply evaluating (with_files script files) es mid sent reply es') → IsRun same_call same_answer (ScriptAsks script) replied.pairs
+settled_reply files {script = script} replied =
+    run_from_named (keyed_calls tests) (keyed_answers tests) keys EvalAsks asks_respect (script, tt) replied.pairs replied.settled
 
 -- the reply to a run, which rests on what it recorded
-pub replied_run : (files : Files) {script : List ℕ} {key : String Global} {es mid es' : Outcomes} {begun : PendingRun (String Global × ⊤) JoinedCall JoinedAnswer} {t : Recording JoinedCall JoinedAnswer} {S : Type 0} (took : S → S → List (JoinedCall × JoinedAnswer) → List JoinedCall → Type 0) (lates : S → S → Type 0) {i j : S} {output : Outcome} {reply : Reply Outcome} → string_bytes key ≡ script → Begins evaluating es (with_files key files) begun → RunLeads (At (answers_of files)) (moves files) script es mid
+pub replied_run : (files : Files) {script : List ℕ} {es mid es' : Outcomes} {begun : PendingRun (List ℕ × ⊤) JoinedCall JoinedAnswer} {t : Recording JoinedCall JoinedAnswer} {S : Type 0} (took : S → S → List (JoinedCall × JoinedAnswer) → List JoinedCall → Type 0) (lates : S → S → Type 0) {i j : S} {output : Outcome} {reply : Reply Outcome} → Begins evaluating es (with_files script files) begun → RunLeads (At (answers_of files)) (moves files) script es mid
     → t.late ≡ false → Agrees same_answer (with_key (answers_of files)) t.pairs → Stands evaluating (came_to (recorded begun t) output) → Finished evaluating mid (recorded begun t) (TookAs took lates t.late i j) output reply es' → EvalReply files script es (took i j) reply es'
-replied_run files {key = key} {mid = mid} {t = t} took lates named is calls early agrees stands done = record {
-  key = key;
-  names = named;
+replied_run files {mid = mid} {t = t} took lates is calls early agrees stands done = record {
   mid = mid;
   calls = λ _. calls;
   is_reply = reply_by_run took lates {t = t} is early agrees stands done;

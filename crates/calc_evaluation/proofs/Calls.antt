@@ -1,7 +1,6 @@
 -- How calls of scripts lead from entries to entries: each reply does, and no entry is lost.
-use Rattle.std.proofs.Common.{◌≡◌, true, false, ℕ, List, ℤ, String, string_bytes, refl, subst, inl, inr}
+use Rattle.std.proofs.Common.{◌≡◌, true, false, ℕ, List, ℤ, refl, subst, inl, inr}
 use Rattle.std.specs.Bool.{⊤}
-use Rattle.std.specs.Global.{Global}
 use Rattle.comemo.specs.Begin.{PendingRun, IsRun}
 use Rattle.comemo.specs.Meaning.{Run, run}
 use Rattle.comemo.specs.Called.{Grows}
@@ -15,8 +14,7 @@ use Rattle.calc_files.specs.Files.{JoinedCall, JoinedAnswer, answers_of}
 use Rattle.calc_files.specs.Joined.{with_files}
 use Rattle.calc_evaluation.specs.Evaluations.{At, Comes, Outcomes, evaluating}
 use Rattle.calc_evaluation.specs.Calls.{Missed, RunEnded, moves, EvalReply}
-use Rattle.calc_evaluation.proofs.Evaluations.{script_given}
-use Rattle.calc_files.proofs.FileCalls.{key_bytes}
+use Rattle.calc_evaluation.proofs.Evaluations.{same_script, script_given}
 
 -- calls of scripts lose no entry
 module _ (files : Files) where
@@ -25,7 +23,7 @@ module _ (files : Files) where
 
   mutual
     pub call_grows : {script : List ℕ} {es es' : Outcomes} → CallLeads at (moves files) script es es' → Grows es es'
-    call_grows (is_hit {s = es} {t = es'} hit) = grows_by_touch evaluating (with_files hit.key files) es es' hit.came.touched
+    call_grows (is_hit {s = es} {t = es'} hit) = grows_by_touch evaluating (with_files _ files) es es' hit.came.touched
     call_grows (is_run {s = es} {m = mid} {t = es'} missed run ended) =
         grows_on es mid es' (parts_grow run) (grows_by_ends evaluating mid ended.ran ended.reply es' ended.ends)
 
@@ -42,7 +40,7 @@ module _ (files : Files) where
   mutual
     pub failed_call_grows : {script : List ℕ} {es es' : Outcomes} → CallFails at (moves files) script es es' → Grows es es'
     failed_call_grows (is_refused {s = es} {t = es'} (inl same)) = grows_not es es' same
-    failed_call_grows (is_refused {s = es} {t = es'} (inr (key, names, touched))) = grows_by_touch evaluating (with_files key files) es es' touched
+    failed_call_grows (is_refused {s = es} {t = es'} (inr touched)) = grows_by_touch evaluating (with_files _ files) es es' touched
     failed_call_grows (is_broken missed run) = failed_parts_grow run
     failed_call_grows (has_no_end missed run) = parts_grow run
 
@@ -55,28 +53,26 @@ module _ (files : Files) where
     failed_parts_grow (after_number {s = es} {m = mid} {t = es'} means fits part rest) = grows_on es mid es' (part_grows part) (failed_parts_grow rest)
 
 -- a run that began missed
-pub missed_by_run : (files : Files) {script : List ℕ} {es : Outcomes} {key : String Global} {begun : PendingRun (String Global × ⊤) JoinedCall JoinedAnswer} → string_bytes key ≡ script → IsRun evaluating es (with_files key files) begun → Missed files script es
-missed_by_run files {key = key} names run = record { key = key; names = names; none = run.none refl }
+pub missed_by_run : (files : Files) {script : List ℕ} {es : Outcomes} {begun : PendingRun (List ℕ × ⊤) JoinedCall JoinedAnswer} → IsRun evaluating es (with_files script files) begun → Missed files script es
+missed_by_run files run = run.none refl
 
 -- a reply led on, by its hit or by its run
 pub led_by_reply : (files : Files) {script : List ℕ} {es es' : Outcomes} {sent : List (JoinedCall × JoinedAnswer) → List JoinedCall → Type 0} {reply : Reply Outcome} → EvalReply files script es sent reply es' → CallLeads (At (answers_of files)) (moves files) script es es'
 led_by_reply files {script = script} {es = es} {es' = es'} {reply = reply} is =
     let replied = is.is_reply in
-    let ran : Run (String Global × ⊤) JoinedCall JoinedAnswer Outcome = run (is.key, tt) replied.pairs reply.output replied.writes in
+    let ran : Run (List ℕ × ⊤) JoinedCall JoinedAnswer Outcome = run (script, tt) replied.pairs reply.output replied.writes in
     elim replied.came [
-      | inl hit ↦ is_hit (record { key = is.key; names = is.names; found = ran; comes_to = script_given files is.names replied; came = hit.1 })
+      | inl hit ↦ is_hit (record { found = ran; comes_to = script_given files replied; came = hit.1 })
       | inr came ↦
-          let missed : Missed files script es = record { key = is.key; names = is.names; none = came.none refl } in
+          let missed : Missed files script es = came.none refl in
           let ended : RunEnded files script is.mid es' = record {
-            key = is.key;
-            names = is.names;
             ran = record ran { key = came.own };
             has_key = came.has_key;
-            comes_to = script_given files is.names replied;
+            comes_to = script_given files replied;
             agrees = replied.agrees;
             stands = λ m r a.
                 let stands = replied.stands m r a in
-                (stands.0, subst (λ script. Comes m script reply.output) (key_bytes is.key came.own.0 came.has_key) stands.1);
+                (stands.0, subst (λ script. Comes m script reply.output) (same_script script came.own.0 came.has_key) stands.1);
             reply = reply.how;
             enabled = λ same. let off : true ≡ false = came.disabled.0 same in cc;
             early = came.early;

@@ -1,5 +1,5 @@
 -- What a part of a script comes to where it calls another one, and what a run of a script learnt.
-use Rattle.std.proofs.Common.{◌≡◌, ◌≤◌, true, false, IsTrue, ℕ, List, [], ◌++◌, Result, Ok, Err, IsErrAnd, ◌∙◌, ◌↔◌, ◌≢◌, String, string_bytes, refl, sym, ap, subst, append-nil}
+use Rattle.std.proofs.Common.{◌≡◌, ◌≤◌, ◌&&◌, rules, true, false, IsTrue, ℕ, List, [], ◌++◌, Result, Ok, Err, IsErrAnd, ◌∙◌, ◌↔◌, ◌≢◌, String, string_bytes, bytes_eq, refl, sym, ap, subst, append-nil}
 use Rattle.std.specs.Bool.{⊤}
 use Rattle.std.specs.Global.{Global}
 use Rattle.comemo.specs.Answers.{Respects, Agrees}
@@ -23,8 +23,14 @@ use Rattle.calc_files.specs.Joined.{FilesFit}
 use Rattle.calc_files.specs.declared.files.FileCall.TheVariants.{Read}
 use Rattle.calc_files.proofs.WhatReadsTell.{files_respect}
 use Rattle.calc_files.specs.Joined.{same_call, same_answer, same_key, touches, with_files}
-use Rattle.calc_files.proofs.FileCalls.{key_bytes}
 use Rattle.calc_files.proofs.JoinedCalls.{tests, still_early, was_early}
+
+-- equal keys are of one script
+pub same_script : (a b : List ℕ) → IsTrue (bytes_eq a b && true) → a ≡ b
+same_script a b h = search rules
+
+pub script_alike : (a b : List ℕ) → a ≡ b → IsTrue (bytes_eq a b && true)
+script_alike a b h = search rules
 
 -- what was learnt before is still known, and what is learnt in the end is this
 pub learns_on : {s t u : Recording JoinedCall JoinedAnswer} {P Q R : (JoinedCall → JoinedAnswer) → Type 0} → Learns same_call same_answer s t P → Learns same_call same_answer t u Q → ((m : JoinedCall → JoinedAnswer) → P m → Q m → R m) → Learns same_call same_answer s u R
@@ -46,7 +52,7 @@ pub learns_nothing : (s : Recording JoinedCall JoinedAnswer) {P : (JoinedCall �
 learns_nothing s p = record { before = λ m f. f; told = λ m f. p m }
 
 -- what a call of a script gave a recording
-module _ (files : Files) {t u : Recording JoinedCall JoinedAnswer} {key : String Global} {es mid es' : Outcomes} {reply : Reply Outcome} (replied : IsReply evaluating (with_files key files) es mid (Took same_call touches t u) reply es') where
+module _ (files : Files) {t u : Recording JoinedCall JoinedAnswer} {script : List ℕ} {es mid es' : Outcomes} {reply : Reply Outcome} (replied : IsReply evaluating (with_files script files) es mid (Took same_call touches t u) reply es') where
   given : Agrees same_answer (with_key (answers_of files)) replied.gives.given
   given = (replied.gives.agreeing (with_key (answers_of files)) (files_respect files)).1 replied.agrees
 
@@ -56,7 +62,7 @@ module _ (files : Files) {t u : Recording JoinedCall JoinedAnswer} {key : String
   pub fits_call : FilesFit files t → FilesFit files u
   fits_call fits = record { whole = replied.gives.are_sent.whole ∙ fits.whole; early = still_early replied.gives.given replied.writes replied.gives.are_sent fits.early; respects = fits.respects; agrees = (ran fits.agrees).agrees }
 
-  pub learns_call : FilesFit files t → Learns same_call same_answer t u (λ m. Comes m (string_bytes key) reply.output)
+  pub learns_call : FilesFit files t → Learns same_call same_answer t u (λ m. Comes m script reply.output)
   learns_call fits = record {
     before = λ m f. record { whole = sym replied.gives.are_sent.whole ∙ f.whole; early = was_early replied.gives.given replied.writes replied.gives.are_sent f.early; respects = f.respects; agrees = (ran fits.agrees).before m f.respects f.agrees };
     told = λ m f. (replied.stands m f.respects ((replied.gives.agreeing m f.respects).0 ((ran fits.agrees).told m f.respects f.agrees))).1;
@@ -68,20 +74,18 @@ module _ (files : Files) {t u : Recording JoinedCall JoinedAnswer} {key : String
       replied.gives.are_sent.writes ∙ ap (λ ws. t.writes ++ ws) none ∙ append-nil t.writes
 
 -- what a call gave its sink stands for what it gave its caller
-pub script_given : {sent : List (JoinedCall × JoinedAnswer) → List JoinedCall → Type 0} (files : Files) {key : String Global} {script : List ℕ} {es mid es' : Outcomes} {reply : Reply Outcome} → string_bytes key ≡ script → IsReply evaluating (with_files key files) es mid sent reply es' → ComesTo (answers_of files) script reply.output
-script_given files {reply = reply} same replied =
-    subst (λ script. ComesTo (answers_of files) script reply.output) same (replied.stands (with_key (answers_of files)) (files_respect files) replied.agrees).1
+pub script_given : {sent : List (JoinedCall × JoinedAnswer) → List JoinedCall → Type 0} (files : Files) {script : List ℕ} {es mid es' : Outcomes} {reply : Reply Outcome} → IsReply evaluating (with_files script files) es mid sent reply es' → ComesTo (answers_of files) script reply.output
+script_given files replied = (replied.stands (with_key (answers_of files)) (files_respect files) replied.agrees).1
 
 -- a part that calls a script comes to what that script comes to
-pub part_called : (key : String Global) (text : List ℕ) {part path : List ℕ} {own : String Global} {outcome : Outcome} → IsEval part path → string_bytes own ≡ path → string_bytes key ≡ text → (m : JoinedCall → JoinedAnswer) → m (second_call (Read own)) ≡ second_answer text → Comes m (string_bytes key) outcome → PartComes m part outcome
-part_called key text {own = own} {outcome = outcome} is named same m told comes =
-    is_eval is (own, named, told) (subst (λ script. Comes m script outcome) same comes)
+pub part_called : (text : List ℕ) {part path : List ℕ} {own : String Global} {outcome : Outcome} → IsEval part path → string_bytes own ≡ path → (m : JoinedCall → JoinedAnswer) → m (second_call (Read own)) ≡ second_answer text → Comes m text outcome → PartComes m part outcome
+part_called text {own = own} is named m told comes = is_eval is (own, named, told) comes
 
 -- what was learnt of a script, which is the run's key, stands where the run is finished
-pub run_stands : (script : List ℕ) (s t : Recording JoinedCall JoinedAnswer) (key : String Global) (own : String Global × ⊤) (outcome : Outcome) → string_bytes key ≡ script → IsTrue (same_key (key, tt) own) → s.writes ≡ [] → t.writes ≡ s.writes → Learns same_call same_answer s t (λ m. Comes m script outcome) → t.whole ≡ true → t.late ≡ false → (m : JoinedCall → JoinedAnswer) → Respects same_call same_answer m → Agrees same_answer m t.pairs → IsOutcome own m outcome t.writes
-run_stands script s t key own outcome same has none writes learns whole early m respects agrees = (
+pub run_stands : (script : List ℕ) (s t : Recording JoinedCall JoinedAnswer) (own : List ℕ × ⊤) (outcome : Outcome) → IsTrue (same_key bytes_eq (script, tt) own) → s.writes ≡ [] → t.writes ≡ s.writes → Learns same_call same_answer s t (λ m. Comes m script outcome) → t.whole ≡ true → t.late ≡ false → (m : JoinedCall → JoinedAnswer) → Respects same_call same_answer m → Agrees same_answer m t.pairs → IsOutcome own m outcome t.writes
+run_stands script s t own outcome has none writes learns whole early m respects agrees = (
   writes ∙ none,
-  subst (λ script. Comes m script outcome) (sym same ∙ key_bytes key own.0 has) (learns.told m (record { whole = whole; early = early; respects = respects; agrees = agrees })),
+  subst (λ script. Comes m script outcome) (same_script script own.0 has) (learns.told m (record { whole = whole; early = early; respects = respects; agrees = agrees })),
 )
 
 abbrev fault_or : {A : Type 0} → EvalFault → Result A EvalFault → EvalFault

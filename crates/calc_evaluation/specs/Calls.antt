@@ -1,6 +1,5 @@
 -- What a call of a script replies, and how it moves what a cache of outcomes keeps, with the scripts that its run calls.
-use Rattle.std.specs.Prelude.{◌≡◌, ◌≢◌, ◌⊎◌, ⊤, ℕ, List, IsTrue, String, string_bytes}
-use Rattle.std.specs.Global.{Global}
+use Rattle.std.specs.Prelude.{◌≡◌, ◌≢◌, ◌⊎◌, ⊤, ℕ, List, IsTrue, bytes_eq}
 use Rattle.comemo.specs.Answers.{Agrees}
 use Rattle.comemo.specs.Meaning.{Run}
 use Rattle.comemo.specs.Cache.{Stands, HasNone, Touches}
@@ -19,29 +18,23 @@ use Rattle.calc_evaluation.specs.Evaluations.{At, ComesTo, Outcomes, evaluating}
 module _ (files : Files) (script : List ℕ) where
   -- an entry of es under the script agrees with the files, its outcome is what the script comes to, and it was touched
   pub record HitLed (es es' : Outcomes) : Type 0 where
-    pub key : String Global
-    pub names : string_bytes key ≡ script
-    pub found : Run (String Global × ⊤) JoinedCall JoinedAnswer Outcome
+    pub found : Run (List ℕ × ⊤) JoinedCall JoinedAnswer Outcome
     pub comes_to : ComesTo (answers_of files) script found.output
-    pub came : CameByHit evaluating (with_files key files) es found es'
+    pub came : CameByHit evaluating (with_files script files) es found es'
 
   -- the entries are as they were; or one of es under the script agrees with the files, and was touched
   abbrev pub OnlyTouches : Outcomes → Outcomes → Type 0
-  OnlyTouches es es' = (es' ≡ es) ⊎ ((key : String Global) × (string_bytes key ≡ script) × Touches evaluating es (with_files key files) es')
+  OnlyTouches es es' = (es' ≡ es) ⊎ Touches evaluating es (with_files script files) es'
 
   -- no entry of es under the script agrees with the files
-  pub record Missed (es : Outcomes) : Type 0 where
-    pub key : String Global
-    pub names : string_bytes key ≡ script
-    pub none : HasNone evaluating es (with_files key files)
+  abbrev pub Missed : Outcomes → Type 0
+  Missed es = HasNone evaluating es (with_files script files)
 
   -- a run of the script, which is to be kept, ended with what the script comes to, by reads that the files agree with and by
   -- which alone that is right; which took the entries from es to es' in one of the ways in which a run ends
   pub record RunEnded (es es' : Outcomes) : Type 0 where
-    pub key : String Global
-    pub names : string_bytes key ≡ script
-    pub ran : Run (String Global × ⊤) JoinedCall JoinedAnswer Outcome
-    pub has_key : IsTrue (same_key (key, tt) ran.key)
+    pub ran : Run (List ℕ × ⊤) JoinedCall JoinedAnswer Outcome
+    pub has_key : IsTrue (same_key bytes_eq (script, tt) ran.key)
     pub comes_to : ComesTo (answers_of files) script ran.output
     pub agrees : Agrees same_answer (with_key (answers_of files)) ran.pairs
     pub stands : Stands evaluating ran
@@ -58,8 +51,6 @@ moves files = record { hit = HitLed files; missed = Missed files; ended = RunEnd
 -- called, one after the other, led from es to mid, and the run ended at mid, after which the entries are es'. As a reply of a
 -- function that names its calls, it rests on reads that are what the script asks for
 pub record EvalReply (files : Files) (script : List ℕ) (es : Outcomes) (sent : List (JoinedCall × JoinedAnswer) → List JoinedCall → Type 0) (reply : Reply Outcome) (es' : Outcomes) : Type 0 where
-  pub key : String Global
-  pub names : string_bytes key ≡ script
   pub mid : Outcomes
   pub calls : reply.how ≢ how.Hit → RunLeads (At (answers_of files)) (moves files) script es mid
-  pub is_reply : IsReply evaluating (with_files key files) es mid sent reply es'
+  pub is_reply : IsReply evaluating (with_files script files) es mid sent reply es'

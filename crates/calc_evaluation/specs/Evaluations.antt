@@ -1,5 +1,5 @@
 -- What a script comes to and what it asks for, by what its files answer.
-use Rattle.std.specs.Prelude.{◌≡◌, ⊤, ℕ, List, ℤ, String, string_bytes}
+use Rattle.std.specs.Prelude.{◌≡◌, ⊤, ℕ, List, ℤ, String, string_bytes, bytes_eq}
 use Rattle.std.specs.Global.{Global}
 use Rattle.comemo.specs.Cache.{Entries}
 use Rattle.comemo.specs.Meaning.{Meaning, names, reading}
@@ -51,20 +51,20 @@ abbrev pub LeftAsk : List (List ℕ) → ℤ → (JoinedCall → JoinedAnswer) �
 LeftAsk parts sum m c = OnRead (AsksIn (In m) parts sum) c
 
 -- what a call at this key asks: the script's reads
-abbrev pub EvalAsks : String Global × ⊤ → (JoinedCall → JoinedAnswer) → JoinedCall → Type 0
-EvalAsks key = ScriptAsks (string_bytes key.0)
+abbrev pub EvalAsks : List ℕ × ⊤ → (JoinedCall → JoinedAnswer) → JoinedCall → Type 0
+EvalAsks key = ScriptAsks key.0
 
 -- the part calls a script that goes deeper than the limit
 abbrev pub CallsDeep : (FileCall → List ℕ) → List ℕ → ℕ → Type 0
 CallsDeep m part limit = (path text : List ℕ) × IsEval part path × At m path text × Deep (At m) text limit
 
 -- what the memoized function means: there are no writes, and the script comes to the outcome
-abbrev pub IsOutcome : String Global × ⊤ → (JoinedCall → JoinedAnswer) → Outcome → List JoinedCall → Type 0
-IsOutcome = reading (λ key m outcome. Comes m (string_bytes key.0) outcome)
+abbrev pub IsOutcome : List ℕ × ⊤ → (JoinedCall → JoinedAnswer) → Outcome → List JoinedCall → Type 0
+IsOutcome = reading (λ key m outcome. Comes m key.0 outcome)
 
-abbrev pub evaluating : Meaning (String Global × ⊤) JoinedCall JoinedAnswer Outcome
-evaluating = record (joined IsOutcome) { naming = names EvalAsks }
+abbrev pub evaluating : Meaning (List ℕ × ⊤) JoinedCall JoinedAnswer Outcome
+evaluating = record (joined bytes_eq IsOutcome) { naming = names EvalAsks }
 
 -- what a cache of outcomes keeps
 abbrev pub Outcomes : Type 0
-Outcomes = Entries (String Global × ⊤) JoinedCall JoinedAnswer Outcome
+Outcomes = Entries (List ℕ × ⊤) JoinedCall JoinedAnswer Outcome

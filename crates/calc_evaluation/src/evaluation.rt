@@ -1,7 +1,6 @@
 //! The memoized value of a script.
-ghost use Rattle.std.specs.Prelude.{◌≡◌, ◌≢◌, ⊤, ◌<◌, ◌≤◌, ◌↔◌, ℕ, List, String, string_bytes, IfOk, OnOk, OnErr, Err};
+ghost use Rattle.std.specs.Prelude.{◌≡◌, ◌≢◌, ⊤, ◌<◌, ◌≤◌, ◌↔◌, ℕ, List, IfOk, OnOk, OnErr, Err};
 ghost use Rattle.std.proofs.Common.{rules};
-ghost use Rattle.std.specs.Global.{Global};
 ghost use Rattle.comemo.specs.Recording.{Took};
 ghost use Rattle.comemo.specs.Function.{Learns};
 ghost use Rattle.comemo.specs.Begin.{IsRun};
@@ -30,13 +29,14 @@ use std::alloc::Global;
 
 /// What a script comes to: what the cache of `evaluate` is the cache of, as `CacheData<Eval>`.
 ///
-/// Its key is the script's text, which is joined with the files; its calls are reads of files.
+/// Its key is the script's text, which is joined with the files and shares the bytes of the file where it is one's; its
+/// calls are reads of files.
 pub struct Eval;
 
 impl Memo for Eval {
     type Call = MultiCall<(), FileCall>;
 
-    type Key = (String, ());
+    type Key = (Text, ());
 
     type Answer = MultiAnswer<(), Text>;
 
@@ -69,16 +69,15 @@ fn begin_script<S: Sink<Call = JoinedCall, Answer = JoinedAnswer>>(
     alloc: Global,
     cache: &mut CacheData<Eval>,
     files: &Tracked<'_, Files>,
-    script: &str,
+    script: &Text,
     limit: u64,
     sink: &mut S,
 ) -> Result<Begun<Eval>, EvalFault>
-    ensures begun { IfOk result (λ b. (key : String Global) × (string_bytes key ≡ script.now)
-        × OnBegun b (λ outcome. (outcome.height ≤ limit)
-        × IsReply evaluating (with_files key files.now) cache.old cache.old
+    ensures begun { IfOk result (λ b. OnBegun b (λ outcome. (outcome.height ≤ limit)
+        × IsReply evaluating (with_files script.now files.now) cache.old cache.old
         (S.took sink.old sink.new) (record { output = outcome; how = How.Hit }) cache.new)
         (λ run. (0 < limit) × (sink.new ≡ sink.old)
-        × IsRun evaluating cache.old (with_files key files.now) run)) }
+        × IsRun evaluating cache.old (with_files script.now files.now) run)) }
     ensures kept { IfOk result (λ b. OnBegun b (λ _. ⊤) (λ _. cache.new ≡ cache.old)) }
     ensures err_keeps { OnErr result (OnlyTouches files.now script.now cache.old cache.new) }
     ensures deep { result ≡ Err EvalFault.TooDeep
@@ -90,7 +89,7 @@ fn begin_script<S: Sink<Call = JoinedCall, Answer = JoinedAnswer>>(
         sink.spoil();
         return Err(EvalFault::TooDeep);
     }
-    let Ok(key) = String::from_str(alloc, script) else {
+    let Ok(key) = script.clone() else {
         sink.spoil();
         return Err(EvalFault::Memory);
     };
@@ -175,7 +174,7 @@ fn evaluate_part(
             let Ok(text) = Files::read(alloc, files, path, recording) else {
                 return Err(EvalFault::Memory);
             };
-            let reply = evaluate_within(alloc, cache, files, text.as_str(), limit, recording)?;
+            let reply = evaluate_within(alloc, cache, files, &text, limit, recording)?;
             Ok(reply.output)
         }
     }
@@ -187,7 +186,7 @@ fn run_script(
     alloc: Global,
     cache: &mut CacheData<Eval>,
     files: &Tracked<'_, Files>,
-    script: &str,
+    script: &Text,
     limit: u64,
     recording: &mut Constraint<JoinedCall, JoinedAnswer>,
 ) -> Result<Outcome, EvalFault>
@@ -209,7 +208,7 @@ fn run_script(
     ensures deep { result ≡ Err EvalFault.TooDeep
         → Deep (At (answers_of files.now)) script.now limit }
 {
-    let mut parts = Parts::new(script);
+    let mut parts = Parts::new(script.as_str());
     let mut total = Total::new();
     while let Some(part) = parts.next() {
         let outcome = evaluate_part(alloc, cache, files, part, limit - 1, recording)?;
@@ -226,7 +225,7 @@ fn evaluate_within(
     alloc: Global,
     cache: &mut CacheData<Eval>,
     files: &Tracked<'_, Files>,
-    script: &str,
+    script: &Text,
     limit: u64,
     recording: &mut Constraint<JoinedCall, JoinedAnswer>,
 ) -> Result<Reply<Outcome>, EvalFault>
@@ -244,6 +243,31 @@ fn evaluate_within(
     evaluate_script!(alloc, cache, files, script, limit, recording)
 }
 
+/// What the script of a text comes to, as `evaluate` says of a script.
+fn evaluate_text<S: Sink<Call = JoinedCall, Answer = JoinedAnswer>>(
+    alloc: Global,
+    cache: &mut CacheData<Eval>,
+    files: &Tracked<'_, Files>,
+    script: &Text,
+    limit: u64,
+    sink: &mut S,
+) -> Result<Reply<Outcome>, EvalFault>
+    ensures outcome { IfOk result (λ reply. ComesTo (answers_of files.now) script.now reply.output
+        × (reply.output.height ≤ limit)) }
+    ensures reply { IfOk result (λ reply. EvalReply files.now script.now cache.old
+        (S.took sink.old sink.new) reply cache.new) }
+    ensures led { OnOk result (CallLeads (At (answers_of files.now)) (moves files.now)
+        script.now cache.old cache.new) }
+    ensures failed { OnErr result (CallFails (At (answers_of files.now)) (moves files.now)
+        script.now cache.old cache.new) }
+    ensures too_deep { result ≢ Err EvalFault.Memory → (result ≡ Err EvalFault.TooDeep)
+        ↔ IsTooDeep (Reads (text_at files.now)) script.now limit }
+    ensures err { OnErr result (BrokeOff same_answer (with_key (answers_of files.now))
+        (⟦<S as Breaking>⟧.breaks_off sink.old sink.new)) }
+{
+    evaluate_script!(alloc, cache, files, script, limit, sink)
+}
+
 /// What a script comes to, kept under the script and what was read of the files.
 ///
 /// Each script that a run calls is a call too, in the same cache and in the turn of its part: a hit there, or a run,
@@ -251,9 +275,10 @@ fn evaluate_within(
 /// run; `Memory` says that there was no memory. Both spoil the sink; what was kept on the way stays.
 ///
 /// Each call, a nested one and a hit too, finds the script by one hash look-up, and follows one stored path: it finds
-/// the text of each file on it in an ordered map of the texts that are kept at its place. It copies the script, and the
-/// path of each such file; their texts are shared. Runs nest on the stack, at most `limit` of them, some 1,160 bytes for
-/// each: 8 MiB last for some 7,000, and a program that goes deeper ends there. comemo's example `calc` has `evaluate`
+/// the text of each file on it in an ordered map of the texts that are kept at its place. It copies the script
+/// for the look-up, and the path of each file that a run reads; the texts of files are shared, as keys too. Runs nest on
+/// the stack, at most `limit` of them, some 1,160 bytes for each: 8 MiB last for some 7,000, and a program that goes
+/// deeper ends there. comemo's example `calc` has `evaluate`
 /// with neither a limit nor faults.
 pub fn evaluate<S: Sink<Call = JoinedCall, Answer = JoinedAnswer>>(
     alloc: Global,
@@ -276,5 +301,11 @@ pub fn evaluate<S: Sink<Call = JoinedCall, Answer = JoinedAnswer>>(
     ensures err { OnErr result (BrokeOff same_answer (with_key (answers_of files.now))
         (⟦<S as Breaking>⟧.breaks_off sink.old sink.new)) }
 {
-    evaluate_script!(alloc, cache, files, script, limit, sink)
+    match Text::from_str(alloc, script) {
+        Ok(text) => evaluate_text(alloc, cache, files, &text, limit, sink),
+        Err(_) => {
+            sink.spoil();
+            Err(EvalFault::Memory)
+        }
+    }
 }

@@ -15,7 +15,7 @@ same_bytes a b h = search rules
 pub same_text : (a b : String Global) → string_bytes a ≡ string_bytes b → IsTrue (string_eq a b)
 same_text a b h = search rules
 
--- the same of two keys, each a text and nothing more
+-- the same of two keys, each a path and nothing more
 pub key_bytes : (a b : String Global) → IsTrue (string_eq a b && true) → string_bytes a ≡ string_bytes b
 key_bytes a b h = search rules
 

@@ -1,6 +1,5 @@
 -- Calls and answers of a key joined with files, and when two are equal.
-use Rattle.std.specs.Prelude.{◌≡◌, Bool, true, false, ◌&&◌, ⊤, List, String, string_eq}
-use Rattle.std.specs.Global.{Global}
+use Rattle.std.specs.Prelude.{◌≡◌, Bool, true, false, ◌&&◌, ⊤, List}
 use Rattle.std.specs.contracts.prelude.UnitPartialEq.TheImpl as unit
 use Rattle.comemo_track.specs.contracts.multi.MultiCallPartialEq.TheImpl as multi_call
 use Rattle.comemo_track.specs.contracts.multi.MultiAnswerPartialEq.TheImpl as multi_answer
@@ -15,26 +14,26 @@ use Rattle.calc_files.specs.contracts.text.Text as text
 use Rattle.calc_files.specs.contracts.text.TextPartialEq.TheImpl as same_text
 use Rattle.calc_files.specs.Files.{JoinedCall, JoinedAnswer, answers_of, with_key}
 
--- the derived tests of joined calls, of their answers, and of keys
+-- the derived tests of joined calls, of their answers, and of keys, each one thing that is told apart by this test
 abbrev pub same_call : JoinedCall → JoinedCall → Bool
 same_call = (multi_call.ghosts denote.Builtin.unit file_call.the_row unit.ghosts unit.dict call.ghosts call.dict).eq
 
 abbrev pub same_answer : JoinedAnswer → JoinedAnswer → Bool
 same_answer = (multi_answer.ghosts denote.Builtin.unit text.the_row unit.ghosts unit.dict same_text.ghosts same_text.dict).eq
 
-abbrev pub same_key : String Global × ⊤ → String Global × ⊤ → Bool
-same_key a b = string_eq a.0 b.0 && true
+abbrev pub same_key : {K : Type 0} → (K → K → Bool) → K × ⊤ → K × ⊤ → Bool
+same_key same a b = same a.0 b.0 && true
 
 -- whether a call touches a read: none does
 abbrev pub touches : JoinedCall → JoinedCall → Bool
 touches = part_touches (λ _ _. false) (λ _ _. false)
 
--- what a function of a text and the files means, where it means this and its outputs are plain values; no call is a write, and it names no asked calls
-abbrev pub joined : {O : Type 0} → (String Global × ⊤ → (JoinedCall → JoinedAnswer) → O → List JoinedCall → Type 0) → Meaning (String Global × ⊤) JoinedCall JoinedAnswer O
-joined def = record { same_call = same_call; same_answer = same_answer; same_key = same_key; is_write = by_part (λ _. false) (λ _. false); is_clone = λ a b. b ≡ a; def = def; naming = unnamed }
+-- what a function of a key and the files means, where it means this and its outputs are plain values; no call is a write, and it names no asked calls
+abbrev pub joined : {K O : Type 0} → (K → K → Bool) → (K × ⊤ → (JoinedCall → JoinedAnswer) → O → List JoinedCall → Type 0) → Meaning (K × ⊤) JoinedCall JoinedAnswer O
+joined same def = record { same_call = same_call; same_answer = same_answer; same_key = same_key same; is_write = by_part (λ _. false) (λ _. false); is_clone = λ a b. b ≡ a; def = def; naming = unnamed }
 
--- its call at a text and these files
-abbrev pub with_files : String Global → Files → Invocation (String Global × ⊤) JoinedCall JoinedAnswer
+-- its call at a key and these files
+abbrev pub with_files : {K : Type 0} → K → Files → Invocation (K × ⊤) JoinedCall JoinedAnswer
 with_files key files = invocation (key, tt) (with_key (answers_of files)) true
 
 -- what is recorded is whole and not late, and agrees with the files

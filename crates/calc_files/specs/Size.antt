@@ -1,5 +1,5 @@
 -- The size of a file.
-use Rattle.std.specs.Prelude.{◌≡◌, ◌≢◌, ⊤, ℕ, List, [], ◌∷◌, String, string_bytes, length}
+use Rattle.std.specs.Prelude.{◌≡◌, ◌≢◌, ⊤, ℕ, List, [], ◌∷◌, String, string_bytes, string_eq, length}
 use Rattle.std.specs.Global.{Global}
 use Rattle.comemo.specs.Cache.{Entries}
 use Rattle.comemo.specs.Meaning.{Meaning, reading}
@@ -22,7 +22,7 @@ abbrev pub IsSizeOf : String Global × ⊤ → (JoinedCall → JoinedAnswer) →
 IsSizeOf = reading (λ key answers out. OnFiles (λ m. IsSize key.0 m out) answers)
 
 abbrev pub sizing : Meaning (String Global × ⊤) JoinedCall JoinedAnswer ℕ
-sizing = joined IsSizeOf
+sizing = joined string_eq IsSizeOf
 
 -- what a cache of sizes keeps
 abbrev pub Sizes : Type 0

@@ -1,6 +1,6 @@
 -- That equal paths have the same size, which the trait asks. It says nothing that a reader must believe.
 use Rattle.std.proofs.Common.{◌≡◌, ◌∙◌, IsTrue, ℕ, String, length, ap, rules}
-use Rattle.std.specs.Prelude.{bytes_eq}
+use Rattle.std.specs.Prelude.{bytes_eq, string_eq}
 use Rattle.std.specs.Bool.{⊤}
 use Rattle.std.specs.Global.{Global}
 use Rattle.comemo.specs.MultiLaws.{second_respects}
@@ -11,7 +11,7 @@ use Rattle.calc_files.specs.Size.{IsSize}
 use Rattle.calc_files.specs.declared.files.FileCall.TheVariants.{Read}
 
 -- a key is a path and nothing more
-pub size_alike : (j k : String Global × ⊤) (m : JoinedCall → JoinedAnswer) (out : ℕ) → Respects same_call same_answer m → IsTrue (same_key j k) → OnFiles (λ n. IsSize j.0 n out) m → OnFiles (λ n. IsSize k.0 n out) m
+pub size_alike : (j k : String Global × ⊤) (m : JoinedCall → JoinedAnswer) (out : ℕ) → Respects same_call same_answer m → IsTrue (same_key string_eq j k) → OnFiles (λ n. IsSize j.0 n out) m → OnFiles (λ n. IsSize k.0 n out) m
 size_alike j k m out respects same is n second =
     let told : IsTrue (bytes_eq (n (Read j.0)) (n (Read k.0))) = second_respects same_call same_answer m n respects second (Read j.0) (Read k.0) (search (rules, same)) in
     let same : n (Read j.0) ≡ n (Read k.0) = search (rules, told) in

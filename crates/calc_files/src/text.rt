@@ -1,13 +1,12 @@
 //! A text that is shared, not copied.
 ghost use Rattle.std.specs.Prelude.{◌≡◌, [], length, bytes_eq, string_bytes, IfOk, refl, Some};
 ghost use Rattle.std.specs.Hash as fed;
-ghost use Rattle.std.specs.Cmp.Lexicographic.{nat_list_eq_equiv};
+ghost use Rattle.std.specs.Cmp.Lexicographic.{nat_list_eq_equiv, bytes_decides};
 ghost use Rattle.calc_files.specs.Order.{digest, by_number, by_number_total, by_number_ties, by_number_po};
 ghost use Rattle.std.specs.Cmp.{partial_equiv_from_equiv};
-ghost use Rattle.std.specs.Cmp.Rules.{hashing};
-ghost use Rattle.std.proofs.Common.{rules};
+ghost use Rattle.std.proofs.Common.{ap};
 
-use std::alloc::AllocError;
+use std::alloc::{AllocError, Global};
 use std::cmp::Ordering;
 use std::fmt;
 use std::fmt::{Debug, Formatter, Write};
@@ -15,10 +14,10 @@ use std::hash::{FoldHasher, Hash, Hasher};
 use std::marker::Model;
 use std::sync::ArcStr;
 
-/// A text whose clones share its bytes. A contract sees the bytes, and by them texts are compared and hashed.
+/// A text whose clones share its bytes. A contract sees the bytes, and by them texts are told apart.
 ///
-/// Its number is kept beside them, and texts are ordered by their numbers first, and only those of one number by their
-/// bytes: so a search among many texts reads the bytes of few, which lie elsewhere.
+/// Its number is kept beside them: it is what a text feeds a hasher, and texts are ordered by their numbers first, and
+/// only those of one number by their bytes. So a search among many texts reads the bytes of few, which lie elsewhere.
 ///
 /// A clone copies no byte and takes no memory, and is refused only where the count of clones is full. The bytes are let
 /// go with the last of them.
@@ -62,6 +61,16 @@ impl Text {
             shared: None,
             number: number_of(""),
         }
+    }
+
+    /// A copy of a text, to be shared.
+    ///
+    /// An error says that there was no memory for it.
+    pub fn from_str(alloc: Global, text: &str) -> Result<Self, AllocError>
+        ensures { IfOk result (λ shared. shared ≡ text.now) }
+    {
+        let own = String::from_str(alloc, text)?;
+        Text::new(own)
     }
 
     /// The text of a `String`, to be shared.
@@ -150,12 +159,12 @@ impl Ord for Text {
 }
 
 impl Hash for Text {
-    ghost hash_input = { fed.str };
+    ghost hash_input = { λ text. fed.u64 (digest text) };
 
-    ghost respects_eq = { Prim.search (hashing, rules) };
+    ghost respects_eq = { λ x y same. ap (λ text. fed.u64 (digest text)) ((bytes_decides x y).0 same) };
 
     fn hash<H: Hasher>(&self, state: &mut H) {
-        self.as_str().hash(state);
+        self.number.hash(state);
     }
 }
 

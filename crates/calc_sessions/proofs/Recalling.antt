@@ -1,10 +1,9 @@
 -- What a session remembers is found again.
-use Rattle.std.proofs.Common.{◌≡◌, ◌∙◌, ◌≤◌, Bool, true, false, List, [], ◌∷◌, ℕ, String, string_bytes, IsTrue, refl, sym, ap, subst, inl, inr, get_or}
+use Rattle.std.proofs.Common.{◌≡◌, ◌∙◌, ◌≤◌, Bool, true, false, List, [], ◌∷◌, ℕ, string_bytes, bytes_eq, IsTrue, refl, sym, ap, subst, inl, inr, get_or}
 use Rattle.std.proofs.lemmas.Bool.{cases_Bool}
 use Rattle.std.proofs.lemmas.List.Elements.{All-cons}
 use Rattle.std.specs.List.{All, Any}
 use Rattle.std.specs.Bool.{⊤}
-use Rattle.std.specs.Global.{Global}
 use Rattle.comemo.specs.Answers.{Respects, Agrees}
 use Rattle.comemo.specs.Sequence.{held}
 use Rattle.comemo.specs.Tree.{Stored}
@@ -31,12 +30,11 @@ use Rattle.calc_files.specs.declared.files.FileCall.{FileCall}
 use Rattle.calc_files.specs.declared.files.FileCall.TheVariants.{Read}
 use Rattle.calc_files.specs.Files.{JoinedCall, JoinedAnswer, Texts, Reads, text_at, answers_of, with_key}
 use Rattle.calc_files.specs.Joined.{same_call, same_answer, same_key}
-use Rattle.calc_files.proofs.FileCalls.{key_alike, key_bytes}
 use Rattle.calc_files.proofs.JoinedCalls.{tests}
 use Rattle.calc_files.proofs.WhatReadsTell.{files_respect}
 use Rattle.calc_evaluation.specs.Evaluations.{In, At, ComesTo, ScriptAsks, EvalAsks, Outcomes, evaluating}
 use Rattle.calc_evaluation.specs.Calls.{EvalReply}
-use Rattle.calc_evaluation.proofs.Evaluations.{reads, text_is}
+use Rattle.calc_evaluation.proofs.Evaluations.{reads, text_is, same_script, script_alike}
 use Rattle.calc_evaluation.proofs.Asking.{keys, same_reads, asks_respect}
 use Rattle.calc_sessions.specs.Sessions.{in_cache, height_limit}
 use Rattle.calc_sessions.specs.Remembered.{Past, remembered_of, RecallsOf, answering, IsKept, Knows}
@@ -67,14 +65,14 @@ module _ (past : Past) (texts : Texts) (stay : (path : List ℕ) → Asks (Reads
   still (call.A u) h = absurd h
   still (call.B (Read own)) h = ap (λ x. second_answer x) (stay (string_bytes own) (asks_map (In (with_key (answering past.texts))) (Reads past.texts) (in_reads past.texts) h))
 
-  entry_still : (e : Stored (String Global × ⊤) JoinedCall JoinedAnswer (Kept Outcome JoinedCall)) → IsNamedRun evaluating e.key e.path → string_bytes e.key.0 ≡ past.script → Agrees same_answer (with_key (answering past.texts)) e.path → Agrees same_answer (with_key (answering texts)) e.path
+  entry_still : (e : Stored (List ℕ × ⊤) JoinedCall JoinedAnswer (Kept Outcome JoinedCall)) → IsNamedRun evaluating e.key e.path → e.key.0 ≡ past.script → Agrees same_answer (with_key (answering past.texts)) e.path → Agrees same_answer (with_key (answering texts)) e.path
   entry_still e run named agrees =
       let m = with_key (answering past.texts) in
       let own = run_from_named (keyed_calls tests) (keyed_answers tests) keys EvalAsks asks_respect e.key e.path run in
       agrees_still m (with_key (answering texts)) e.path (λ c h. still c (subst (λ x. ScriptAsks x m c) named ((own.complete m (respects_with_key tests (answering past.texts) (answering_respects past.texts)) agrees c).1 h))) agrees
 
   module _ (es : Outcomes) (settled : All (λ e. IsNamedRun evaluating e.key e.path) es) (kept : IsKept es past) where
-    entry_due : Any (λ e. (string_bytes e.key.0 ≡ past.script) × Agrees same_answer (with_key (answering texts)) e.path) es
+    entry_due : Any (λ e. (e.key.0 ≡ past.script) × Agrees same_answer (with_key (answering texts)) e.path) es
     entry_due =
         let (i, e, low, at, holds) = kept.there in
         (i, e, low, at, (holds.0, entry_still e (subst (λ x. IsNamedRun evaluating x.key x.path) at (settled i e low)) holds.0 holds.1))
@@ -90,9 +88,9 @@ module _ (files : Files) (past : Past) (stay : (path : List ℕ) → Asks (Reads
     | inl hit ↦ hit.0
     | inr ran ↦
         let (i, e, low, at, holds) = entry_due past (text_at files) stay es settled kept in
-        let none = All-from_under same_key es (replied.key, tt) (λ x. ¬ Agrees same_answer (with_key (answers_of files)) x.path) (ran.none refl) in
-        let own = subst (λ x. IsTrue (same_key x.key (replied.key, tt)) → ¬ Agrees same_answer (with_key (answers_of files)) x.path) at (none i e low) in
-        absurd (own (key_alike e.key.0 replied.key (holds.0 ∙ sym replied.names)) (subst (λ f. Agrees same_answer (with_key f) e.path) (sym (answering_is files)) holds.1))
+        let none = All-from_under (same_key bytes_eq) es (past.script, tt) (λ x. ¬ Agrees same_answer (with_key (answers_of files)) x.path) (ran.none refl) in
+        let own = subst (λ x. IsTrue (same_key bytes_eq x.key (past.script, tt)) → ¬ Agrees same_answer (with_key (answers_of files)) x.path) at (none i e low) in
+        absurd (own (script_alike e.key.0 past.script holds.0) (subst (λ f. Agrees same_answer (with_key f) e.path) (sym (answering_is files)) holds.1))
   ]
 
   -- with the value that is remembered
@@ -127,7 +125,7 @@ knows_on past es es' grows knows = λ k d l.
       height = kept.height;
       means = kept.means;
       low = kept.low;
-      there = any_grows (λ key path. (string_bytes key.0 ≡ p.script) × Agrees same_answer (with_key (answering p.texts)) path) es es' grows kept.there;
+      there = any_grows (λ key path. (key.0 ≡ p.script) × Agrees same_answer (with_key (answering p.texts)) path) es es' grows kept.there;
     }
 
 is_in_cache : (h : How) → in_cache h ≡ true → IsInCache h
@@ -144,12 +142,12 @@ pub knows_reply : (files : Files) (past : List Past) (es es' : Outcomes) → Gro
 knows_reply files past es es' grows knows script replied comes low hit false e = knows_on past es es' grows knows
 knows_reply files past es es' grows knows script {reply = reply} replied comes low hit true e =
     let texts = text_at files in
-    let S : Stored (String Global × ⊤) JoinedCall JoinedAnswer (Kept Outcome JoinedCall) → Type 0 = λ x. IsTrue (same_key x.key (replied.key, tt)) × Agrees same_answer (with_key (answers_of files)) x.path in
-    let P : Stored (String Global × ⊤) JoinedCall JoinedAnswer (Kept Outcome JoinedCall) → Type 0 = λ x. (string_bytes x.key.0 ≡ script) × Agrees same_answer (with_key (answering texts)) x.path in
+    let S : Stored (List ℕ × ⊤) JoinedCall JoinedAnswer (Kept Outcome JoinedCall) → Type 0 = λ x. IsTrue (same_key bytes_eq x.key (script, tt)) × Agrees same_answer (with_key (answers_of files)) x.path in
+    let P : Stored (List ℕ × ⊤) JoinedCall JoinedAnswer (Kept Outcome JoinedCall) → Type 0 = λ x. (x.key.0 ≡ script) × Agrees same_answer (with_key (answering texts)) x.path in
     let there = kept_after evaluating (keyed_calls tests) (keyed_answers tests) keys (files_respect files) replied.is_reply (is_in_cache reply.how (sym e)) in
     All-cons (IsKept es') (record { script = script; texts = texts; value = reply.output.value }) past (record {
       height = reply.output.height;
       means = means_map (At (answers_of files)) (Reads texts) (reads files) comes;
       low = low;
-      there = Any-weaker S P (λ x h. (key_bytes x.key.0 replied.key h.0 ∙ replied.names, subst (λ f. Agrees same_answer (with_key f) x.path) (answering_is files) h.1)) es' there;
+      there = Any-weaker S P (λ x h. (same_script x.key.0 script h.0, subst (λ f. Agrees same_answer (with_key f) x.path) (answering_is files) h.1)) es' there;
     }) (knows_on past es es' grows knows)

@@ -73,7 +73,7 @@ pub record IsKept (es : Outcomes) (p : Past) : Type 0 where
   pub height : ℕ
   pub means : Means (Reads p.texts) p.script p.value height
   pub low : height ≤ height_limit
-  pub there : Any (λ e. (string_bytes e.key.0 ≡ p.script) × Agrees same_answer (with_key (answering p.texts)) e.path) es
+  pub there : Any (λ e. (e.key.0 ≡ p.script) × Agrees same_answer (with_key (answering p.texts)) e.path) es
 
 abbrev pub Knows : List Past → Outcomes → Type 0
 Knows past es = All (IsKept es) past

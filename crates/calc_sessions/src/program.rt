@@ -6,7 +6,7 @@ ghost use Rattle.calc_files.specs.Files.{Texts};
 ghost use Rattle.calc_sessions.specs.Sessions.{texts_in, Prints, Refuses};
 
 use crate::state::State;
-use calc_commands::Command;
+use calc_commands::CommandRef;
 use calc_lines::{RunFault, Session};
 use std::alloc::{AllocError, Global};
 use std::io::{BufRead, Write};
@@ -17,7 +17,7 @@ impl Session for State {
     ghost refuses = { λ s line t. Refuses (texts_in s) line (texts_in t) };
 
     fn answer(&mut self, line: &str) -> Result<String, AllocError> {
-        match Command::parse(self.alloc, line)? {
+        match CommandRef::parse(line) {
             Some(command) => self.carry_out(command).text(self.alloc),
             None => String::from_str(self.alloc, "bad command\n"),
         }

@@ -2,35 +2,19 @@
 ghost use Rattle.std.specs.Prelude.{◌≡◌, ℕ, List, [], map, IfOk};
 ghost use Rattle.calc_commands.specs.Requests.{request_of};
 ghost use Rattle.calc_files.specs.Files.{Texts};
-ghost use Rattle.calc_sessions.specs.Sessions.{texts_in, Answers};
-ghost use Rattle.calc_sessions.specs.Remembered.{Past, Knows, Recalls, remembered, AnswersEach};
+ghost use Rattle.calc_sessions.specs.Remembered.{Past, AnswersEach};
 
 use crate::state::State;
 use calc_commands::{Answer, Command};
 use std::alloc::{AllocError, Global};
-
-/// Carries out a clone of a command.
-fn answer_to(state: &mut State, command: &Command) -> Answer
-    ensures answer { Answers (texts_in state.old) (request_of command.now) result
-        (texts_in state.new) }
-    ensures recalls { (past : List Past) → Knows past state.old.evaluated
-        → Recalls past (texts_in state.old) (request_of command.now) result
-        × Knows (remembered past (texts_in state.old) (request_of command.now) result)
-        state.new.evaluated }
-{
-    match command.clone() {
-        Ok(command) => state.carry_out(command),
-        Err(_) => Answer::Memory,
-    }
-}
 
 /// Carries out commands one after the other, from no files and nothing kept, and gives the answer of each.
 ///
 /// An error says that there was no memory for the list of answers; then no command was carried out. A command that
 /// found no memory is answered by `Answer::Memory`, and the next one goes on. A script that was answered by a value
 /// which is kept is answered by a hit with that value, or by `Memory`, until an eviction, as often as the texts of all
-/// paths that it asked for are the same as then. It clones each command, keeps one answer
-/// for each, and costs what `State::carry_out` does.
+/// paths that it asked for are the same as then. It keeps one answer for each command, and costs what
+/// `State::carry_out` does.
 pub fn session(alloc: Global, commands: &[Command]) -> Result<Vec<Answer>, AllocError>
     ensures { IfOk result (λ answers. (before after : Texts) × (left : List Past)
         × ((path : List ℕ) → before path ≡ [])
@@ -39,7 +23,7 @@ pub fn session(alloc: Global, commands: &[Command]) -> Result<Vec<Answer>, Alloc
     let mut answers = Vec::with_capacity(alloc, commands.len())?;
     let mut state = State::new(alloc);
     for command in commands {
-        answers.push_reserved(answer_to(&mut state, command));
+        answers.push_reserved(state.carry_out(command.as_ref()));
     }
     Ok(answers)
 }

@@ -1,15 +1,15 @@
 //! The state of a session, and what it answers to a command.
-ghost use Rattle.std.specs.Prelude.{◌≡◌, ℕ, List, []};
-ghost use Rattle.calc_commands.specs.Requests.{request_of, eval as eval_of, size as size_of, evict as evict_of};
+ghost use Rattle.std.specs.Prelude.{◌≡◌, ℕ, List, [], bytes_eq, if◌then◌else◌, OnOk, OnErr};
+ghost use Rattle.calc_commands.specs.Requests.{asked_by, eval as eval_of, size as size_of, evict as evict_of};
 ghost use Rattle.comemo.specs.Cache.{Evicts};
 ghost use Rattle.calc_sessions.specs.Sessions.{in_cache, texts_in, Answers};
 ghost use Rattle.calc_sessions.specs.Remembered.{Past, Knows, Recalls, RecallsOf, remembered, remembered_of};
 
-use calc_commands::{Answer, Command};
+use calc_commands::{Answer, CommandRef};
 use calc_evaluation::{Eval, EvalFault, evaluate};
 use calc_files::{FileSize, Files, size};
 use comemo::{CacheData, How, Reply, Top, Track};
-use std::alloc::Global;
+use std::alloc::{AllocError, Global};
 
 /// The greatest height of a script that a session evaluates.
 const HEIGHT_LIMIT: u64 = 128;
@@ -49,33 +49,45 @@ impl State {
     ///
     /// The answer is the one that the files as they are have, whatever was asked before. `Memory` says that there was
     /// no memory for the command; then the files are as they were, and what was kept on the way stays. A script is
-    /// evaluated to a height of 128 at most. A write takes constant expected time, and copies nothing; the others cost
+    /// evaluated to a height of 128 at most. A write copies its path and its text, in constant expected time beside; the others cost
     /// what `evaluate` and `size` do, which follow one stored path in each look-up; an eviction takes time linear in all
     /// that is kept, and no memory.
-    pub fn carry_out(&mut self, command: Command) -> Answer
-        ensures answer { Answers (texts_in self.old) (request_of command) result
+    pub fn carry_out(&mut self, command: CommandRef<'_>) -> Answer
+        ensures answer { Answers (texts_in self.old) (asked_by command.entry) result
             (texts_in self.new) }
-        ensures evicts { (max_age : ℕ) → request_of command ≡ evict_of max_age
+        ensures evicts { (max_age : ℕ) → asked_by command.entry ≡ evict_of max_age
             → Evicts max_age self.old.evaluated self.new.evaluated
             × Evicts max_age self.old.sizes self.new.sizes }
         ensures recalls { (past : List Past) → Knows past self.old.evaluated
-            → Recalls past (texts_in self.old) (request_of command) result
-            × Knows (remembered past (texts_in self.old) (request_of command) result)
+            → Recalls past (texts_in self.old) (asked_by command.entry) result
+            × Knows (remembered past (texts_in self.old) (asked_by command.entry) result)
             self.new.evaluated }
     {
         match command {
-            Command::Write(path, text) => match self.files.write(path, text) {
+            CommandRef::Write(path, text) => match self.write(path, text) {
                 Ok(()) => Answer::Written,
                 Err(_) => Answer::Memory,
             },
-            Command::Eval(script) => self.value_of(script.as_str()),
-            Command::Size(path) => self.size_at(path.as_str()),
-            Command::Evict(max_age) => {
+            CommandRef::Eval(script) => self.value_of(script),
+            CommandRef::Size(path) => self.size_at(path),
+            CommandRef::Evict(max_age) => {
                 self.evaluated.evict(max_age);
                 self.sizes.evict(max_age);
                 Answer::Evicted
             }
         }
+    }
+
+    /// Writes a copy of a text to the file at a path.
+    fn write(&mut self, path: &str, text: &str) -> Result<(), AllocError>
+        ensures ok { OnOk result ((q : List ℕ) → texts_in self.new q
+            ≡ (if bytes_eq q path.now then text.now else texts_in self.old q)) }
+        ensures err { OnErr result ((q : List ℕ) → texts_in self.new q ≡ texts_in self.old q) }
+        ensures evaluated { self.new.evaluated ≡ self.old.evaluated }
+    {
+        let path = String::from_str(self.alloc, path)?;
+        let text = String::from_str(self.alloc, text)?;
+        self.files.write(path, text)
     }
 
     /// The value of a script.

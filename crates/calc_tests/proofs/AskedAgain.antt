@@ -1,5 +1,5 @@
 -- For a caller of `size`: a size that was stored is found again, as long as the text at the path is the same.
-use Rattle.std.proofs.Common.{◌≡◌, ◌≢◌, ◌∙◌, Bool, not, ℕ, List, [], ◌∷◌, ◌++◌, IsTrue, is_some, String, string_bytes, refl, sym, subst, inl, inr, rules}
+use Rattle.std.proofs.Common.{◌≡◌, ◌≢◌, ◌∙◌, Bool, not, ℕ, List, [], ◌∷◌, ◌++◌, IsTrue, is_some, String, string_bytes, string_eq, refl, sym, subst, inl, inr, rules}
 use Rattle.std.specs.Prelude.{bytes_eq, if◌then◌else◌}
 use Rattle.std.specs.Bool.{⊤}
 use Rattle.std.specs.Cmp.{IsEquivalence}
@@ -84,12 +84,12 @@ stored_is_found {files = files} {files' = files'} {path = path} {es = es} {mid =
                 let (own, text, named, alone) = a.asks (λ is. let never : how.Hit ≡ how.Stored = sym is ∙ was in cc) in
                 let agrees = read_again files files' path own text named stays p.pairs alone p.agrees in
                 let adds = stores.adds in
-                let found = agrees_stored (keyed_calls tests) (keyed_answers tests) (with_key (answers_of files')) (files_respect files') (under same_key es ran.own) p.pairs adds.path adds.is_new agrees in
+                let found = agrees_stored (keyed_calls tests) (keyed_answers tests) (with_key (answers_of files')) (files_respect files') (under (same_key string_eq) es ran.own) p.pairs adds.path adds.is_new agrees in
                 let new : Stored (String Global × ⊤) JoinedCall JoinedAnswer (Kept ℕ JoinedCall) = stored adds.own adds.path stores.kept in
                 let here : Contains mid new = Contains-permutation (new ∷ es) mid new adds.entries (All-head (Contains (new ∷ es)) new es (All-contains_itself (new ∷ es))) in
-                let none = All-from_under same_key mid (b.key, tt) (λ e. ¬ Agrees same_answer (with_key (answers_of files')) e.path) (missed.none refl) in
-                let alike : IsTrue (same_key adds.own (b.key, tt)) = key_alike adds.own.0 b.key (key_bytes adds.own.0 ran.own.0 adds.is_key ∙ sym (key_bytes a.key ran.own.0 ran.has_key) ∙ a.names ∙ sym b.names) in
-                absurd (All-contains (λ e. IsTrue (same_key e.key (b.key, tt)) → ¬ Agrees same_answer (with_key (answers_of files')) e.path) mid new none here alike found)
+                let none = All-from_under (same_key string_eq) mid (b.key, tt) (λ e. ¬ Agrees same_answer (with_key (answers_of files')) e.path) (missed.none refl) in
+                let alike : IsTrue (same_key string_eq adds.own (b.key, tt)) = key_alike adds.own.0 b.key (key_bytes adds.own.0 ran.own.0 adds.is_key ∙ sym (key_bytes a.key ran.own.0 ran.has_key) ∙ a.names ∙ sym b.names) in
+                absurd (All-contains (λ e. IsTrue (same_key string_eq e.key (b.key, tt)) → ¬ Agrees same_answer (with_key (answers_of files')) e.path) mid new none here alike found)
           ]
     ]
 

@@ -1,7 +1,7 @@
 //! A large input of the program `calc`: many different scripts.
 
 use crate::stopwatch::{Seen, Stopwatch};
-use calc_commands::{Answer, Command};
+use calc_commands::{Answer, CommandRef};
 use calc_sessions::State;
 use comemo::Fault;
 use std::alloc::{AllocError, Global};
@@ -18,7 +18,7 @@ const PASSES: u32 = 2;
 fn carry_out(
     alloc: Global,
     state: &mut State,
-    command: Command,
+    command: CommandRef<'_>,
     printed: u64,
 ) -> Result<u64, AllocError> {
     let answer = state.carry_out(command);
@@ -41,14 +41,19 @@ fn play(alloc: Global, scripts: u64) -> Result<u64, AllocError> {
     for file in 0..FILES {
         let path = format!(in alloc; "m{file}")?;
         let text = format!(in alloc; "{file} + {file}")?;
-        fold = carry_out(alloc, &mut state, Command::Write(path, text), fold)?;
+        fold = carry_out(
+            alloc,
+            &mut state,
+            CommandRef::Write(path.as_str(), text.as_str()),
+            fold,
+        )?;
     }
     for _ in 0..PASSES {
         for number in 0..scripts {
             let file = number % FILES;
             let last = number % 7;
             let script = format!(in alloc; "{number} + eval m{file} + {last}")?;
-            fold = carry_out(alloc, &mut state, Command::Eval(script), fold)?;
+            fold = carry_out(alloc, &mut state, CommandRef::Eval(script.as_str()), fold)?;
         }
     }
     Ok(fold)

@@ -43,17 +43,17 @@ pub evaluate_part-returns-in_ok-reply-in-Eval-clause-learns : goal.evaluate_part
 evaluate_part-returns-in_ok-reply-in-Eval-clause-learns t c = λ bytes is.
     let (own, named, asks) = c.in-Ok.ensures in
     let replied = c.in_ok-reply-in-Eval.ensures.reply in
-    learns_on (learns_text c.args.files.now asks c.requires) (learns_call c.args.files.now replied.is_reply (fits_read c.args.files.now asks c.requires)) (part_called replied.key c.in-Ok.text (rw c.in-Eval.is at is) named (rw c.as_str.ensures at replied.names))
+    learns_on (learns_text c.args.files.now asks c.requires) (learns_call c.args.files.now replied.is_reply (fits_read c.args.files.now asks c.requires)) (part_called c.in-Ok.text (rw c.in-Eval.is at is) named)
 
 pub evaluate_part-returns-in_ok-reply-in-Eval-clause-led : goal.evaluate_part-returns-in_ok-reply-in-Eval-clause-led
 evaluate_part-returns-in_ok-reply-in-Eval-clause-led t c = λ bytes is.
     let (own, named, asks) = c.in-Ok.ensures in
-    one_call (rw c.in-Eval.is at is) (own, named, ap (λ x. second_answer x) (text_read c.args.files.now asks)) (rw c.as_str.ensures at c.in_ok-reply-in-Eval.ensures.led)
+    one_call (rw c.in-Eval.is at is) (own, named, ap (λ x. second_answer x) (text_read c.args.files.now asks)) c.in_ok-reply-in-Eval.ensures.led
 
 pub evaluate_part-returns-in_err-reply-in-Eval-clause-failed : goal.evaluate_part-returns-in_err-reply-in-Eval-clause-failed
 evaluate_part-returns-in_err-reply-in-Eval-clause-failed t c = λ bytes is.
     let (own, named, asks) = c.in-Ok.ensures in
-    on_err c.from_residual.result (failed_call (rw c.in-Eval.is at is) (own, named, ap (λ x. second_answer x) (text_read c.args.files.now asks)) (rw c.as_str.ensures at c.in_err-reply-in-Eval.ensures.failed))
+    on_err c.from_residual.result (failed_call (rw c.in-Eval.is at is) (own, named, ap (λ x. second_answer x) (text_read c.args.files.now asks)) c.in_err-reply-in-Eval.ensures.failed)
 
 pub evaluate_part-returns-in_default-clause-failed : goal.evaluate_part-returns-in_default-clause-failed
 evaluate_part-returns-in_default-clause-failed t c = λ bytes is. not_read (rw c.in-Eval.is at is)
@@ -62,30 +62,30 @@ pub evaluate_part-returns-in_err-reply-in-Eval-clause-deep : goal.evaluate_part-
 evaluate_part-returns-in_err-reply-in-Eval-clause-deep t c = λ bytes is e.
     let (own, named, asks) = c.in-Ok.ensures in
     let deep = c.in_err-reply-in-Eval.ensures.deep (ap (λ f. Err f) (handed_on c.from_residual.result c.in_err-reply-in-Eval.field-0.0 _ c.from_residual.ensures.1 e)) in
-    (_, _, rw c.in-Eval.is at is, (own, named, ap (λ x. second_answer x) (text_read c.args.files.now asks)), rw c.as_str.ensures at deep)
+    (_, _, rw c.in-Eval.is at is, (own, named, ap (λ x. second_answer x) (text_read c.args.files.now asks)), deep)
 
 pub evaluate_within-returns-in-Ok-Hit-clause-outcome : goal.evaluate_within-returns-in-Ok-Hit-clause-outcome
 evaluate_within-returns-in-Ok-Hit-clause-outcome t c =
-    let (key, same, hit) = rw (c.in-Ok-Hit.is, c.in-Ok-Hit.field-0-is) at c.begin_script.ensures.begun in
-    (script_given c.args.files.now same hit.1, hit.0)
+    let hit = rw (c.in-Ok-Hit.is, c.in-Ok-Hit.field-0-is) at c.begin_script.ensures.begun in
+    (script_given c.args.files.now hit.1, hit.0)
 
 pub evaluate_within-returns-in-Ok-Hit-clause-reply : goal.evaluate_within-returns-in-Ok-Hit-clause-reply
 evaluate_within-returns-in-Ok-Hit-clause-reply t c =
-    let (key, same, hit) = rw (c.in-Ok-Hit.is, c.in-Ok-Hit.field-0-is) at c.begin_script.ensures.begun in
-    record { key = key; names = same; mid = c.args.cache.now; calls = λ not. absurd (not refl); is_reply = hit.1 }
+    let hit = rw (c.in-Ok-Hit.is, c.in-Ok-Hit.field-0-is) at c.begin_script.ensures.begun in
+    record { mid = c.args.cache.now; calls = λ not. absurd (not refl); is_reply = hit.1 }
 
 pub evaluate_within-returns-in-Ok-Hit-clause-led : goal.evaluate_within-returns-in-Ok-Hit-clause-led
 evaluate_within-returns-in-Ok-Hit-clause-led t c = led_by_reply c.args.files.now (evaluate_within-returns-in-Ok-Hit-clause-reply t c)
 
 pub evaluate_within-finish-requires-clause-settled : goal.evaluate_within-finish-requires-clause-settled
 evaluate_within-finish-requires-clause-settled t c = λ whole early.
-    let (key, same, run) = rw (c.in-Ok-Run.is, c.in-Ok-Run.field-0-is) at c.begin_script.ensures.begun in
-    script_settled key c.in-Ok-Run.pending.key _ same run.2.has_key (script_run _ _ (rw c.recording.ensures.value run.2.pairs) c.in-Ok.ensures.asks)
+    let run = rw (c.in-Ok-Run.is, c.in-Ok-Run.field-0-is) at c.begin_script.ensures.begun in
+    script_settled c.in-Ok-Run.pending.key _ run.2.has_key (script_run _ _ (rw c.recording.ensures.value run.2.pairs) c.in-Ok.ensures.asks)
 
 pub evaluate_within-finish-requires-clause-stands : goal.evaluate_within-finish-requires-clause-stands
 evaluate_within-finish-requires-clause-stands t c = λ whole early.
-    let (key, same, run) = rw (c.in-Ok-Run.is, c.in-Ok-Run.field-0-is) at c.begin_script.ensures.begun in
-    run_stands _ _ _ key c.in-Ok-Run.pending.key _ same run.2.has_key (rw c.recording.ensures.value run.2.writes) c.in-Ok.ensures.writes c.in-Ok.ensures.learns whole early
+    let run = rw (c.in-Ok-Run.is, c.in-Ok-Run.field-0-is) at c.begin_script.ensures.begun in
+    run_stands _ _ _ c.in-Ok-Run.pending.key _ run.2.has_key (rw c.recording.ensures.value run.2.writes) c.in-Ok.ensures.writes c.in-Ok.ensures.learns whole early
 
 pub evaluate_within-returns-in-Ok-finish-clause-outcome : goal.evaluate_within-returns-in-Ok-finish-clause-outcome
 evaluate_within-returns-in-Ok-finish-clause-outcome t c =
@@ -94,10 +94,10 @@ evaluate_within-returns-in-Ok-finish-clause-outcome t c =
 
 pub evaluate_within-returns-in-Ok-finish-clause-reply : goal.evaluate_within-returns-in-Ok-finish-clause-reply
 evaluate_within-returns-in-Ok-finish-clause-reply t c =
-    let (key, same, run) = rw (c.in-Ok-Run.is, c.in-Ok-Run.field-0-is) at c.begin_script.ensures.begun in
+    let run = rw (c.in-Ok-Run.is, c.in-Ok-Run.field-0-is) at c.begin_script.ensures.begun in
     let ran = c.in-Ok.ensures in
-    let stands = run_stands _ _ _ key c.in-Ok-Run.pending.key _ same run.2.has_key (rw c.recording.ensures.value run.2.writes) ran.writes ran.learns ran.fits.whole ran.fits.early in
-    replied_run c.args.files.now (Took same_call touches) MarkedLate same run.2 (rw (rw (c.in-Ok-Run.is, c.in-Ok-Run.field-0-is) at c.begin_script.ensures.kept) at ran.led) ran.fits.early ran.fits.agrees stands (rw (c.in-Ok-finish.is, run.1) at c.finish.ensures.finished)
+    let stands = run_stands _ _ _ c.in-Ok-Run.pending.key _ run.2.has_key (rw c.recording.ensures.value run.2.writes) ran.writes ran.learns ran.fits.whole ran.fits.early in
+    replied_run c.args.files.now (Took same_call touches) MarkedLate run.2 (rw (rw (c.in-Ok-Run.is, c.in-Ok-Run.field-0-is) at c.begin_script.ensures.kept) at ran.led) ran.fits.early ran.fits.agrees stands (rw (c.in-Ok-finish.is, run.1) at c.finish.ensures.finished)
 
 pub evaluate_within-returns-in-Ok-finish-clause-led : goal.evaluate_within-returns-in-Ok-finish-clause-led
 evaluate_within-returns-in-Ok-finish-clause-led t c = led_by_reply c.args.files.now (evaluate_within-returns-in-Ok-finish-clause-reply t c)
@@ -107,21 +107,21 @@ evaluate_within-returns-in-Err-clause-failed t c = is_refused c.in-Err.ensures.e
 
 pub evaluate_within-returns-in-Err-finish-clause-failed : goal.evaluate_within-returns-in-Err-finish-clause-failed
 evaluate_within-returns-in-Err-finish-clause-failed t c =
-    let (key, same, run) = rw (c.in-Ok-Run.is, c.in-Ok-Run.field-0-is) at c.begin_script.ensures.begun in
+    let run = rw (c.in-Ok-Run.is, c.in-Ok-Run.field-0-is) at c.begin_script.ensures.begun in
     let (kept, spoiled) = rw c.in-Err-finish.is at c.finish.ensures.err in
-    rw kept (has_no_end (missed_by_run c.args.files.now same run.2) (rw (rw (c.in-Ok-Run.is, c.in-Ok-Run.field-0-is) at c.begin_script.ensures.kept) at c.in-Ok.ensures.led))
+    rw kept (has_no_end (missed_by_run c.args.files.now run.2) (rw (rw (c.in-Ok-Run.is, c.in-Ok-Run.field-0-is) at c.begin_script.ensures.kept) at c.in-Ok.ensures.led))
 
 pub evaluate_within-returns-in-Err-run_script-clause-failed : goal.evaluate_within-returns-in-Err-run_script-clause-failed
 evaluate_within-returns-in-Err-run_script-clause-failed t c =
-    let (key, same, run) = rw (c.in-Ok-Run.is, c.in-Ok-Run.field-0-is) at c.begin_script.ensures.begun in
-    is_broken (missed_by_run c.args.files.now same run.2) (rw (rw (c.in-Ok-Run.is, c.in-Ok-Run.field-0-is) at c.begin_script.ensures.kept) at c.in-Err-run_script.ensures.failed)
+    let run = rw (c.in-Ok-Run.is, c.in-Ok-Run.field-0-is) at c.begin_script.ensures.begun in
+    is_broken (missed_by_run c.args.files.now run.2) (rw (rw (c.in-Ok-Run.is, c.in-Ok-Run.field-0-is) at c.begin_script.ensures.kept) at c.in-Err-run_script.ensures.failed)
 
 pub run_script-returns-in_err-outcome-clause-deep : goal.run_script-returns-in_err-outcome-clause-deep
 run_script-returns-in_err-outcome-clause-deep t c = λ e.
     let i = c.loop-part.invariant in
     let (bytes, cut, is) = c.in-Some.ensures in
     let (path, text, calls, at, deep) = c.in_err-outcome.ensures.deep bytes is (ap (λ f. Err f) (handed_on c.from_residual.result c.in_err-outcome.field-0.0 _ c.from_residual.ensures.1 e)) in
-    deep_at_part (At (answers_of c.args.files.now)) c.args.limit c.requires.1.1.0 (of_files c.args.files.now i.learns i.fits) cut calls at deep
+    deep_at_part (At (answers_of c.args.files.now)) c.args.limit c.requires.room (of_files c.args.files.now i.learns i.fits) cut calls at deep
 
 pub run_script-returns-in_err-outcome-clause-failed : goal.run_script-returns-in_err-outcome-clause-failed
 run_script-returns-in_err-outcome-clause-failed t c =
@@ -180,7 +180,7 @@ evaluate_part-returns-in_ok-reply-in-Eval-clause-asks t c = λ bytes is.
     let (own, named, asks) = c.in-Ok.ensures in
     let replied = c.in_ok-reply-in-Eval.ensures.reply in
     let fits = fits_read files asks c.requires in
-    settles_part files asks c.requires fits (told_text files asks c.requires fits.whole fits.early) replied.is_reply (settled_reply files (replied.names ∙ c.as_str.ensures) replied.is_reply) (rw c.in-Eval.is at is) named
+    settles_part files asks c.requires fits (told_text files asks c.requires fits.whole fits.early) replied.is_reply (settled_reply files replied.is_reply) (rw c.in-Eval.is at is) named
 
 pub run_script-returns-in-Err-clause-asks : goal.run_script-returns-in-Err-clause-asks
 run_script-returns-in-Err-clause-asks t c =
@@ -194,10 +194,10 @@ run_script-returns-clause-asks t c = settles_end _ _ c.loop-part.invariant.asks 
 
 pub run_script-loop-part-init : goal.run_script-loop-part-init
 run_script-loop-part-init t c = record {
-  low = omega (arith, c.requires.1.1.0, ap (λ (s : Taken). s.height) c.new-total.ensures);
-  fits = c.requires.1.1.1;
+  low = omega (arith, c.requires.room, ap (λ (s : Taken). s.height) c.new-total.ensures);
+  fits = c.requires.fits;
   writes = refl;
-  learns = learns_nothing _ (λ m. leaves_all (In m) c.new-parts.ensures c.new-total.ensures);
-  asks = settles_start _ _ _ _ c.new-parts.ensures c.new-total.ensures;
-  led = led_none (At (answers_of c.args.files.now)) (moves c.args.files.now) _ c.new-parts.ensures c.new-total.ensures;
+  learns = learns_nothing _ (λ m. leaves_all (In m) (rw c.as_str.ensures at c.new-parts.ensures) c.new-total.ensures);
+  asks = settles_start _ _ _ _ (rw c.as_str.ensures at c.new-parts.ensures) c.new-total.ensures;
+  led = led_none (At (answers_of c.args.files.now)) (moves c.args.files.now) _ (rw c.as_str.ensures at c.new-parts.ensures) c.new-total.ensures;
 }

@@ -1,7 +1,7 @@
 use Rattle.std.proofs.Common.{rules, arith, inl, inr, sym, subst, ◌<◌}
 use Rattle.comemo.proofs.Calls.{reply_by_hit, broke_at_begin, of_memory, never_stops}
 use Rattle.comemo.proofs.KeyedViews.{keyed_calls, keyed_answers}
-use Rattle.calc_scripts.specs.Meaning.{Means, Deep, no_room}
+use Rattle.calc_scripts.specs.Meaning.{Deep, no_room}
 use Rattle.calc_scripts.proofs.Meanings.{deep_of_height}
 use Rattle.calc_files.specs.Files.{answers_of, with_key}
 use Rattle.calc_files.specs.Joined.{same_answer}
@@ -31,8 +31,8 @@ returns-clause-err_keeps g c =
 
 pub returns-then-outcome-limit-clause-err_keeps : goal.returns-then-outcome-limit-clause-err_keeps
 returns-then-outcome-limit-clause-err_keeps g c =
-    let (hit, touched) = rw (c.in-Ok-Hit.is, c.in-Ok-Hit.field-0-is, c.fork.ensures) at c.begin.ensures.hit in
-    inr (c.in-Ok.key, c.in-Ok.ensures.ok, touched)
+    let (hit, touched) = rw (c.in-Ok-Hit.is, c.in-Ok-Hit.field-0-is, c.fork.ensures, c.in-Ok.ensures.cases) at c.begin.ensures.hit in
+    inr touched
 
 pub returns-then-outcome-limit-clause-err : goal.returns-then-outcome-limit-clause-err
 returns-then-outcome-limit-clause-err g c =
@@ -41,18 +41,16 @@ returns-then-outcome-limit-clause-err g c =
 
 pub returns-then-outcome-limit-clause-deep : goal.returns-then-outcome-limit-clause-deep
 returns-then-outcome-limit-clause-deep g c = λ _.
-    let m = answers_of c.args.files.now in
-    let (hit, touched) = rw (c.in-Ok-Hit.is, c.in-Ok-Hit.field-0-is, c.fork.ensures) at c.begin.ensures.hit in
-    let means = hit.right.1 in
-    deep_of_height (At m) (subst (λ script. Means (At m) script c.in-Ok-Hit.outcome.value c.in-Ok-Hit.outcome.height) c.in-Ok.ensures.ok means) c.args.limit c.if-outcome-limit.true
+    let (hit, touched) = rw (c.in-Ok-Hit.is, c.in-Ok-Hit.field-0-is, c.fork.ensures, c.in-Ok.ensures.cases) at c.begin.ensures.hit in
+    deep_of_height (At (answers_of c.args.files.now)) hit.right.1 c.args.limit c.if-outcome-limit.true
 
 pub returns-in-Ok-Hit-clause-begun : goal.returns-in-Ok-Hit-clause-begun
 returns-in-Ok-Hit-clause-begun g c =
-    let (hit, touched) = rw (c.in-Ok-Hit.is, c.in-Ok-Hit.field-0-is, c.fork.ensures) at c.begin.ensures.hit in
-    (c.in-Ok.key, c.in-Ok.ensures.ok, (search rules, reply_by_hit (keyed_calls tests) (keyed_answers tests) c.args.cache.now _ hit touched))
+    let (hit, touched) = rw (c.in-Ok-Hit.is, c.in-Ok-Hit.field-0-is, c.fork.ensures, c.in-Ok.ensures.cases) at c.begin.ensures.hit in
+    (search rules, reply_by_hit (keyed_calls tests) (keyed_answers tests) c.args.cache.now _ hit touched)
 
 pub returns-in-Ok-Run-clause-begun : goal.returns-in-Ok-Run-clause-begun
 returns-in-Ok-Run-clause-begun g c =
-    let (run, unchanged, kept, same) = rw (c.in-Ok-Run.is, c.in-Ok-Run.field-0-is, c.fork.ensures) at c.begin.ensures.run in
+    let (run, unchanged, kept, same) = rw (c.in-Ok-Run.is, c.in-Ok-Run.field-0-is, c.fork.ensures, c.in-Ok.ensures.cases) at c.begin.ensures.run in
     let room : 0 < c.args.limit = omega (arith, c.if-limit-eq0.false) in
-    (c.in-Ok.key, c.in-Ok.ensures.ok, (room, kept, run))
+    (room, kept, run)

@@ -10,9 +10,9 @@ pub loop-command-preserved : goal.loop-command-preserved
 loop-command-preserved c =
     let i = c.loop-command.invariant in
     let (left, knows, each) = i.each in
-    let recalls = c.answer_to.ensures.recalls left knows in
+    let recalls = rw c.as_ref.ensures at (c.carry_out.ensures.recalls left knows) in
     record {
       long = omega (arith, c.push_reserved.ensures.len, i.long);
       room = omega (arith, c.push_reserved.ensures.capacity, i.room);
-      each = (_, recalls.1, next_command c.args.commands.now c.loop-command.command-index c.command-item.result c.loop-command-test.true c.command-item.is c.push_reserved.ensures.items each c.answer_to.ensures.answer recalls.0);
+      each = (_, recalls.1, next_command c.args.commands.now c.loop-command.command-index c.command-item.result c.loop-command-test.true c.command-item.is c.push_reserved.ensures.items each (rw c.as_ref.ensures at c.carry_out.ensures.answer) recalls.0);
     }

@@ -14,13 +14,13 @@ pub returns-in-Evict-clause-answer : goal.returns-in-Evict-clause-answer
 returns-in-Evict-clause-answer c = rw c.in-Evict.is (evicted (λ path. refl))
 
 pub returns-in-Ok-clause-recalls : goal.returns-in-Ok-clause-recalls
-returns-in-Ok-clause-recalls c = rw c.in-Write.is (λ past knows. (tt, knows))
+returns-in-Ok-clause-recalls c = rw c.in-Write.is (λ past knows. (tt, subst (λ es. Knows past es) (sym c.in-Ok.ensures.evaluated) knows))
 
 pub returns-in-Err-clause-recalls : goal.returns-in-Err-clause-recalls
-returns-in-Err-clause-recalls c = λ past knows. after_memory past _ _ _ knows
+returns-in-Err-clause-recalls c = λ past knows. after_memory past _ _ _ (subst (λ es. Knows past es) (sym c.in-Err.ensures.evaluated) knows)
 
 pub returns-in-Eval-clause-recalls : goal.returns-in-Eval-clause-recalls
-returns-in-Eval-clause-recalls c = rw c.in-Eval.is (rw c.as_str.ensures.value at c.value_of.ensures.recalls)
+returns-in-Eval-clause-recalls c = rw c.in-Eval.is c.value_of.ensures.recalls
 
 pub returns-in-Size-clause-recalls : goal.returns-in-Size-clause-recalls
 returns-in-Size-clause-recalls c = rw c.in-Size.is (λ past knows. (tt, subst (λ es. Knows past es) (sym c.size_at.ensures.evaluated) knows))
