@@ -161,7 +161,8 @@ impl Ord for Text {
 impl Hash for Text {
     ghost hash_input = { λ text. fed.u64 (digest text) };
 
-    ghost respects_eq = { λ x y same. ap (λ text. fed.u64 (digest text)) ((bytes_decides x y).0 same) };
+    ghost respects_eq = { λ x y same.
+        ap (λ text. fed.u64 (digest text)) ((bytes_decides x y).0 same) };
 
     fn hash<H: Hasher>(&self, state: &mut H) {
         self.number.hash(state);

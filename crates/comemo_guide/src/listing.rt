@@ -1,5 +1,5 @@
 //! A function that writes to a log in a loop.
-ghost use Rattle.std.specs.Prelude.{◌≡◌, length, map, string_bytes};
+ghost use Rattle.std.specs.Prelude.{◌≡◌, map, string_bytes};
 ghost use Rattle.std.proofs.Common.{rules, ◌∙◌, sym};
 ghost use Rattle.comemo.proofs.Texts.{texts_clone, bytes_in_turn};
 ghost use Rattle.comemo.specs.MeaningLaws.{map_writes};
@@ -9,7 +9,7 @@ ghost use Rattle.comemo_samples.specs.Writers.{logged};
 use comemo::{Fault, FunctionMut, RecorderMut};
 use comemo_samples::{Log, LogCall};
 
-/// Writes each of these texts to a log, and gives how many there are.
+/// Writes each of these texts to a log.
 pub struct Listing;
 
 impl FunctionMut for Listing {
@@ -17,19 +17,17 @@ impl FunctionMut for Listing {
 
     type Of = Log;
 
-    type Out = usize;
+    type Out = ();
 
     type Needs = ();
 
-    ghost means = { λ texts _ out writes. (out ≡ length texts.items)
-        × (map logged writes ≡ map string_bytes texts.items) };
+    ghost means = { λ texts _ _ writes. map logged writes ≡ map string_bytes texts.items };
 
     ghost laws = { record {
-      outputs = λ key m a b writes r c right. Prim.search rules;
-      keys = λ j k m output writes r e right.
-          Prim.search (rules, bytes_in_turn j.items k.items, right.0, right.1);
+      outputs = λ key m a b writes r c right. right;
+      keys = λ j k m output writes r e right. right ∙ bytes_in_turn j.items k.items e;
       writes = λ key m output V W r same right.
-          (right.0, sym (map_writes logged logged_alike V W same) ∙ right.1);
+          sym (map_writes logged logged_alike V W same) ∙ right;
       clones = λ x y h. Prim.search (rules, texts_clone);
     } };
 
@@ -37,10 +35,10 @@ impl FunctionMut for Listing {
         texts: &Vec<String>,
         log: &mut RecorderMut<'_, '_, Log>,
         _needs: &mut (),
-    ) -> Result<usize, Fault> {
+    ) -> Result<(), Fault> {
         for text in texts {
             log.write(LogCall::Line(text.clone()?))?;
         }
-        Ok(texts.len())
+        Ok(())
     }
 }

@@ -2,9 +2,11 @@
 
 use comemo::{BothMut, CacheData, How, MemoOfMut, Top, memoized_mut};
 use comemo_guide::adding::{Adds, AddsTwice};
+use comemo_guide::listing::Listing;
 use comemo_guide::tally::Tally;
-use comemo_samples::{Counter, Town};
-use std::alloc::Global;
+use comemo_samples::{Counter, Log, Town};
+use std::alloc::{AllocError, Global};
+use std::test::Fail;
 
 /// Whether a call that adds a number gives the next one, and this becomes of the call.
 fn adds(
@@ -117,4 +119,35 @@ fn a_town_is_read_and_a_counter_written(rt: HostRuntime) {
         assert!(rt; is_so, "for {town:?}");
     }
     assert_eq!(rt; counter.number, 46);
+}
+
+/// The texts `to` and `day`.
+fn two_texts(alloc: Global) -> Result<Vec<String>, AllocError> {
+    Ok(vec![in alloc;
+        String::from_str(alloc, "to")?,
+        String::from_str(alloc, "day")?,
+    ]?)
+}
+
+#[test]
+fn a_hit_writes_each_line_again(rt: HostRuntime) -> Result<(), Fail> {
+    let alloc = rt.alloc();
+    let mut cache: CacheData<MemoOfMut<Listing>> = CacheData::new(alloc);
+    let mut log = Log::new(alloc);
+    for (how, lines) in [(How::Stored, 2_usize), (How::Hit, 4)] {
+        let texts = two_texts(alloc)?;
+        let reply = memoized_mut(
+            alloc,
+            &mut cache,
+            &mut (),
+            texts,
+            &mut log,
+            &mut Top::new(),
+            true,
+        )?;
+        assert_eq!(rt; reply.how, how);
+        assert_eq!(rt; log.lines().len(), lines);
+        assert_eq!(rt; log.lines()[lines - 1].as_str(), "day");
+    }
+    Ok(())
 }
