@@ -36,6 +36,7 @@ pub mod named;
 pub mod numbers;
 pub mod orders;
 pub mod passes;
+pub mod read_and_write;
 pub mod region;
 pub mod report;
 pub mod ruler;

@@ -1,0 +1,126 @@
+//! Functions that read one value, a town, and write another, a counter.
+ghost use Rattle.std.specs.Prelude.{◌≡◌, ◌+◌, ◌%◌, ◌^◌, [], ◌∷◌};
+ghost use Rattle.std.proofs.Common.{rules};
+ghost use Rattle.comemo.specs.MeaningLaws.{exact_memo_laws};
+
+use crate::adding::Adds;
+use crate::warmth::Warmth;
+use comemo::{
+    CacheData, Fault, FunctionMutOf, Memo, MemoOf, MemoOfMut, MultiAnswer, MultiCall, ReadAndWrite,
+    RecorderMut,
+};
+use comemo_samples::{Counter, CounterCall, Town, TownCall};
+
+/// Adds the degrees of a town to a counter, and gives them.
+///
+/// The run calls `Warmth` for the degrees.
+pub struct TallyWarmth;
+
+impl Memo for TallyWarmth {
+    type Call = MultiCall<TownCall, CounterCall>;
+
+    type Key = ();
+
+    type Answer = MultiAnswer<u64, u64>;
+
+    type Out = u64;
+
+    ghost use Rattle.comemo.specs.Multi.{OnParts, second_call};
+    ghost use Rattle.comemo_samples.specs.declared.town.TownCall.TheVariants.{Degrees};
+    ghost use Rattle.comemo_samples.specs.declared.counter.CounterCall.TheVariants.{Add};
+
+    ghost def = { λ _ m out writes. OnParts m (λ town _. (out ≡ town Degrees)
+        × (writes ≡ second_call (Add (town Degrees)) ∷ [])) };
+
+    ghost laws = { exact_memo_laws (λ x y h. Prim.search rules) (λ x y h. Prim.search rules)
+        (λ x y h. Prim.search rules) (λ a b h. Prim.search rules) (λ x y h. Prim.search rules) };
+}
+
+impl<'a> FunctionMutOf<ReadAndWrite<'a, Town, Counter>> for TallyWarmth {
+    type Needs = CacheData<MemoOf<Warmth>>;
+
+    fn run(
+        _: &(),
+        both: &mut RecorderMut<'_, '_, ReadAndWrite<'a, Town, Counter>>,
+        kept: &mut CacheData<MemoOf<Warmth>>,
+    ) -> Result<u64, Fault> {
+        let degrees = both.call_first(kept, &mut (), ())?;
+        both.write_second(CounterCall::Add(degrees))?;
+        Ok(degrees)
+    }
+}
+
+/// Adds the degrees of a town to a counter, and gives the number that the counter had before.
+pub struct AddsDegrees;
+
+impl Memo for AddsDegrees {
+    type Call = MultiCall<TownCall, CounterCall>;
+
+    type Key = ();
+
+    type Answer = MultiAnswer<u64, u64>;
+
+    type Out = u64;
+
+    ghost use Rattle.comemo.specs.Multi.{OnParts, second_call};
+    ghost use Rattle.comemo_samples.specs.declared.town.TownCall.TheVariants.{Degrees};
+    ghost use Rattle.comemo_samples.specs.declared.counter.CounterCall.TheVariants.{Get, Add};
+
+    ghost def = { λ _ m out writes. OnParts m (λ town counter. (out ≡ counter Get)
+        × (writes ≡ second_call (Add (town Degrees)) ∷ [])) };
+
+    ghost laws = { exact_memo_laws (λ x y h. Prim.search rules) (λ x y h. Prim.search rules)
+        (λ x y h. Prim.search rules) (λ a b h. Prim.search rules) (λ x y h. Prim.search rules) };
+}
+
+impl<'a> FunctionMutOf<ReadAndWrite<'a, Town, Counter>> for AddsDegrees {
+    type Needs = ();
+
+    fn run(
+        _: &(),
+        both: &mut RecorderMut<'_, '_, ReadAndWrite<'a, Town, Counter>>,
+        _: &mut (),
+    ) -> Result<u64, Fault> {
+        let number = both.ask_second(CounterCall::Get)?;
+        let degrees = both.ask_first(TownCall::Degrees)?;
+        both.write_second(CounterCall::Add(degrees))?;
+        Ok(number)
+    }
+}
+
+/// Adds the degrees of a town to a counter, and then one more, by `Adds`. It gives what `Adds` gives.
+pub struct AddsOneMore;
+
+impl Memo for AddsOneMore {
+    type Call = MultiCall<TownCall, CounterCall>;
+
+    type Key = ();
+
+    type Answer = MultiAnswer<u64, u64>;
+
+    type Out = u64;
+
+    ghost use Rattle.comemo.specs.Multi.{OnParts, second_call};
+    ghost use Rattle.comemo_samples.specs.declared.town.TownCall.TheVariants.{Degrees};
+    ghost use Rattle.comemo_samples.specs.declared.counter.CounterCall.TheVariants.{Add};
+
+    ghost def = { λ _ m out writes. OnParts m (λ town _. (out ≡ (town Degrees + 1) % 2 ^ 64)
+        × (writes ≡ second_call (Add (town Degrees)) ∷ second_call (Add 1) ∷ [])) };
+
+    ghost laws = { exact_memo_laws (λ x y h. Prim.search rules) (λ x y h. Prim.search rules)
+        (λ x y h. Prim.search rules) (λ a b h. Prim.search rules) (λ x y h. Prim.search rules) };
+}
+
+impl<'a> FunctionMutOf<ReadAndWrite<'a, Town, Counter>> for AddsOneMore {
+    type Needs = CacheData<MemoOfMut<Adds>>;
+
+    fn run(
+        _: &(),
+        both: &mut RecorderMut<'_, '_, ReadAndWrite<'a, Town, Counter>>,
+        kept: &mut CacheData<MemoOfMut<Adds>>,
+    ) -> Result<u64, Fault> {
+        let degrees = both.ask_first(TownCall::Degrees)?;
+        let sum = both.call_mut_second(kept, &mut (), degrees)?;
+        Ok(sum)
+    }
+}
