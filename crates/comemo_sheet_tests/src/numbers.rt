@@ -1,8 +1,9 @@
 //! A function that calls itself: each number is kept once, and each call after that is answered from the cache.
 
-use comemo::{Cache, CacheData, Hold, MemoOfRecursive, Recorder, Track};
+use comemo::{Cache, CacheData, Fault, Hold, How, MemoOfRecursive, Recorder, Start, Track};
 use comemo_sheet::fibonacci::{Fib, numbered};
 use std::alloc::Global;
+use std::test::Fail;
 
 /// Whether this is the number at a place.
 fn is_number<H: Hold<MemoOfRecursive<Fib>>>(
@@ -42,4 +43,27 @@ fn a_shared_cache_keeps_them_too(rt: HostRuntime) {
     for _ in 0..2 {
         assert!(rt; is_number(alloc, &mut cache.hold(&rt), 90, 2880067194370816120));
     }
+}
+
+/// What becomes of a call of the number at place 0, by hand.
+fn how_it_went(alloc: Global, cache: &mut CacheData<MemoOfRecursive<Fib>>) -> Result<How, Fault> {
+    let mut recorder = Recorder::new(alloc, ().track(alloc));
+    match recorder.start(cache, &0)? {
+        Start::Hit(_) => Ok(How::Hit),
+        Start::Run(run) => {
+            let reply = recorder.finish_reply(cache, &0, run, 0)?;
+            Ok(reply.how)
+        }
+    }
+}
+
+#[test]
+fn a_call_by_hand_says_what_became_of_it(rt: HostRuntime) -> Result<(), Fail> {
+    let alloc = rt.alloc();
+    let mut cache: CacheData<MemoOfRecursive<Fib>> = CacheData::new(alloc);
+    for how in [How::Stored, How::Hit] {
+        let went = how_it_went(alloc, &mut cache)?;
+        assert_eq!(rt; went, how);
+    }
+    Ok(())
 }
