@@ -1,6 +1,6 @@
 -- What was asked of a part of what is written, and written to it, told of the whole.
 use Rattle.std.specs.Prelude.{⊤}
-use Rattle.std.proofs.Common.{◌≡◌, ◌∙◌, ◌⊎◌, Bool, true, false, List, [], ◌∷◌, ◌++◌, IsTrue, Result, Ok, IsErr, IsErrAnd, map, append-nil, refl, sym, ap, subst, inl, inr}
+use Rattle.std.proofs.Common.{◌≡◌, ◌∙◌, Bool, true, false, List, [], ◌∷◌, ◌++◌, IsTrue, Result, Ok, IsErr, IsErrAnd, map, append-nil, refl, sym, ap, subst, inl, inr}
 use Rattle.std.proofs.lemmas.List.{map-append}
 use Rattle.std.specs.List.{All}
 use Rattle.std.specs.Cmp.{IsEquivalence}
@@ -19,9 +19,9 @@ use Rattle.comemo_track.specs.declared.read_and_write.ReadAndWrite.{ReadAndWrite
 use Rattle.comemo_cache.specs.Meaning.{Meaning, Invocation, Naming, invocation}
 use Rattle.comemo_cache.specs.Cache.{Entries}
 use Rattle.comemo.specs.Begin.{Reaches}
-use Rattle.comemo.specs.Called.{IsReply, IsReplyMut, IsLate}
+use Rattle.comemo.specs.Called.{IsReply, IsReplyMut}
 use Rattle.comemo.specs.Function.{Fits, OnPart}
-use Rattle.comemo.specs.FunctionMut.{Lent, HasBegun, NoneTouches, Goes, TellsMut, TellsWrites, OnPartWrites, IsFailed}
+use Rattle.comemo.specs.FunctionMut.{Lent, HasBegun, Goes, TellsMut, TellsWrites, OnPartWrites, IsFailed}
 use Rattle.comemo.specs.declared.pending.Reply.{Reply}
 use Rattle.comemo.specs.declared.pending.Fault.{Fault}
 use Rattle.comemo.specs.declared.pending.Fault.TheVariants as fault

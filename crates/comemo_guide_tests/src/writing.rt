@@ -1,9 +1,11 @@
 //! The functions that write at work: what a run writes, a hit writes again.
 
-use comemo::{BothMut, CacheData, How, MemoOfMut, Top, memoized_mut};
+use comemo::{BothMut, CacheData, How, MemoOf, MemoOfMut, ReadAndWrite, Top, Track, memoized_mut};
 use comemo_guide::adding::{Adds, AddsTwice};
 use comemo_guide::listing::Listing;
+use comemo_guide::read_and_write::{AddsDegrees, AddsOneMore, TallyWarmth};
 use comemo_guide::tally::Tally;
+use comemo_guide::warmth::Warmth;
 use comemo_samples::{Counter, Log, Town};
 use std::alloc::{AllocError, Global};
 use std::test::Fail;
@@ -119,6 +121,114 @@ fn a_town_is_read_and_a_counter_written(rt: HostRuntime) {
         assert!(rt; is_so, "for {town:?}");
     }
     assert_eq!(rt; counter.number, 46);
+}
+
+#[test]
+fn a_town_is_read_by_another_function_and_a_counter_written(rt: HostRuntime) -> Result<(), Fail> {
+    let alloc = rt.alloc();
+    let mut cache: CacheData<TallyWarmth> = CacheData::new(alloc);
+    let mut kept: CacheData<MemoOf<Warmth>> = CacheData::new(alloc);
+    let mut counter = Counter { number: 0 };
+    // The counter's number and the length of the cache of `Warmth` stand last.
+    let calls = [
+        (900, 21, How::Stored, 21, 1),
+        (7000, 21, How::Hit, 42, 1),
+        (7000, 4, How::Stored, 46, 2),
+    ];
+    for (people, degrees, how, sum, inner) in calls {
+        let town = Town { people, degrees };
+        let mut both = ReadAndWrite {
+            first: town.track(alloc),
+            second: &mut counter,
+        };
+        let reply = memoized_mut(
+            alloc,
+            &mut cache,
+            &mut kept,
+            (),
+            &mut both,
+            &mut Top::new(),
+            true,
+        )?;
+        assert_eq!(rt; (reply.output, reply.how), (degrees, how));
+        drop(both);
+        assert_eq!(rt; counter.number, sum);
+        assert_eq!(rt; kept.len(), inner);
+    }
+    Ok(())
+}
+
+#[test]
+fn a_counter_that_is_written_is_read_too(rt: HostRuntime) -> Result<(), Fail> {
+    let alloc = rt.alloc();
+    let town = Town {
+        people: 900,
+        degrees: 21,
+    };
+    let mut cache: CacheData<AddsDegrees> = CacheData::new(alloc);
+    let calls = [
+        (0, How::Stored, 21),
+        (21, How::Stored, 42),
+        (0, How::Hit, 21),
+    ];
+    for (number, how, sum) in calls {
+        let mut counter = Counter { number };
+        let mut both = ReadAndWrite {
+            first: town.track(alloc),
+            second: &mut counter,
+        };
+        let reply = memoized_mut(
+            alloc,
+            &mut cache,
+            &mut (),
+            (),
+            &mut both,
+            &mut Top::new(),
+            true,
+        )?;
+        assert_eq!(rt; (reply.output, reply.how), (number, how));
+        drop(both);
+        assert_eq!(rt; counter.number, sum);
+    }
+    Ok(())
+}
+
+#[test]
+fn a_counter_is_written_by_another_function(rt: HostRuntime) -> Result<(), Fail> {
+    let alloc = rt.alloc();
+    let mut cache: CacheData<AddsOneMore> = CacheData::new(alloc);
+    let mut kept: CacheData<MemoOfMut<Adds>> = CacheData::new(alloc);
+    let mut counter = Counter { number: 0 };
+    // The counter's number and the length of the cache of `Adds` stand last.
+    let calls = [
+        (21, How::Stored, 22, 1),
+        (21, How::Hit, 44, 1),
+        (4, How::Stored, 49, 2),
+    ];
+    for (degrees, how, sum, inner) in calls {
+        let town = Town {
+            people: 900,
+            degrees,
+        };
+        let mut both = ReadAndWrite {
+            first: town.track(alloc),
+            second: &mut counter,
+        };
+        let reply = memoized_mut(
+            alloc,
+            &mut cache,
+            &mut kept,
+            (),
+            &mut both,
+            &mut Top::new(),
+            true,
+        )?;
+        assert_eq!(rt; (reply.output, reply.how), (degrees + 1, how));
+        drop(both);
+        assert_eq!(rt; counter.number, sum);
+        assert_eq!(rt; kept.len(), inner);
+    }
+    Ok(())
 }
 
 /// The texts `to` and `day`.
