@@ -1,24 +1,42 @@
 #!/usr/bin/env python3
 """Checks that what the documents name is there.
 
-- Each path, crate, module, file of definitions or of lemmas, and edit that they name exists.
-- The table of crates in docs/ARCHITECTURE.md has each crate of crates.txt, and each module of it.
+- Each path, crate, file of definitions or of lemmas, and edit that they name exists.
+- Each `Type::member` and `module::item` that they name exists in crates/*/src, and so does the function of each
+  `CRATE/src/FILE.rt:FUNCTION`. The first column of docs/DIFFERENCES.md names the original's items, and is left out.
+- docs/ARCHITECTURE.md names each crate of crates.txt, and no crate names in its code what the table of layers there forbids.
+- Each module of a crate has a comment at its head.
 - Each crates/NAME/must-fail/README.md lists the edits of its folder, all and no others.
 - No crate but those named `*_tests` has a test, not even in a comment: `rt` would prove it twice.
-- Each line of code that docs/GUIDE.md and docs/BY_HAND.md quote stands in a file of crates/, laid out so or otherwise, and each file that
-  docs/START.md shows is shown whole.
+- Each line of code that README.md, docs/GUIDE.md and docs/BY_HAND.md quote stands in a file of crates/, laid out so or otherwise, and each
+  file that docs/START.md shows is shown whole.
 - The `old:` text of each edit stands exactly once in its file, as the earlier pairs of that edit leave it.
+- No document has more words than its budget, as `wc -w` counts them.
 
-Prints what is missing and exits with 1, or prints one line of counts and exits with 0.
+Prints what is missing, a line for each, and exits with 1; or prints one line of counts and exits with 0.
 """
 import re
 import sys
 from pathlib import Path
 
 ROOT = Path(__file__).resolve().parent.parent
-missing, paths = [], set()
+missing, paths, cited, hops = [], set(), set(), set()
 # What rt makes, and what is the original's: neither stands in the repository.
 ELSEWHERE = ("out", "examples")
+# How many words a document may have.
+BUDGETS = {
+    "README.md": 650,
+    "docs/START.md": 1000,
+    "docs/GUIDE.md": 2900,
+    "docs/BY_HAND.md": 700,
+    "docs/LEMMAS.md": 600,
+    "docs/PROMISES.md": 3000,
+    "docs/ARCHITECTURE.md": 1500,
+    "docs/DECISIONS.md": 2700,
+    "docs/DIFFERENCES.md": 1350,
+    "docs/MEASUREMENTS.md": 900,
+    "docs/gate.md": 700,
+}
 
 
 def say(where, what):
@@ -36,10 +54,72 @@ def name_of(path):
 CRATES = [line.partition(":")[0].split()[0] for line in read(ROOT / "crates.txt").splitlines() if re.match(r"\w+.*:", line)]
 
 
-def modules_of(crate):
-    """The modules that the crate's root file names."""
-    roots = [ROOT / "crates" / crate / "src" / name for name in ("lib.rt", "main.rt")]
-    return {m for it in roots if it.is_file() for m in re.findall(r"^(?:pub )?mod (\w+);", read(it), re.M)}
+def sources():
+    """The files of code, each with its crate."""
+    for file in sorted(ROOT.glob("crates/*/src/**/*.rt")):
+        yield file.relative_to(ROOT / "crates").parts[0], file
+
+
+def without_parameters(text):
+    """A type without what stands in angle brackets."""
+    while (less := re.sub(r"<[^<>]*>", "", text.replace("->", ""))) != text:
+        text = less
+    return text
+
+
+def owners_of(header):
+    """The types and traits that a header of an `impl`, a trait, a struct or an enum gives members to."""
+    if not header.startswith("impl"):
+        return [re.search(r"(?:trait|struct|enum) (\w+)", header)[1]]
+    bare = without_parameters(header).split(" where ")[0]
+    return [re.sub(r"\W", "", part.split("::")[-1]) for part in bare.removeprefix("impl").partition("{")[0].split(" for ")]
+
+
+def items():
+    """For each type, trait, module and crate the names that stand in it; and the names that come from std."""
+    named, foreign = {}, set()
+    for crate, file in sources():
+        text = read(file)
+        for names in re.findall(r"^use std::([^;]*);", text, re.M):
+            foreign |= set(re.findall(r"\w+", names))
+        for names in re.findall(r"^pub use ([^;]*);", text, re.M):
+            named.setdefault(crate, set()).update(re.findall(r"\w+", names))
+        for item in re.findall(r"^(?:pub(?:\(\w+\))? )?(?:const )?(?:fn|struct|enum|trait|type|const) (\w+)", text, re.M):
+            named.setdefault(file.stem, set()).add(item)
+            named.setdefault(crate, set()).add(item)
+        blocks = re.findall(
+            r"^((?:pub(?:\(\w+\))? )?(?:unsafe )?(?:impl|trait|struct|enum)\b[^;{]*\{)\n(.*?)^\}", text, re.M | re.S
+        )
+        for header, body in blocks:
+            members = re.findall(r"^    (?:pub(?:\(\w+\))? )?(?:final )?(?:(?:const|fn|type|ghost) )?(\w+)", body, re.M)
+            for owner in owners_of(re.sub(r"^pub(\(\w+\))? |unsafe ", "", " ".join(header.split()))):
+                named.setdefault(owner, set()).update(members)
+    return named, foreign
+
+
+NAMED, FOREIGN = items()
+
+
+def check_item(where, code):
+    """`Type::member`, `Type::{A, B}` or `module::item`, perhaps with what it is called with."""
+    found = re.fullmatch(r"(?:\w+::)*(\w+)::(\w+|\{[\w, ]+\})(\(.*)?", code)
+    if not found or found[1] in FOREIGN - set(NAMED):
+        return
+    for name in re.findall(r"\w+", found[2]):
+        cited.add(f"{found[1]}::{name}")
+        if name not in NAMED.get(found[1], ()):
+            say(where, f"no {found[1]}::{name}")
+
+
+def check_hop(where, code):
+    """`CRATE/src/FILE.rt:FUNCTION`."""
+    path, _, function = code.partition(":")
+    file = ROOT / "crates" / path
+    hops.add(code)
+    if not file.is_file():
+        say(where, f"no file {path}")
+    elif not re.search(rf"\bfn {function}\b", read(file)):
+        say(where, f"{path} has no function {function}")
 
 
 def has_lemmas(crate, folder, name, seen=()):
@@ -76,7 +156,13 @@ def check_document(path):
         paths.add(link)
         if not (path.parent / link).exists():
             say(where, f"no file {link}")
-    for code in re.findall(r"`([^`\n]+)`", re.sub(r"^```.*?^```$", "", text, flags=re.M | re.S)):
+    prose = re.sub(r"^```.*?^```$", "", text, flags=re.M | re.S)
+    ours = re.sub(r"^\|[^|]*\|", "|", prose, flags=re.M) if where == "docs/DIFFERENCES.md" else prose
+    for code in re.findall(r"`([^`\n]+)`", ours):
+        check_item(where, code)
+    for code in re.findall(r"`([^`\n]+)`", prose):
+        if re.fullmatch(r"\w+/src/\w+\.rt:\w+", code):
+            check_hop(where, code)
         if re.fullmatch(r"[\w.-]+(/[\w.+-]+)+/?", code):
             check_path(where, code, at)
         elif re.fullmatch(r"[a-z]\w*\.(rt|antt|md|py|txt)", code):
@@ -102,30 +188,44 @@ def cells(line):
 
 
 def check_crates():
-    """The table of crates: each crate has a row, with its modules and with definitions that exist."""
+    """Each crate has a folder and is named in docs/ARCHITECTURE.md, and each of its modules has a comment at its head."""
     where = "docs/ARCHITECTURE.md"
-    rows = {}
-    for row in map(cells, read(ROOT / where).splitlines()):
-        if len(row) == 5 and re.fullmatch(r"`\w+`", row[0]):
-            rows[row[0].strip("`")] = row
+    named = set(re.findall(r"`(\w+)`", read(ROOT / where)))
     for crate in CRATES:
         if not (ROOT / "crates" / crate / "src").is_dir():
             say("crates.txt", f"no folder of {crate}")
-        if crate not in rows:
-            say(where, f"no row of the crate {crate}")
-    for crate, row in rows.items():
-        if crate not in CRATES:
-            say(where, f"no crate {crate}")
-            continue
-        named = set(re.findall(r"`(\w+)`", row[1]))
-        for module in sorted(named ^ modules_of(crate)):
-            say(where, f"{crate} has no module {module}" if module in named else f"{crate} has a module {module} too")
-        for name in re.findall(r"`(\w+)`", row[4]):
-            if not (ROOT / "crates" / crate / "specs" / f"{name}.antt").is_file():
-                say(where, f"no file {crate}/specs/{name}.antt")
+        if crate not in named:
+            say(where, f"the crate {crate} is not named")
     for folder in (ROOT / "crates").iterdir():
         if folder.is_dir() and folder.name not in CRATES:
             say("crates.txt", f"{folder.name} is not listed")
+    for _, file in sources():
+        if not read(file).startswith("//! "):
+            say(name_of(file), "has no comment at its head")
+
+
+def check_layers():
+    """The rows of the table of layers: the code of these crates, but for their root files, has none of these words."""
+    where = "docs/ARCHITECTURE.md"
+    table = read(ROOT / where).partition("| Crates | Never name |")[2].partition("\n\n")[0]
+    rows = [re.findall(r"`(\w+)`", cell) for row in map(cells, table.splitlines()) if len(row) > 1 for cell in row[:2]]
+    if not rows:
+        say(where, "no table of layers")
+    for crates, words in zip(rows[::2], rows[1::2]):
+        for crate, file in sources():
+            if crate not in crates or file.stem in ("lib", "main"):
+                continue
+            code = re.sub(r"//.*", "", read(file))
+            for word in words:
+                if re.search(rf"\b{word}\b", code):
+                    say(name_of(file), f"names {word}, which {where} forbids")
+
+
+def check_budgets():
+    for where, budget in BUDGETS.items():
+        words = len(read(ROOT / where).split())
+        if words > budget:
+            say(where, f"{words} words, {words - budget} more than its budget of {budget}")
 
 
 def check_tests():
@@ -193,7 +293,7 @@ def check_quotes():
     lines, end = 0, 0
     blocks = [
         (where, block)
-        for where in ("docs/GUIDE.md", "docs/BY_HAND.md")
+        for where in ("README.md", "docs/GUIDE.md", "docs/BY_HAND.md")
         for block in re.findall(r"^```(?:rust|antt)\n(.*?)^```$", read(ROOT / where), re.M | re.S)
     ]
     for where, block in blocks:
@@ -220,13 +320,16 @@ def main():
     for document in documents:
         check_document(document)
     check_crates()
+    check_layers()
     check_tests()
+    check_budgets()
     edits = check_edits()
     lines = check_quotes()
     if missing:
         print("\n".join(dict.fromkeys(missing)))
         return 1
-    print(f"{len(paths)} paths, {edits} edits, {len(CRATES)} crates, {lines} lines quoted: all is there")
+    counts = f"{len(paths)} paths, {len(cited)} items, {len(hops)} hops, {edits} edits, {len(CRATES)} crates, {lines} lines quoted"
+    print(f"{counts}: all is there")
     return 0
 
 

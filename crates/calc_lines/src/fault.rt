@@ -1,3 +1,5 @@
+//! Why a run of a line program ended before its input did.
+
 /// Why a run ended before its input did.
 #[derive(Clone, Copy, Debug, PartialEq, Eq)]
 pub enum RunFault {

@@ -1,3 +1,4 @@
+//! Reading a line.
 ghost use Rattle.std.specs.Prelude.{◌≡◌, ◌≢◌, [], ◌∷◌, IfOk, IfErr, OnErr, IsTrue, not};
 ghost use Rattle.std.specs.Io.BufRead.{ends_with_byte};
 ghost use Rattle.calc_lines.specs.Lines.{without_line_end, TakesLines, BeginsLine, MeetsEnd, IsReadFault};

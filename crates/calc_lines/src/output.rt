@@ -1,3 +1,4 @@
+//! Writing what a line prints, and a message.
 ghost use Rattle.std.specs.Prelude.{◌≡◌, ℕ, ◌<◌, ◌≤◌, length, take, ◌++◌, IfOk, IfErr, OnOk, MatchResult};
 ghost use Rattle.std.specs.Io.KnownBytes.{Appends, WriteAppends};
 ghost use Rattle.calc_lines.specs.Written.{WritesBeginning};

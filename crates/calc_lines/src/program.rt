@@ -1,3 +1,4 @@
+//! A line program but for its streams: its words, its status and its message.
 ghost use Rattle.std.specs.Prelude.{◌≡◌, ℕ, ◌<◌, length};
 ghost use Rattle.calc_lines.specs.Started.{WritesFront, RanAs, fault_text, usage_of};
 

@@ -1,3 +1,4 @@
+//! The loop of a line program: a line, its answer, and what is written.
 ghost use Rattle.std.specs.Prelude.{◌≡◌, IfErr};
 ghost use Rattle.calc_lines.specs.Runs.{Ran};
 ghost use Rattle.calc_lines.specs.Written.{AnswersLine};

@@ -1,3 +1,4 @@
+//! What a line program knows between two lines.
 ghost use Rattle.std.specs.Prelude.{ℕ, List, IfOk, OnErr, string_bytes};
 
 use std::alloc::AllocError;
