@@ -4,8 +4,8 @@ pub enum RunFault {
     /// Reading a line failed, for a reason other than memory. What was read of the line is lost, and its line feed is
     /// unread. Also after 2^64 - 1 lines.
     Read,
-    /// Writing an answer failed, or the device took no byte: a proper prefix of the answer is written. Also after 2^64
-    /// - 1 interrupted attempts at one write. The reader is after the line.
+    /// Writing an answer failed, or the device took no byte: a proper prefix of the answer is written. The reader is after
+    /// the line. Also after 2^64 - 1 interrupted attempts at one write.
     Write,
     /// Out of memory while a line was read, in the loop or in the reader. The line is as after `Read`.
     Memory,

@@ -36,8 +36,6 @@ fn drop_line_end(line: &mut Vec<u8>)
 }
 
 /// Reads the next line, without its end, into the buffer of an earlier one; false at the end of the input.
-///
-/// On error the part of the line that was read is lost, and its line feed is unread.
 pub(crate) fn next_line<R: BufRead>(reader: &mut R, line: &mut Vec<u8>) -> Result<bool, RunFault>
     ensures line { IfOk result (λ more. IsTrue more → TakesLines (R.remaining reader.old)
         (line.new.items ∷ []) (R.remaining reader.new)) }

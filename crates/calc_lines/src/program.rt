@@ -19,8 +19,8 @@ fn message_end(fault: RunFault) -> &'static str
 
 /// A whole line program without its streams: runs the session on the reader's lines, and returns the exit status.
 ///
-/// With any arguments it only writes `usage: NAME` to `errors`; the status is 2. Otherwise it is 0, or 1 after a fault,
-/// which is written to `errors`. Failures of `errors` are ignored.
+/// With any arguments it only writes its usage to `errors`; the status is 2. Otherwise it is 0, or 1 after a fault, which
+/// is written to `errors`.
 pub fn start<R: BufRead, W: Write, E: Write, S: Session>(
     alloc: Global,
     name: &str,

@@ -9,7 +9,7 @@ use std::alloc::Global;
 use std::io::{BufRead, Write};
 use std::str;
 
-/// Asks the session for its answer to a line that is not empty, and writes it.
+/// Writes the session's answer to a line that is not empty.
 fn answer_line<W: Write, S: Session>(
     line: &str,
     writer: &mut W,
