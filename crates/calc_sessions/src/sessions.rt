@@ -10,8 +10,8 @@ use std::alloc::{AllocError, Global};
 
 /// Carries out commands in turn, beginning without files and with empty caches, and returns their answers.
 ///
-/// Fails, before the first command, if the list can't be allocated. Until an eviction, a script whose value is cached
-/// is a hit (or `Memory`) whenever the texts that it read are the same.
+/// Fails, before the first command, if the list can't be allocated. Until an eviction, a cached value is a hit whenever
+/// the texts that it read are the same.
 pub fn session(alloc: Global, commands: &[Command]) -> Result<Vec<Answer>, AllocError>
     ensures { IfOk result (λ answers. (before after : Texts) × (left : List Past)
         × ((path : List ℕ) → before path ≡ [])
