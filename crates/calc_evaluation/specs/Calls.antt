@@ -1,4 +1,4 @@
--- What a call of a script replies, and how it moves what a cache of outcomes keeps, with the scripts that its run calls.
+-- The reply to a call of a script, and how the call and the scripts that its run calls move a cache's entries.
 use Rattle.std.specs.Prelude.{◌≡◌, ◌≢◌, ◌⊎◌, ⊤, ℕ, List, IsTrue, bytes_eq}
 use Rattle.comemo.specs.Answers.{Agrees}
 use Rattle.comemo.specs.Meaning.{Run}

@@ -1,4 +1,4 @@
--- What a script comes to and what it asks for, by what its files answer.
+-- The outcome of a script and what it reads, by the answers of its files.
 use Rattle.std.specs.Prelude.{◌≡◌, ⊤, ℕ, List, ℤ, String, string_bytes, bytes_eq}
 use Rattle.std.specs.Global.{Global}
 use Rattle.comemo.specs.Cache.{Entries}

@@ -1,4 +1,4 @@
--- Files in memory, and what they answer.
+-- Files in memory, and their answers.
 use Rattle.std.specs.Prelude.{◌≡◌, ⊤, ℕ, List, string_bytes, unwrap_or}
 use Rattle.std.specs.HashMap.{get_by_text}
 use Rattle.comemo.specs.Function.{OnPart}

@@ -1,4 +1,4 @@
--- Calls and answers of a key joined with files, and when two are equal.
+-- Calls and answers of a key joined with files, and their equality.
 use Rattle.std.specs.Prelude.{◌≡◌, Bool, true, false, ◌&&◌, ⊤, List}
 use Rattle.std.specs.contracts.prelude.UnitPartialEq.TheImpl as unit
 use Rattle.comemo_track.specs.contracts.multi.MultiCallPartialEq.TheImpl as multi_call

@@ -1,4 +1,4 @@
--- The order of texts: by a number of each, and by the bytes of those with one number.
+-- The order of texts: by the hash of each, and then by their bytes.
 use Rattle.std.specs.Prelude.{◌≡◌, ℕ, true, List, ◌∷◌, Some, bytes_eq, nat_eq}
 use Rattle.std.proofs.Common.{◌∙◌, sym, subst}
 use Rattle.std.specs.Ordering.{nat_cmp, on, eq_by_cmp}

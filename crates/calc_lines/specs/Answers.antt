@@ -1,4 +1,4 @@
--- What a session answers to lines.
+-- A session's answers to lines.
 use Rattle.std.specs.Prelude.{ℕ, ◌<◌, List, [], ◌∷◌, ◌++◌, length, IsUtf8, codes}
 
 -- what a line prints for which the session found no memory

@@ -1,4 +1,4 @@
--- What a run read and wrote, and where it left the session, by how it ended.
+-- What a run read and wrote, and the state of the session afterwards, for each way in which it ended.
 use Rattle.std.specs.Prelude.{ℕ, List, [], ◌∷◌, Option, Result, Ok, Err, IsUtf8}
 use Rattle.std.specs.Io.KnownBytes.{Appends}
 use Rattle.calc_lines.specs.Lines.{TakesLines, BeginsLine, MeetsEnd}

@@ -1,4 +1,4 @@
--- What a broken off write leaves, and what one line writes.
+-- What an interrupted write leaves, and what one line writes.
 use Rattle.std.specs.Prelude.{ℕ, ◌<◌, List, [], ◌∷◌, length, take, Option, Result, Ok, Err}
 use Rattle.std.specs.Io.KnownBytes.{Appends}
 use Rattle.calc_lines.specs.Answers.{Answered}

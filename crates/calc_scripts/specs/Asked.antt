@@ -1,4 +1,4 @@
--- Which paths a script asks for, where it is known which text stands at each path.
+-- The paths that a script reads, given the text at each path.
 use Rattle.std.specs.Prelude.{ℕ, List, ◌∷◌, ℤ, pos, ◌+ℤ◌, Ok}
 use Rattle.calc_scripts.specs.Parts.{parts, IsEval}
 use Rattle.calc_scripts.specs.Meaning.{Fits, PartMeans}

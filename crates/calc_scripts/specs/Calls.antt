@@ -1,4 +1,4 @@
--- How calls of scripts move a state, such as what a cache keeps, each in the turn in which the parts of a script are taken.
+-- How calls of scripts move a state, such as a cache's entries, in the order of the script's parts.
 use Rattle.std.specs.Prelude.{ℕ, List, [], ◌∷◌, ℤ, pos, ◌+ℤ◌, Ok, Err}
 use Rattle.calc_scripts.specs.Parts.{parts, IsEval, IsNoEval}
 use Rattle.calc_scripts.specs.Meaning.{Fits, PartMeans}

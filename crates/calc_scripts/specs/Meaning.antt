@@ -1,4 +1,4 @@
--- What a script means, where it is known which text stands at each path.
+-- What a script means, given the text at each path.
 use Rattle.std.specs.Prelude.{ℕ, zero, suc, ◌≤◌, max, List, [], ◌∷◌, ℤ, pos, ◌+ℤ◌, FitsSigned, Result, Ok, Err}
 use Rattle.std.specs.Int.{w32}
 use Rattle.calc_scripts.specs.Parts.{parts, IsEval, IsNumber, IsBad}

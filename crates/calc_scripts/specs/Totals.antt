@@ -1,4 +1,4 @@
--- What taking a part does to the sum, and the value at the end.
+-- How a part changes the sum, and the value at the end.
 use Rattle.std.specs.Prelude.{◌≡◌, ℤ, ◌+ℤ◌, Result, Ok, Err}
 use Rattle.calc_scripts.specs.declared.outcome.CalcFault.{CalcFault}
 use Rattle.calc_scripts.specs.declared.outcome.CalcFault.TheVariants.{Overflow}

@@ -1,4 +1,4 @@
--- What a session answers.
+-- A session's answers.
 use Rattle.comemo.specs.declared.pending.How.{How}
 use Rattle.comemo.specs.declared.pending.How.TheVariants as how
 use Rattle.std.specs.Prelude.{Bool, true, false, ◌≡◌, ◌≤◌, ℕ, List, bytes_eq, length, if◌then◌else◌}

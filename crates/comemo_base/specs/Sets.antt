@@ -1,5 +1,5 @@
--- Which sets of pairs a tree's paths make. A set is given by any list of its pairs, whose calls are distinct: no definition
--- looks at the order in such a list, nor at that of the entries.
+-- The sets of pairs that a tree's paths form. A set is any list of its pairs, whose calls are distinct: neither the order of
+-- that list nor that of the entries matters.
 use Rattle.std.specs.Prelude.{◌≡◌, ◌<◌, ◌≢◌, ℕ, Bool, List, ◌∷◌, length, IsTrue, Option, MatchOption, slice_index_or}
 use Rattle.std.specs.List.{Any}
 use Rattle.std.specs.List.Sorted.{IsPermutation}

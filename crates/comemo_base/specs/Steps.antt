@@ -1,4 +1,4 @@
--- What the private steps of the plain tree say. No public clause speaks of this.
+-- The contracts of the plain tree's private steps. No public contract uses this.
 use Rattle.std.specs.Prelude.{ℕ, ◌<◌, Bool, List, length, IsTrue, slice_index_or}
 use Rattle.std.specs.List.{HoldsAt}
 

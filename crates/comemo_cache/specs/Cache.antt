@@ -1,4 +1,4 @@
--- What a cache keeps, and when an entry is legal.
+-- What a cache holds, and when an entry is legal.
 use Rattle.std.specs.Prelude.{◌≡◌, ℕ, ◌+◌, nat_lt, Bool, ◌⊎◌, true, false, List, ◌∷◌, Option, None, map, filter, refl, IsTrue}
 use Rattle.std.specs.List.{All, Any}
 use Rattle.std.specs.List.Sorted.{IsPermutation}

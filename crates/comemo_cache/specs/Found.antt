@@ -1,4 +1,4 @@
--- What becomes of the entry that a look-up found. It says nothing that a reader must believe.
+-- The entry that a look-up found, afterwards. A reader needn't trust this.
 use Rattle.std.specs.Prelude.{◌≡◌, ℕ, ◌⊎◌, Bool, List}
 use Rattle.comemo_tree.specs.Change.{HasAnswers}
 use Rattle.comemo_cache.specs.Cache.{Entries, TouchesAt}

@@ -1,5 +1,5 @@
--- What is known of the entries of a holder of a cache. A cache's only holder tells them. One that shares it with other threads tells
--- none, as these may change them at any moment.
+-- What is known about the entries of a holder of a cache. The only holder of a cache shows them. A holder that shares it with
+-- other threads shows none, as these may change them at any moment.
 use Rattle.std.specs.Prelude.{◌≡◌, ⊤, ◌⊎◌, Option, Some, None}
 
 module _ {E : Type 0} where

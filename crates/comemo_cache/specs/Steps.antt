@@ -1,4 +1,4 @@
--- The steps of a cache as those of a plain list of entries: what each answers, and the entries after it.
+-- The steps of a cache as steps on a plain list of entries: the reply to each, and the entries after it.
 use Rattle.std.specs.Prelude.{◌≡◌, Bool, true, false, List, [], ◌∷◌}
 use Rattle.std.specs.List.{All}
 use Rattle.std.specs.Map.{lookup}

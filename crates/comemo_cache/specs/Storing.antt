@@ -1,4 +1,4 @@
--- When a run is stored, and what is kept of it.
+-- When a run is stored, and what is stored of it.
 use Rattle.std.specs.Prelude.{◌≡◌}
 use Rattle.comemo_base.specs.Lookup.{under}
 use Rattle.comemo_base.specs.Insertion.{Exists, Misses, Adds}

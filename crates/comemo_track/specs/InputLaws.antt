@@ -1,4 +1,4 @@
--- The laws of inputs, which the trait asks. They say nothing that a reader must believe.
+-- Proofs of the laws that the trait of inputs demands. A reader needn't trust them.
 use Rattle.std.proofs.Common.{◌≡◌, Bool, IsTrue, sym, subst}
 use Rattle.std.specs.Cmp.{IsEquivalence}
 

@@ -1,5 +1,4 @@
--- The laws of a sink that sends each call on through a map, which the trait asks. They say nothing that a reader must
--- believe.
+-- Proofs of the laws that the trait demands of a sink that sends calls on through a map. A reader needn't trust them.
 use Rattle.std.proofs.Common.{◌≡◌, Bool, ◌⊎◌, List, [], ◌∷◌, ◌++◌, map, IsTrue, refl, sym, ap, subst, ◌∙◌, inl, inr}
 use Rattle.std.proofs.lemmas.List.{map-append}
 use Rattle.std.proofs.lemmas.Bool.{cases_Bool}

@@ -1,4 +1,4 @@
--- The laws of joined inputs, which the traits ask. They say nothing that a reader must believe.
+-- Proofs of the laws that the traits demand of joined inputs. A reader needn't trust them.
 use Rattle.std.proofs.Common.{◌≡◌, Bool, ◌||◌, IsTrue, List, [], ◌∷◌, ◌++◌, refl, sym, ap, subst}
 use Rattle.comemo_base.specs.Answers.{Respects}
 use Rattle.comemo_track.specs.Multi.{second_call, second_answer, firsts, seconds, part_touches}

@@ -1,4 +1,4 @@
--- The laws of a recording as a sink, which the trait asks. They say nothing that a reader must believe.
+-- Proofs of the laws that the trait demands of a recording as a sink. A reader needn't trust them.
 use Rattle.std.proofs.Common.{◌≡◌, Bool, true, false, cond, ◌||◌, ◌⊎◌, List, [], ◌∷◌, ◌++◌, IsTrue, refl, sym, ap, ◌∙◌, inl, inr, append_assoc, append-nil}
 use Rattle.std.proofs.lemmas.Bool.{cases_Bool}
 use Rattle.std.proofs.lemmas.List.Folds.{list_any-append}

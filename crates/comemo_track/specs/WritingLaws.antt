@@ -1,4 +1,4 @@
--- The laws of writes, which the traits ask. They say nothing that a reader must believe.
+-- Proofs of the laws that the traits demand of writes. A reader needn't trust them.
 use Rattle.std.proofs.Common.{◌≡◌, Bool, true, false, ◌||◌, List, [], ◌∷◌, ◌++◌, IsTrue, refl, sym, subst}
 use Rattle.std.specs.Cmp.{IsEquivalence}
 use Rattle.comemo_base.proofs.Paths.{joined}

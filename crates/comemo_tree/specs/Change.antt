@@ -1,4 +1,4 @@
--- What becomes of a tree's entries where the value of one of them is changed.
+-- A tree's entries after the value of one of them is changed.
 use Rattle.std.specs.Prelude.{◌≡◌, Bool, List, [], ◌∷◌, IsTrue}
 use denote.Ref.{MutBor}
 use denote.Param.Members.{Shared}

@@ -1,4 +1,4 @@
--- A path that is added to the nodes of a tree. No public clause speaks of this.
+-- How a path is added to the nodes of a tree. No public contract uses this.
 use Rattle.std.specs.Prelude.{◌≡◌, ℕ, zero, suc, Bool, cond, List, ◌∷◌, ◌++◌, Option, Some, None}
 use Rattle.std.specs.List.Sorted.{IsPermutation}
 use Rattle.std.specs.Map.{lookup}

@@ -1,4 +1,4 @@
--- What each pass of a pruning does to the nodes of a tree. No public clause speaks of this.
+-- What each pass of a pruning does to the nodes of a tree. No public contract uses this.
 use Rattle.std.specs.Prelude.{◌≡◌, ◌⊎◌, ℕ, suc, Bool, true, false, cond, List, [], ◌∷◌, Option, Some, None, filter, is_some, option_map, ◌<◌, ◌≤◌}
 use Rattle.slab.specs.Slab as slab
 use Rattle.comemo_tree.specs.Nodes.{Points, Leads}

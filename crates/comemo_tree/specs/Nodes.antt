@@ -1,4 +1,4 @@
--- How the nodes of a tree lie to each other, and the entries that they hold. No public clause speaks of this.
+-- How the nodes of a tree are linked, and their entries. No public contract uses this.
 use Rattle.std.specs.Prelude.{◌≡◌, ◌≢◌, ℕ, zero, suc, Bool, false, cond, List, [], ◌∷◌, ◌++◌, map, Option, Some, None, IsTrue, option_map}
 use Rattle.std.specs.Option.{option_to_list}
 use Rattle.std.specs.List.{slice_get, insert, IsDistinct}

@@ -1,4 +1,4 @@
--- Which leaf a list of answers leads to. No public clause speaks of this.
+-- The leaf to which a list of answers leads. No public contract uses this.
 use Rattle.std.specs.Prelude.{ℕ, Bool, List}
 use Rattle.std.specs.HashMap.{HashMap}
 use Rattle.slab.specs.Slab as slab

@@ -1,4 +1,4 @@
--- What is left of a tree's entries after each value was shown to a test that may change it.
+-- A tree's entries after each value was shown to a test, which may change it.
 use Rattle.std.specs.Prelude.{◌≡◌, Bool, cond, List, [], ◌∷◌}
 use denote.Ref.{MutBor}
 use denote.Param.Members.{Shared}

@@ -1,4 +1,4 @@
--- How many fronts the paths of a tree have.
+-- How many prefixes the paths of a tree have.
 use Rattle.std.specs.Prelude.{◌≡◌, ◌≢◌, ◌<◌, ◌-◌, ◌^◌, ℕ, min, Bool, List, [], length, IsTrue}
 use Rattle.std.specs.List.{All, AllPairs, Any}
 use Rattle.comemo_base.specs.Tree.{Stored, IsFront, IsSamePath}
