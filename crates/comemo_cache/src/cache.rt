@@ -373,6 +373,7 @@ impl<M: Memo> CacheData<M> {
                 if kept.age >= max_age {
                     return false;
                 }
+                // Never overflows: the age is below the bound.
                 kept.age += 1;
                 true
             },

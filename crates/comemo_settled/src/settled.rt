@@ -169,6 +169,7 @@ impl<A: Asks, T: Drop> Settled<A, T> {
             TreeOp::Insert(key, sequence, value) => match self.insert(key, sequence, value) {
                 Ok(()) => TreeReply::Inserted,
                 Err(InsertError::AlreadyExists) => TreeReply::AlreadyExists,
+                // A run of the function lacks no stored call.
                 Err(InsertError::MissingCall) => unreachable!(),
                 Err(InsertError::Memory) => TreeReply::Memory,
             },

@@ -165,7 +165,7 @@ impl<'a, T: Track> Accelerated<'a, T> {
 }
 
 /// A caching view: an input without a key, whose calls and answers are the value's. A look-up asks the value only what
-/// the view doesn't know yet. Lent as `&mut`, the view is its caller's again after the look-up.
+/// the view doesn't know yet. Passed by `&mut`, the view can be used again after the look-up.
 impl<'a, T: Track> Input for Accelerated<'a, T> {
     type Call = T::Call;
 

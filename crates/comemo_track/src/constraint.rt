@@ -143,6 +143,7 @@ impl<C: Call, R: Drop> Constraint<C, R> {
         let late = self.late || touch_some(&self.writes, &reads);
         self.writes.reserve(writes.len())?;
         self.reads.absorb(reads)?;
+        // Room was made above, so this never fails.
         let Ok(()) = self.writes.append(&mut writes) else {
             unreachable!()
         };

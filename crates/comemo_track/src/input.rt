@@ -181,8 +181,8 @@ impl<'a, K: Clone + Eq + Hash, T: Track> Input for KeyedMut<'a, K, T> {
     }
 }
 
-/// A view: an input without a key, whose calls and answers are the view's. Lent as `&mut`, it is its caller's again
-/// after a look-up.
+/// A view: an input without a key, whose calls and answers are the view's. Passed by `&mut`, it can be used again after
+/// a look-up.
 impl<'a, T: Track> Input for Tracked<'a, T> {
     type Call = T::Call;
 
@@ -263,7 +263,7 @@ impl<'a, T: Track> Input for &mut Tracked<'a, T> {
     }
 }
 
-/// A writing view: an input without a key, whose calls and answers are the view's. Lent as `&mut`, it is its caller's
+/// A writing view: an input without a key, whose calls and answers are the view's. Passed by `&mut`, it can be used
 /// again after a call.
 impl<'a, T: Track> Input for TrackedMut<'a, T> {
     type Call = T::Call;

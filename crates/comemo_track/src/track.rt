@@ -1,5 +1,5 @@
-//! Tracked values, their calls, and the sinks that record the calls. Views and sinks here don't allocate; the calls do
-//! what their values and sinks do.
+//! Tracked values, their calls, and the sinks that record the calls. Making a view does not allocate today, though it
+//! takes `alloc`. A call allocates what its value and its sink do.
 ghost use Rattle.std.specs.Prelude.{◌≡◌, ◌≤◌, ◌+◌, ◌^◌, ◌||◌, ◌⊎◌, ℕ, [], ◌∷◌, ◌++◌, List, Bool, true, false, not, length, Some, is_none, IsTrue, IsOk, IfOk, OnOk, OnErr, ⊤, refl};
 ghost use Rattle.std.proofs.Common.{◌∙◌, inl};
 ghost use Rattle.comemo_base.specs.Answers.{Respects};

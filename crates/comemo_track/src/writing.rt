@@ -1,4 +1,4 @@
-//! Views that read and write. Views don't allocate; calls do what their values and sinks do.
+//! Views that read and write. Making a view does not allocate today. A call allocates what its value and its sink do.
 ghost use Rattle.std.specs.Prelude.{◌≡◌, [], ◌∷◌, true, false, Some, IsTrue, IfOk, OnOk, OnErr};
 ghost use Rattle.comemo_track.specs.Sending.{Asks};
 ghost use Rattle.comemo_track.specs.Views.{value_of, sink_of, place_of, place_in, writing_sink_of};
@@ -53,6 +53,7 @@ impl<'a, T: Track> TrackedMut<'a, T> {
     {
         sink.reserve(1)?;
         self.value.call_mut(&call)?;
+        // The sink has room, so this never fails.
         let Ok(_) = sink.emit(call, None) else {
             unreachable!()
         };
@@ -159,6 +160,7 @@ impl<'a, T: Track, S: Sink<Call = T::Call, Answer = T::Answer>> TrackedMutWith<'
     {
         self.sink.reserve(1)?;
         self.value.call_mut(&call)?;
+        // The sink has room, so this never fails.
         let Ok(_) = self.sink.emit(call, None) else {
             unreachable!()
         };

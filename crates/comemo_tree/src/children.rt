@@ -99,6 +99,7 @@ impl<R: Ord> Children<R> {
             let (former, at) = self.first.replace((answer, node)).unwrap();
             return match self.more.insert(former, at) {
                 Ok(_) => Ok(()),
+                // The former pair comes back with the error, and to its place.
                 Err(refused) => {
                     self.first = Some(refused.value);
                     Err(AllocError)

@@ -20,6 +20,7 @@ impl<K> GhostKey<K> {
     pub(crate) fn of(key: &K) -> GhostKey<K>
         ensures { result.value ≡ key.now }
     {
+        // Only the contract uses it.
         let _ = key;
         GhostKey {
             marker: PhantomData,

@@ -201,6 +201,7 @@ where
     ensures { Grown C.eq R.eq K.eq inner.old leaves.old inner.new leaves.new starts.now
         key.value sequence.pairs value }
 {
+    // Only the contract uses it.
     let _ = before;
     sequence.has_distinct_calls();
     let Some((call, answer)) = sequence.next() else {
@@ -219,6 +220,7 @@ where
         depth: 0,
         kept: false,
     });
+    // The first child of a new node does not allocate, so this never fails.
     let Ok(()) = grow(
         alloc, inner, leaves, starts, id, answer, key, sequence, value,
     ) else {

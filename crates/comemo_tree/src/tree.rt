@@ -39,7 +39,7 @@ use std::snapshot::Snapshot;
 pub(crate) struct InnerNode<C, R: Ord> {
     /// The call.
     pub(crate) call: C,
-    /// Where its answers lead.
+    /// The children, by answer.
     pub(crate) children: Children<R>,
     /// Its parent, or `None` for a key's first node.
     pub(crate) parent: Option<usize>,
@@ -409,6 +409,7 @@ where
     ensures len { OnOk result (slab_len inner.new ≡ slab_len inner.old + 1) }
     ensures err { OnErr result (inner.new ≡ inner.old) }
 {
+    // The key that the node will get. The link comes first, since only it can fail.
     let id = inner.vacant_key();
     let node = &mut inner[above];
     let depth = node.depth + 1;
@@ -444,6 +445,7 @@ where
     ensures first { IfSome (get inner.old above) (λ n. n.children ≡ [] → IsOk result) }
     ensures err { OnErr result ((inner.new ≡ inner.old) × (leaves.new ≡ leaves.old)) }
 {
+    // The key that the leaf will get. The link comes first, since only it can fail.
     let id = leaves.vacant_key();
     let node = &mut inner[above];
     let depth = node.depth + 1;
