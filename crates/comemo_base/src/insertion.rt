@@ -4,10 +4,10 @@ use std::alloc::{AllocError, AllocFailed};
 /// Why an insertion stored nothing. The tree is unchanged after each of these.
 #[derive(Clone, Copy, Debug, PartialEq, Eq)]
 pub enum InsertError {
-    /// A stored path under the key has all its pairs among those of the sequence.
+    /// A stored path under the key has all its pairs in the sequence.
     AlreadyExists,
-    /// A stored path shares a prefix with the sequence and then has a call that the sequence lacks: the function that
-    /// was run isn't determined by its key and answers.
+    /// A stored path under the key has a prefix whose pairs are all in the sequence, and then a call that the sequence
+    /// lacks: the function that was run isn't determined by its key and answers.
     MissingCall,
     /// Out of memory, or the path would be longer than a `usize` can hold.
     Memory,
@@ -25,7 +25,7 @@ impl From<AllocError> for InsertError {
     }
 }
 
-/// For `?` on a value that found no room. The value is dropped.
+/// For `?` on a value that found no memory. The value is dropped.
 impl<T: Drop> From<AllocFailed<T>> for InsertError {
     ghost use Rattle.std.specs.Prelude.{◌≡◌};
     ghost use Rattle.comemo_base.specs.declared.insertion.InsertError.TheVariants.{Memory};

@@ -252,7 +252,7 @@ impl<K: Eq + Hash, C: Eq + Hash, R: Ord, T> PlainTree<K, C, R, T> {
     }
 }
 
-/// Takes the longest prefix that the sequence shares with the tree out of the sequence.
+/// The longest path that the sequence shares with the tree, whose pairs are taken out of the sequence.
 fn walk<K: Eq + Hash, C: Clone + Eq + Hash, R: Ord + Drop, T>(
     alloc: Global,
     entries: &[Entry<K, C, R, T>],

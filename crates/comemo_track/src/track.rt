@@ -100,7 +100,7 @@ pub trait Sink {
         ensures succeeds { IsTrue (is_none answer) → 1 ≤ room self.old → IsOk result }
         ensures room { room self.old ≤ room self.new + length (sent_writes call answer) };
 
-    /// Makes room for this many writes, so that emitting them succeeds. On error nothing is lost.
+    /// Makes room for this many writes, so that emitting them succeeds. Changes nothing else.
     fn reserve(&mut self, writes: usize) -> Result<(), AllocError>
         ensures ok { OnOk result (writes ≤ room self.new) }
         ensures same { took self.old self.new [] [] };

@@ -1,5 +1,5 @@
-//! How a path is added to the nodes of a tree. All memory is allocated before the first change but for one link, so on
-//! every error no value has changed.
+//! How a path is added to the nodes of a tree. Memory is allocated before anything changes; only the first link may
+//! allocate later, and it is the first change. So an error changes no value.
 ghost use Rattle.std.specs.Prelude.{◌≡◌, ◌++◌, ◌∷◌, ◌+◌, ◌<◌, ◌^◌, [], length, None, Some, IfSome, IfNone, IsOk, IfOk, OnOk, OnErr, List};
 ghost use Rattle.std.specs.HashMap as map;
 ghost use Rattle.slab.specs.Slab.{get, HasRoomFor};

@@ -461,7 +461,7 @@ where
 
 /// The node where a sequence's path diverges from the stored ones, and the answer that leads on from it.
 ///
-/// The shared prefix is taken out of the sequence.
+/// The pairs before it are taken out of the sequence.
 fn walk<K: Eq + Hash, C: Eq + Hash + Drop, R: Ord + Drop, T>(
     inner: &Slab<InnerNode<C, R>>,
     leaves: &Slab<LeafNode<K, T>>,
