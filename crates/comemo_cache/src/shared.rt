@@ -286,7 +286,7 @@ fn evict_parts<M: Memo, R: Wait>(rt: &R, parts: &[[Lane<M>; LANES]], max_age: us
 }
 
 /// A share of a cache, for the calls of one thread. Each step takes the lock and releases it. Look-ups share the lock;
-/// a touch and a store have it alone.
+/// a touch and a store hold it exclusively.
 ///
 /// Its entries aren't known, since other threads may change them between two steps.
 #[derive(Drop)]

@@ -34,7 +34,7 @@ fn left<C: Eq + Hash, R>(sequence: &CallSequence<C, R>) -> usize
 /// Adds the rest of a path below an inner node: an answer, then the pairs of a sequence, then the leaf.
 ///
 /// There is room for its nodes, and a new node takes its first child without allocating. So only the first link can
-/// fail. `starts` is for the contract alone.
+/// fail. `starts` is only for the contract.
 fn grow<K: Eq + Hash + Drop, C: Eq + Hash + Drop, R: Ord + Drop, T: Drop>(
     alloc: Global,
     inner: &mut Slab<InnerNode<C, R>>,
@@ -178,7 +178,7 @@ where
 /// Adds a key's first path, the pairs of a sequence, and its leaf. There is room for the nodes, and the key is stored
 /// already.
 ///
-/// `starts` and `before` are for the contract alone.
+/// `starts` and `before` are only for the contract.
 pub(crate) fn plant<K: Eq + Hash, C: Eq + Hash + Drop, R: Ord + Drop, T: Drop>(
     alloc: Global,
     inner: &mut Slab<InnerNode<C, R>>,
