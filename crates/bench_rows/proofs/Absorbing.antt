@@ -1,4 +1,4 @@
--- What holds of all pairs holds of those that are absorbed.
+-- What holds for all pairs holds for absorbed ones.
 use Rattle.std.proofs.Common.{Bool, true, false, cond, List, [], ◌∷◌, ◌++◌, suc, arith}
 use Rattle.std.specs.List.{All}
 use Rattle.std.proofs.lemmas.List.Elements.{All-nil, All-push}

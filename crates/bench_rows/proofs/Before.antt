@@ -1,4 +1,4 @@
--- The numbers of Fibonacci, each from the two before it.
+-- Fibonacci numbers, each from the two before it.
 use Rattle.std.proofs.Common.{◌≡◌, ◌≤◌, ◌+◌, ◌-◌, ℕ, zero, suc, arith, sym, ap, ◌∙◌}
 use Rattle.bench_rows.specs.Fibonacci.{fib}
 

@@ -1,4 +1,4 @@
--- What is emitted, and that equal writes emit the same.
+-- What is emitted; equal writes emit the same.
 use Rattle.std.specs.Prelude.{◌≡◌, ℕ, Bool, List, [], ◌∷◌, String, IsTrue, map, codes, string_bytes}
 use Rattle.std.proofs.Common.{◌∙◌, refl, sym, ap}
 use Rattle.std.specs.Global.{Global}

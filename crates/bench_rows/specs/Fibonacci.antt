@@ -1,7 +1,7 @@
--- The numbers of Fibonacci.
+-- Fibonacci numbers.
 use Rattle.std.specs.Prelude.{ℕ, zero, suc, ◌+◌}
 
--- the number at a place, and the one after it
+-- the number at an index, and the next one
 abbrev pub fib_pair : ℕ → ℕ × ℕ
 fib_pair zero = (0, 1)
 fib_pair (suc n) = ((fib_pair n).1, (fib_pair n).0 + (fib_pair n).1)

@@ -1,4 +1,4 @@
--- What a place answers.
+-- The answers of a place.
 use Rattle.std.specs.Prelude.{ℕ, String}
 use Rattle.std.specs.Global.{Global}
 use Rattle.bench_rows.specs.declared.place.PlaceCall.{PlaceCall}

@@ -1,4 +1,4 @@
-//! Rows of ages: what evictions drop, and what hits and touches make young again.
+//! Rows of ages: what evictions drop, and what hits and touches refresh.
 ghost use Rattle.std.specs.Prelude.{◌≡◌, IfOk};
 ghost use Rattle.std.specs.List.{All};
 ghost use Rattle.std.proofs.Common.{rules};
@@ -13,7 +13,7 @@ use comemo::{
 };
 use std::alloc::{AllocError, Global};
 
-/// Gives 0.
+/// Returns 0.
 struct Null;
 
 impl Function for Null {
@@ -34,7 +34,7 @@ impl Function for Null {
     }
 }
 
-/// The age that an entry has after an eviction, if it stays.
+/// An entry's age after an eviction, if it stays.
 pub(crate) fn aged(age: Option<usize>, max_age: usize) -> Option<usize> {
     match age {
         Some(age) if age < max_age => Some(age.saturating_add(1)),
@@ -42,8 +42,8 @@ pub(crate) fn aged(age: Option<usize>, max_age: usize) -> Option<usize> {
     }
 }
 
-/// Calls the function of nothing, of which an entry of this age is kept or none. Takes note of what became of the
-/// call, and gives the age of the entry that is kept then.
+/// Calls the function of nothing, whose entry has this age, or doesn't exist. Checks the result, and returns the
+/// entry's age afterwards.
 fn call_null(
     alloc: Global,
     cache: &mut CacheData<MemoOf<Null>>,
@@ -78,13 +78,13 @@ fn call_null(
     }
 }
 
-/// Whether an eviction drops what is as old as its bound, and a hit makes what it gives young again. A call that is
-/// refused leaves the entry its age.
+/// Whether an eviction drops entries as old as its bound, and a hit refreshes its entry. A failing call doesn't change
+/// the entry's age.
 pub(crate) fn hits_stay_young(alloc: Global) -> Result<bool, Broken> {
     let mut cache: CacheData<MemoOf<Null>> = CacheData::new(alloc);
     let mut tally = Tally::new();
     let mut kept = None;
-    // How many evictions come before a call, their bound, and what becomes of the call.
+    // How many evictions precede a call, their bound, and the call's result.
     let calls: &[(u32, usize, How)] = &[
         (0, 0, How::Stored),
         (0, 0, How::Hit),
@@ -106,7 +106,7 @@ pub(crate) fn hits_stay_young(alloc: Global) -> Result<bool, Broken> {
     tally.came_to()
 }
 
-/// What a step came to.
+/// A short form of a step's result.
 #[derive(Clone, Copy, Drop, Debug, PartialEq, Eq)]
 enum Said {
     Found(u32),
@@ -118,7 +118,7 @@ enum Said {
     Done,
 }
 
-/// What a reply says, of an entry that was found its output.
+/// The short form of a reply; for an entry, its output.
 fn said_by(reply: &StepReply<Anything>) -> Said {
     match reply {
         StepReply::Found(found) => Said::Found(found.output),
@@ -131,7 +131,7 @@ fn said_by(reply: &StepReply<Anything>) -> Said {
     }
 }
 
-/// Whether steps of a new cache are answered so.
+/// Whether a new cache answers the steps like this.
 fn are_answered(
     alloc: Global,
     steps: Vec<Step<Anything>>,
@@ -156,10 +156,10 @@ const Y: u32 = 2;
 
 const Z: u32 = 3;
 
-/// Steps, where there was memory for them.
+/// Steps, unless they ran out of memory.
 type Steps = Result<Vec<Step<Anything>>, AllocError>;
 
-/// The steps and one more, where there was memory for all of them.
+/// The steps and one more, unless either ran out of memory.
 fn add(steps: Steps, step: Result<Step<Anything>, AllocError>) -> Steps
     requires before { IfOk steps (λ steps.
         All (IsStep ⟦<Anything as Meant>⟧.meaning) steps.items) }
@@ -171,7 +171,7 @@ fn add(steps: Steps, step: Result<Step<Anything>, AllocError>) -> Steps
     Ok(steps)
 }
 
-/// Steps under one key, of one path.
+/// Steps under one key, with one path.
 fn steps_of_one_path(alloc: Global) -> Steps
     ensures { IfOk result (λ steps. All (IsStep ⟦<Anything as Meant>⟧.meaning) steps.items) }
 {
@@ -188,7 +188,7 @@ fn steps_of_one_path(alloc: Global) -> Steps
     add(steps, look(alloc, 1, &[(b'a', 10)], 0))
 }
 
-/// A step of one path: it stores an output, looks, touches, or evicts by a bound.
+/// A step with one path: it stores an output, looks, touches, or evicts with a bound.
 #[derive(Clone, Copy, Drop)]
 enum Kind {
     Store(u32),
@@ -197,8 +197,8 @@ enum Kind {
     Evict(usize),
 }
 
-/// Takes note of what a step of one path is answered, before which an entry of this output and age was kept or none.
-/// Gives the output and the age of the entry that is kept then. A step that is refused changes nothing.
+/// Checks the reply to a step with one path, given the entry's output and age before, and returns them afterwards. A
+/// failing step changes nothing.
 fn after(
     tally: &mut Tally,
     kept: Option<(u32, usize)>,
@@ -235,7 +235,7 @@ fn after(
     kept
 }
 
-/// Whether a touch makes an entry young again, and a look-up doesn't. A step that is refused changes nothing.
+/// Whether a touch refreshes an entry, a look-up doesn't, and a failing step changes nothing.
 pub(crate) fn touches_stay_young(alloc: Global) -> Result<bool, Broken> {
     let wanted: &[(Kind, Said)] = &[
         (Kind::Store(X), Said::Stored),
@@ -267,7 +267,7 @@ pub(crate) fn touches_stay_young(alloc: Global) -> Result<bool, Broken> {
     tally.came_to()
 }
 
-/// Steps under one key, of paths of other calls with an answer that was there before.
+/// Steps under one key, where the paths have different calls but equal answers.
 fn steps_of_another_path(alloc: Global) -> Steps
     ensures { IfOk result (λ steps. All (IsStep ⟦<Anything as Meant>⟧.meaning) steps.items) }
 {
@@ -288,7 +288,7 @@ fn steps_of_another_path(alloc: Global) -> Steps
     add(steps, look(alloc, 1, &[(b'b', 10)], 0))
 }
 
-/// Whether a touch by the answers of an entry that went makes a younger one young, and nothing else does.
+/// Whether a touch with the answers of a dropped entry refreshes a later one with equal answers, and nothing else does.
 pub(crate) fn touches_go_by_answers(alloc: Global) -> Result<bool, Broken> {
     let wanted: &[Said] = &[
         Said::Stored,

@@ -1,13 +1,12 @@
-//! What keeps a row from its end.
+//! Why a row didn't reach its end.
 
 use calc_lines::RunFault;
 use comemo::{Fault, InsertError};
 use std::alloc::AllocError;
 
-/// A row was refused a request for memory, or a call of it failed that was to succeed.
+/// A row ran out of memory, or one of its calls failed that should succeed.
 ///
-/// A row of `run_scarce_rows` goes on after that, and answers this where all else was as it has to be; any other ends
-/// there. This project's own.
+/// A row of `run_scarce_rows` goes on after that, and returns this if all else was right; any other row ends there.
 #[derive(Clone, Copy, Debug, PartialEq, Eq)]
 pub struct Broken;
 

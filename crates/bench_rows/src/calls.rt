@@ -1,9 +1,9 @@
-//! What rows expect of calls of memoized functions.
+//! Calls of memoized functions, and their expected results.
 
 use comemo::{CacheData, Fault, Function, How, MemoOf, Reply, Top, Track, memoized};
 use std::alloc::Global;
 
-/// Calls a function that needs nothing, with no run around it.
+/// Calls a function that needs nothing, outside of any run.
 pub(crate) fn call<F: Function<Needs = ()>>(
     alloc: Global,
     cache: &mut CacheData<MemoOf<F>>,
@@ -21,12 +21,12 @@ pub(crate) fn call<F: Function<Needs = ()>>(
     )
 }
 
-/// Whether a reply has this output, and this became of the call.
+/// Whether a reply has this output, and came about like this.
 pub(crate) fn gives<O: Copy + PartialEq>(reply: Reply<O>, output: O, how: How) -> bool {
     reply.output == output && reply.how == how
 }
 
-/// Whether a reply has this text, and this became of the call.
+/// Whether a reply has this text, and came about like this.
 pub(crate) fn gives_text(reply: Reply<String>, text: &str, how: How) -> bool {
     reply.output.as_str() == text && reply.how == how
 }

@@ -5,7 +5,7 @@ use comemo::{CacheData, How, Top, Track, memoized};
 use comemo_guide::chains::{Chain, IsInChain};
 use std::alloc::Global;
 
-/// Whether a chain is said to have a number or not, and this became of the call.
+/// Whether the call says that a chain has a number or not, and came about like this.
 fn says(
     alloc: Global,
     cache: &mut CacheData<IsInChain>,
@@ -21,7 +21,7 @@ fn says(
     }
 }
 
-/// Whether chains that answer alike share what is kept.
+/// Whether chains with equal answers share entries.
 pub(crate) fn chains_share_what_is_kept(alloc: Global) -> Result<bool, Broken> {
     let mut cache: CacheData<IsInChain> = CacheData::new(alloc);
     let one = Chain::new(1);

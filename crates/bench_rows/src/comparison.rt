@@ -1,4 +1,4 @@
-//! Steps from a seed, each done by a cache and by another machine: both answer the same.
+//! Random steps, each done by a cache and by another machine, whose replies must be the same.
 ghost use Rattle.std.specs.Prelude.{◌≡◌, ◌≤◌, IfSome};
 ghost use Rattle.comemo.specs.Steps.{IsStep};
 
@@ -8,11 +8,9 @@ use crate::steps::{Anything, look};
 use comemo::{CacheData, Found, Meant, Step, StepReply};
 use std::alloc::{AllocError, Global};
 
-/// What takes the steps of a cache, and is compared with one.
-///
-/// This project's own.
+/// What does the steps of a cache, to be compared with one.
 pub trait Machine: Drop {
-    /// Does a step, and gives what it answers. An error says that there was no memory for it.
+    /// Does a step, and returns its reply.
     fn take(
         &mut self,
         alloc: Global,
@@ -20,7 +18,7 @@ pub trait Machine: Drop {
     ) -> Result<StepReply<Anything>, AllocError>;
 }
 
-/// Whether the same entry was found.
+/// Whether two found entries are the same.
 fn are_alike(found: &Found<Anything>, wanted: &Found<Anything>) -> bool {
     found.pairs.as_slice() == wanted.pairs.as_slice()
         && found.output == wanted.output
@@ -41,7 +39,7 @@ fn is_same(reply: &StepReply<Anything>, wanted: &StepReply<Anything>) -> bool {
     }
 }
 
-/// A cache, and a machine that is to answer as it does.
+/// A cache, and a machine with which it is compared.
 #[derive(Drop)]
 struct Pair<M: Machine> {
     alloc: Global,
@@ -50,7 +48,7 @@ struct Pair<M: Machine> {
 }
 
 impl<M: Machine> Pair<M> {
-    /// Whether both answer the same to a step.
+    /// Whether both reply the same to a step.
     fn agree(&mut self, step: Step<Anything>) -> Result<bool, AllocError>
         requires { IsStep ⟦<Anything as Meant>⟧.meaning step }
     {
@@ -63,7 +61,7 @@ impl<M: Machine> Pair<M> {
         }
     }
 
-    /// Whether both answer the same to each look-up by at most one read and an answer to every other.
+    /// Whether both reply the same to each look-up with at most one read, and one answer to all others.
     fn agree_on_looks(&mut self) -> Result<bool, AllocError> {
         for key in 0..4 {
             for number in 0..8 {
@@ -81,13 +79,13 @@ impl<M: Machine> Pair<M> {
     }
 }
 
-/// After how many steps all is looked up.
+/// After how many steps everything is looked up.
 const PERIOD: u32 = 1_000;
 
-/// The first of so many steps from a seed to which a cache and a machine, both new, don't answer the same.
+/// The first of these random steps to which a new cache and a new machine reply differently.
 ///
-/// After each thousandth step and the last all is looked up in both, as a part of that step. A step for which there is no
-/// memory counts as one that is answered otherwise. This project's own.
+/// After each thousandth step, and the last, everything is looked up in both, as part of that step. Running out of
+/// memory counts as a difference.
 pub fn compare<M: Machine>(alloc: Global, machine: M, seed: u64, steps: u32) -> Option<u32>
     ensures { IfSome result (λ step. (1 ≤ step) × (step ≤ steps)) }
 {
@@ -108,7 +106,7 @@ pub fn compare<M: Machine>(alloc: Global, machine: M, seed: u64, steps: u32) -> 
     None
 }
 
-/// Whether both answer the same to the next step, and, where that is asked for, to all look-ups after it.
+/// Whether both reply the same to the next step and, if asked for, to all look-ups after it.
 fn take_next<M: Machine>(
     pair: &mut Pair<M>,
     numbers: &mut Numbers,
@@ -119,9 +117,7 @@ fn take_next<M: Machine>(
     Ok(pair.agree(step)? && (!is_last || pair.agree_on_looks()?))
 }
 
-/// The first of so many steps from a seed to which a cache and a plain list don't answer the same.
-///
-/// This project's own.
+/// The first of these random steps to which a cache and a plain list reply differently.
 pub fn fuzz(alloc: Global, seed: u64, steps: u32) -> Option<u32>
     ensures { IfSome result (λ step. (1 ≤ step) × (step ≤ steps)) }
 {

@@ -1,4 +1,4 @@
-//! Rows of keys and answers that are kept themselves, and not by their hashes.
+//! Rows which show that keys and answers are stored themselves, not by their hashes.
 
 use crate::broken::Broken;
 use crate::calls::{call, gives};
@@ -8,7 +8,7 @@ use comemo::{CacheData, How, MemoOf};
 use comemo_guide::numbers::{DoubleFlat, Flat};
 use std::alloc::{AllocError, Global};
 
-/// Whether keys that all have one hash are kept apart.
+/// Whether keys with one hash are kept apart.
 pub(crate) fn keys_of_one_hash_are_kept_apart(alloc: Global) -> Result<bool, Broken> {
     let mut cache: CacheData<MemoOf<DoubleFlat>> = CacheData::new(alloc);
     let two = gives(call(alloc, &mut cache, Flat(2), &())?, 4, How::Stored);
@@ -16,7 +16,7 @@ pub(crate) fn keys_of_one_hash_are_kept_apart(alloc: Global) -> Result<bool, Bro
     Ok(two && three)
 }
 
-/// The commands for which these lines ask, up to the first that asks for nothing.
+/// The commands of these lines, up to the first that has none.
 fn commands(alloc: Global, lines: &[&str]) -> Result<Vec<Command>, AllocError> {
     let mut commands = Vec::new(alloc);
     for line in lines {
@@ -28,14 +28,14 @@ fn commands(alloc: Global, lines: &[&str]) -> Result<Vec<Command>, AllocError> {
     Ok(commands)
 }
 
-/// Whether a new session answers so to these lines.
+/// Whether a new session answers these lines like this.
 fn answers(alloc: Global, lines: &[&str], wanted: &[Answer]) -> Result<bool, Broken> {
     let commands = commands(alloc, lines)?;
     let answered = session(alloc, commands.as_slice())?;
     Ok(answered.as_slice() == wanted)
 }
 
-/// What is answered where a script has this number, and the run is in the cache afterwards.
+/// The answer for a script with this number whose run is in the cache afterwards.
 fn kept(hit: bool, number: i32) -> Answer {
     Answer::Value {
         hit,
@@ -44,7 +44,7 @@ fn kept(hit: bool, number: i32) -> Answer {
     }
 }
 
-/// Whether a value that was said to be kept is found again, while the files that it read have the texts that they had then.
+/// Whether a value reported as `kept` is found again while the files that it read are unchanged.
 pub(crate) fn what_is_said_to_be_kept_is_found(alloc: Global) -> Result<bool, Broken> {
     let lines: &[&str] = &[
         "write a 1 + eval b",

@@ -6,7 +6,7 @@ ghost use Rattle.bench_rows.specs.Fibonacci.{fib};
 use comemo::{Begun, CacheData, Constraint, Fault, Hashed, How, Memo, Reply, begin};
 use std::alloc::Global;
 
-/// The number of Fibonacci at a place.
+/// A Fibonacci number.
 pub struct FibMemo;
 
 impl Memo for FibMemo {
@@ -23,7 +23,7 @@ impl Memo for FibMemo {
     ghost laws = { Prim.search rules };
 }
 
-/// The number at a place from those before it, which are kept.
+/// The number at an index, from memoized calls for the two before it.
 #[cycle(counting)]
 fn from_before(
     alloc: Global,
@@ -41,7 +41,7 @@ fn from_before(
     Ok(one.output.wrapping_add(other.output))
 }
 
-/// The number of Fibonacci at a place, kept, by way of those before it.
+/// A Fibonacci number, memoized, as are those before it.
 #[cycle(counting)]
 pub fn numbered(
     alloc: Global,

@@ -6,7 +6,7 @@ use comemo_samples::Town;
 use std::alloc::{AllocError, Global};
 use std::hash::Hasher;
 
-/// So many bytes: 0, 1, 2 and so on, and after 255 again from 0.
+/// This many bytes: 0, 1, 2 and so on, and 0 again after 255.
 fn bytes(alloc: Global, count: usize) -> Result<Vec<u8>, AllocError> {
     let mut bytes = Vec::new(alloc);
     let mut byte: u8 = 0;
@@ -17,13 +17,13 @@ fn bytes(alloc: Global, count: usize) -> Result<Vec<u8>, AllocError> {
     Ok(bytes)
 }
 
-/// The hash of the bytes that a hasher holds and of some more.
+/// The hash of the bytes written to a hasher, and these.
 fn number_after(mut hasher: SipHasher13, bytes: &[u8]) -> u128 {
     hasher.write(bytes);
     hasher.finish128()
 }
 
-/// Whether bytes in two pieces, cut at any place, have the hash of the whole.
+/// Whether bytes in two pieces, cut anywhere, hash as the whole.
 pub(crate) fn two_pieces_hash_as_the_whole(alloc: Global) -> Result<bool, Broken> {
     for count in [0, 7, 8, 9, 255, 256] {
         let bytes = bytes(alloc, count)?;
@@ -42,7 +42,7 @@ pub(crate) fn two_pieces_hash_as_the_whole(alloc: Global) -> Result<bool, Broken
     Ok(true)
 }
 
-/// Whether a value that keeps its hash follows its item, and how it and a view print.
+/// Whether a prehashed value follows its item; and how it and a view print.
 pub(crate) fn a_kept_hash_follows_its_item(alloc: Global) -> Result<bool, Broken> {
     let mut value = Prehashed::new(7_u32);
     let before = format!(in alloc; "{value:?}")?;

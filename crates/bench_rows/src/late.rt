@@ -1,4 +1,4 @@
-//! The row of runs that read before they wrote, or after.
+//! The row of runs that read before or after they wrote.
 
 use crate::broken::Broken;
 use comemo::{BothMut, Cache, CacheData, Fault, Hold, How, MemoOfMut, Top, memoized_mut};
@@ -7,7 +7,7 @@ use comemo_samples::Counter;
 use std::alloc::Global;
 use std::sync::Wait;
 
-/// Whether a call of `Bump` comes to this, and adds 3.
+/// Whether a call of `Bump` has this result, and adds 3.
 fn bumps<H: Hold<MemoOfMut<Bump>>>(
     alloc: Global,
     cache: &mut H,
@@ -57,8 +57,8 @@ fn adds_and_gets<H: Hold<AddsAndGets>>(alloc: Global, cache: &mut H) -> Result<b
     Ok(reply.how == How::Stored && reply.output == 0 && first.number == 1 && second.number == 0)
 }
 
-/// Whether calls come to what they should, through these caches: of `Bump` on a new counter twice and on another, of
-/// `Readback` twice, and of `AddsAndGets`.
+/// Whether calls have the right results through these caches: `Bump` twice on a new counter and once on another,
+/// `Readback` twice, and `AddsAndGets`.
 fn calls_come_to_that<B, R, A>(
     alloc: Global,
     bump: &mut B,
@@ -82,7 +82,7 @@ where
     )
 }
 
-/// Whether runs that read what they wrote are late, and others are stored, through caches of one owner.
+/// Whether runs that read what they wrote are late, and others are stored, in caches of one owner.
 fn late_runs_are_not_kept(alloc: Global) -> Result<bool, Fault> {
     let mut bump: CacheData<MemoOfMut<Bump>> = CacheData::new(alloc);
     let mut readback = CacheData::new(alloc);
@@ -93,7 +93,7 @@ fn late_runs_are_not_kept(alloc: Global) -> Result<bool, Fault> {
     Ok(came && bump.len() == 2 && readback.len() == 0 && twice.len() == 0 && adding.len() == 1)
 }
 
-/// The same through shares of caches, which are lent as long as the right to wait.
+/// The same through shares of caches.
 fn come_to_that_through_shares<'x, W: Wait>(
     rt: &'x W,
     alloc: Global,
@@ -107,7 +107,7 @@ fn come_to_that_through_shares<'x, W: Wait>(
     calls_come_to_that(alloc, bump, readback, adding)
 }
 
-/// Whether a call of `Twice` is late through a share of its cache, with a cache of `Bump` that has both its hits.
+/// Whether a call of `Twice` is late through a share of its cache, with both of its calls of `Bump` cached.
 fn bumps_twice_through_a_share<'x, W: Wait>(
     rt: &'x W,
     alloc: Global,
@@ -123,7 +123,7 @@ fn bumps_twice_through_a_share<'x, W: Wait>(
     )
 }
 
-/// Whether runs that read what they wrote are late, through caches of either kind.
+/// Whether runs that read what they wrote are late, in caches of both kinds.
 pub(crate) fn late_runs<W: Wait>(rt: &W, alloc: Global) -> Result<bool, Broken> {
     let bump = Cache::new(alloc);
     let readback = Cache::new(alloc);

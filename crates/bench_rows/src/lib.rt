@@ -1,7 +1,6 @@
-//! Worked rows of the library and of the program `calc`, by their numbers, and the program `bench` but for its streams.
+//! Worked rows of the library and of the program `calc`, by their numbers, and the program `bench` without its streams.
 //!
-//! A row does some calls, one after the other, and knows what each of them has to answer. The table of the rows is
-//! `run_rows`.
+//! A row makes calls in turn, and knows the result of each. `run_rows` has the table of the rows.
 //!
 //! ```rust
 //! use bench_rows::{Outcome, start};

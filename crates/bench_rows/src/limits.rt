@@ -1,4 +1,4 @@
-//! The row of a script under a limit that changes.
+//! The row of a script under changing limits.
 
 use crate::broken::Broken;
 use calc_evaluation::{Eval, EvalFault, evaluate};
@@ -7,7 +7,7 @@ use calc_scripts::Outcome;
 use comemo::{CacheData, How, Reply, Top, Track};
 use std::alloc::Global;
 
-/// What becomes of the script `1` under a limit, where no file is.
+/// Evaluates the script `1` under a limit, without files.
 fn one_under(
     alloc: Global,
     cache: &mut CacheData<Eval>,
@@ -24,7 +24,7 @@ fn one_under(
     )
 }
 
-/// Whether the value is 1, and this became of the call.
+/// Whether the value is 1, and came about like this.
 fn is_one(came_to: Result<Reply<Outcome>, EvalFault>, how: How) -> bool {
     let Ok(reply) = came_to else {
         return false;
@@ -32,7 +32,7 @@ fn is_one(came_to: Result<Reply<Outcome>, EvalFault>, how: How) -> bool {
     reply.output.value == Ok(1) && reply.how == how
 }
 
-/// Whether a script is told to be too deep for the limit of a call, also where it is kept, and is kept on.
+/// Whether a script that is too deep for a call's limit is reported even if it is cached, and stays cached.
 pub(crate) fn a_limit_holds_for_a_hit(alloc: Global) -> Result<bool, Broken> {
     let mut cache: CacheData<Eval> = CacheData::new(alloc);
     let first = is_one(one_under(alloc, &mut cache, 1), How::Stored);

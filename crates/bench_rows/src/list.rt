@@ -1,11 +1,11 @@
-//! A cache as a plain list of entries, which is searched whole. It is written apart from the call tree.
+//! A cache as a plain list of entries, which is searched whole. It shares no code with the call tree.
 
 use crate::comparison::Machine;
 use crate::steps::{Anything, Numbered};
 use comemo::{Found, InsertError, Step, StepReply};
 use std::alloc::{AllocError, Global};
 
-/// What is kept under a key and a path.
+/// What is stored under a key and a path.
 #[derive(Drop)]
 struct Entry {
     key: u8,
@@ -15,7 +15,7 @@ struct Entry {
     age: usize,
 }
 
-/// The answer that pairs have to a call: the first.
+/// The first answer that pairs have to a call.
 fn answer_in(pairs: &[(Numbered, u8)], call: Numbered) -> Option<u8> {
     for (known, answer) in pairs {
         if *known == call {
@@ -26,7 +26,7 @@ fn answer_in(pairs: &[(Numbered, u8)], call: Numbered) -> Option<u8> {
 }
 
 impl Entry {
-    /// Whether the path has the answers that these pairs have, or else this other one.
+    /// Whether the path has the answers of these pairs, and this other one to all else.
     fn agrees(&self, answers: &[(Numbered, u8)], other: u8) -> bool {
         for (call, answer) in &self.path {
             if answer_in(answers, *call).unwrap_or(other) != *answer {
@@ -36,7 +36,7 @@ impl Entry {
         true
     }
 
-    /// Whether the path has just these answers, in order.
+    /// Whether the path has exactly these answers, in order.
     fn has_answers(&self, answers: &[u8]) -> bool {
         if self.path.len() != answers.len() {
             return false;
@@ -49,7 +49,7 @@ impl Entry {
         true
     }
 
-    /// What a look-up gives that finds this entry.
+    /// The result of a look-up that finds this entry.
     fn found(&self) -> Result<Found<Anything>, AllocError> {
         Ok(Found {
             pairs: self.path.clone()?,
@@ -60,16 +60,14 @@ impl Entry {
     }
 }
 
-/// A cache as a list of its entries, in the order in which they came.
-///
-/// Each step goes over the whole list. This project's own.
+/// A cache as a list of its entries, oldest first. Each step scans the whole list.
 #[derive(Drop)]
 pub struct PlainList {
     entries: Vec<Entry>,
 }
 
 impl PlainList {
-    /// An empty list. It takes no memory.
+    /// An empty list. Does not allocate.
     pub fn new(alloc: Global) -> Self {
         PlainList {
             entries: Vec::new(alloc),
@@ -91,7 +89,7 @@ impl PlainList {
         Ok(StepReply::NotFound)
     }
 
-    /// Makes the entry young under a key whose path has these answers.
+    /// Sets the age of the entry under a key whose path has these answers to 0.
     fn touch(&mut self, key: u8, answers: &[u8]) {
         for entry in &mut self.entries {
             if entry.key == key && entry.has_answers(answers) {
@@ -100,7 +98,7 @@ impl PlainList {
         }
     }
 
-    /// An entry under a key whose path begins with a front.
+    /// An entry under a key whose path begins with a prefix.
     fn first_from(&self, key: u8, front: &[(Numbered, u8)]) -> Option<&Entry> {
         for entry in &self.entries {
             if entry.key == key && entry.path.as_slice().starts_with(front) {
@@ -110,7 +108,7 @@ impl PlainList {
         None
     }
 
-    /// The path that pairs take under a key: along stored paths, wherever their calls stand, and then in their order.
+    /// The path of these pairs under a key: along stored paths, in any order, and then in their own order.
     fn path_of(
         &self,
         alloc: Global,
@@ -138,7 +136,7 @@ impl PlainList {
         Ok(path)
     }
 
-    /// Adds an entry under a key and the path that pairs take.
+    /// Adds an entry under a key and the path of these pairs.
     fn store(
         &mut self,
         alloc: Global,
@@ -158,7 +156,7 @@ impl PlainList {
         Ok(())
     }
 
-    /// Drops the entries whose age is the bound or more; the others grow one older.
+    /// Drops the entries whose age is at least the bound; the others' ages grow by one.
     fn evict(&mut self, max_age: usize) {
         self.entries.retain(|entry| entry.age < max_age);
         for entry in &mut self.entries {

@@ -19,7 +19,7 @@ fn doubles(alloc: Global) -> Result<bool, Broken> {
     Ok(true)
 }
 
-/// Whether the order of two numbers counts for their sum.
+/// Whether the order of the arguments matters for the cache of a sum.
 fn sums(alloc: Global) -> Result<bool, Broken> {
     let mut cache: CacheData<MemoOf<Sum>> = CacheData::new(alloc);
     for (numbers, output, how) in [
@@ -35,7 +35,7 @@ fn sums(alloc: Global) -> Result<bool, Broken> {
     Ok(true)
 }
 
-/// Whether numbers of Fibonacci are kept on the way to others.
+/// Whether Fibonacci numbers are cached on the way to others.
 fn numbers_of_fibonacci(alloc: Global) -> Result<bool, Broken> {
     let mut cache: CacheData<FibMemo> = CacheData::new(alloc);
     for (place, output, how) in [
@@ -52,7 +52,7 @@ fn numbers_of_fibonacci(alloc: Global) -> Result<bool, Broken> {
     Ok(true)
 }
 
-/// Whether large numbers alone are kept.
+/// Whether only large numbers are cached.
 fn keeps_large_numbers(alloc: Global) -> Result<bool, Broken> {
     let mut cache: CacheData<MemoOf<Identity>> = CacheData::new(alloc);
     for (number, how) in [
@@ -72,7 +72,7 @@ fn keeps_large_numbers(alloc: Global) -> Result<bool, Broken> {
     Ok(true)
 }
 
-/// Whether functions of numbers are kept under them.
+/// Whether functions of numbers are cached under them.
 pub(crate) fn numbers_are_kept(alloc: Global) -> Result<bool, Broken> {
     Ok(
         doubles(alloc)?

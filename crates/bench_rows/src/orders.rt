@@ -6,7 +6,7 @@ use crate::place::{Place, PlaceAnswer, PlaceCall};
 use comemo::{Begun, CacheData, Constraint, Fault, How, Memo, Reply, Top, Track, begin};
 use std::alloc::{AllocError, Global};
 
-/// A function of a place of which any text is right, so that its runs may ask what they like.
+/// A function of a place for which every text is right, so that its runs may ask anything.
 struct AnyText;
 
 impl Memo for AnyText {
@@ -23,7 +23,7 @@ impl Memo for AnyText {
     ghost laws = { Prim.search rules };
 }
 
-/// What is said of a place after these reads, in their order: where it is, if that was asked, and then how it is set.
+/// The text for a place after these reads, in order: where it is, if that was asked, and then how it is set.
 fn said_after(
     alloc: Global,
     place: &Place,
@@ -45,7 +45,7 @@ fn said_after(
     }
 }
 
-/// Calls the function at a location, to ask these reads where it runs.
+/// Calls the function at a location; a run asks these reads.
 fn text_at(
     alloc: Global,
     cache: &mut CacheData<AnyText>,
@@ -68,11 +68,11 @@ fn text_at(
     }
 }
 
-/// A call of the function: the location, the reads of a run, and then its text, what becomes of the call, and how many
-/// entries are kept.
+/// A call of the function: the location, the reads of a run, the text, how it came about, and the number of entries
+/// afterwards.
 type Call<'a> = (u64, &'a [PlaceCall], &'a str, How, usize);
 
-/// Whether calls in a new cache give what they are to give.
+/// Whether calls in a new cache have these results.
 fn hold(alloc: Global, calls: &[Call<'_>]) -> Result<bool, Fault> {
     let mut cache = CacheData::new(alloc);
     for (location, reads, text, how, kept) in calls {
@@ -85,7 +85,7 @@ fn hold(alloc: Global, calls: &[Call<'_>]) -> Result<bool, Fault> {
     Ok(true)
 }
 
-/// Whether a run that lacks a stored read is not kept, and one that asks in another order takes the same path.
+/// Whether a run that lacks a stored read is not stored, and one that asks in another order takes the same path.
 pub(crate) fn runs_in_another_order(alloc: Global) -> Result<bool, Broken> {
     let in_order: &[PlaceCall] = &[PlaceCall::Location, PlaceCall::Styles];
     let turned: &[PlaceCall] = &[PlaceCall::Styles, PlaceCall::Location];

@@ -1,4 +1,4 @@
-//! What became of rows: the first that failed.
+//! The outcome of rows: the first that failed. Nothing here allocates.
 ghost use Rattle.std.specs.Prelude.{◌≡◌, ◌≢◌, true, false, None, Some, Ok, IsSome};
 ghost use Rattle.bench_rows.specs.Started.{verdict, status_of};
 ghost use Rattle.calc_lines.specs.Started.{WritesFront};
@@ -8,9 +8,7 @@ use calc_lines::put_message;
 use std::io::Write;
 use std::marker::Model;
 
-/// The first row that failed, of those that were told. Contracts see it as that row's number, where there is one.
-///
-/// This project's own.
+/// The number of the first row that failed, if one did.
 #[derive(Drop)]
 pub struct Outcome {
     failed: Option<&'static str>,
@@ -25,16 +23,15 @@ impl Model for Outcome {
 }
 
 impl Outcome {
-    /// No row was told yet, so none failed. It takes no memory.
+    /// No row has failed yet.
     pub fn new() -> Self
         ensures { result ≡ None }
     {
         Outcome { failed: None }
     }
 
-    /// Takes note of what a row came to. It held where that is `Ok(true)`, and else it failed: something was wrong
-    /// where that is `Ok(false)`, and memory was refused where it is an error. After one that failed no other counts.
-    /// It takes no memory and refuses nothing.
+    /// Records a row's result. The row failed unless this is `Ok(true)`: something was wrong, or it ran out of memory.
+    /// Only the first failure counts.
     pub fn row(&mut self, number: &'static str, came_to: Result<bool, Broken>)
         ensures held { came_to ≡ Ok true → self.new ≡ self.old }
         ensures earlier { IsSome self.old → self.new ≡ self.old }
@@ -48,8 +45,7 @@ impl Outcome {
         }
     }
 
-    /// Takes note of what a row came to that may have been refused memory. It failed where that is `Ok(false)` alone.
-    /// It takes no memory and refuses nothing.
+    /// Records the result of a row that may run out of memory. It failed only if this is `Ok(false)`.
     pub fn scarce_row(&mut self, number: &'static str, came_to: Result<bool, Broken>)
         ensures held { came_to ≢ Ok false → self.new ≡ self.old }
         ensures earlier { IsSome self.old → self.new ≡ self.old }
@@ -60,8 +56,8 @@ impl Outcome {
         }
     }
 
-    /// Prints `rows ok`, or `row N failed` with the number of the first row that failed, and gives the program's
-    /// status: 0 or 1. A failure of the writer changes nothing but what is written. It takes no memory.
+    /// Prints `rows ok`, or `row N failed` for the first that failed, and returns the exit status. Failures of the
+    /// writer are ignored.
     pub fn report<W: Write>(&self, writer: &mut W) -> u8
         ensures status { result ≡ status_of self.now }
         ensures written { WritesFront (W.contents writer.old) (W.contents writer.new)

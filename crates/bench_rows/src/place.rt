@@ -1,4 +1,4 @@
-//! A tracked value of which two things are asked, and which counts how often.
+//! A tracked value with two reads, which counts how often it is asked.
 ghost use Rattle.std.specs.Prelude.{false, refl};
 ghost use Rattle.std.proofs.Common.{rules};
 
@@ -34,7 +34,7 @@ impl Call for PlaceCall {
     }
 }
 
-/// What a place answers.
+/// The answer of a place.
 #[derive(Clone, Drop, Debug, PartialEq, Eq, PartialOrd, Ord)]
 pub(crate) enum PlaceAnswer {
     /// To where it is.
@@ -43,7 +43,7 @@ pub(crate) enum PlaceAnswer {
     Set(String),
 }
 
-/// A place, which counts how often it is asked.
+/// A place that counts how often it is asked.
 #[derive(Drop)]
 pub(crate) struct Place {
     location: u64,
@@ -52,7 +52,7 @@ pub(crate) struct Place {
 }
 
 impl Place {
-    /// The place at a location, with the styles `styles`. It was not asked yet.
+    /// The place at a location, with the styles `styles`, not asked yet.
     pub(crate) fn at(alloc: Global, location: u64) -> Result<Place, AllocError> {
         Ok(Place {
             location,
@@ -61,7 +61,7 @@ impl Place {
         })
     }
 
-    /// How often it was asked so far.
+    /// How often it was asked.
     pub(crate) fn asked(&self) -> u64 {
         self.asked.get()
     }

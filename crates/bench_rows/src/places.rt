@@ -8,7 +8,7 @@ use crate::tally::Tally;
 use comemo::{Begun, CacheData, Constraint, Fault, How, Memo, Reply, Sink, Top, Track, begin};
 use std::alloc::{AllocError, Global};
 
-/// A function of a place of which any text is right.
+/// A function of a place for which every text is right.
 pub(crate) struct AnySaid;
 
 impl Memo for AnySaid {
@@ -25,7 +25,7 @@ impl Memo for AnySaid {
     ghost laws = { Prim.search rules };
 }
 
-/// What is said of a place: where it is and, of the fifth alone, how it is set.
+/// The text for a place: where it is and, for the fifth only, how it is set.
 fn said_of(
     alloc: Global,
     place: &Place,
@@ -44,7 +44,7 @@ fn said_of(
     format!(in alloc; "Twenty has {styles}")
 }
 
-/// Calls the function of a place, and says how many calls its look-up asked.
+/// Calls the function of a place, and returns how many calls its look-up asked.
 pub(crate) fn contextual<S: Sink<Call = PlaceCall, Answer = PlaceAnswer>>(
     alloc: Global,
     cache: &mut CacheData<AnySaid>,
@@ -70,7 +70,7 @@ pub(crate) fn contextual<S: Sink<Call = PlaceCall, Answer = PlaceAnswer>>(
     }
 }
 
-/// What the function gives at a location.
+/// The function's text at a location.
 pub(crate) fn expected_at(alloc: Global, location: u64) -> Result<String, AllocError> {
     if location == 5 {
         String::from_str(alloc, "Twenty has styles")
@@ -79,7 +79,7 @@ pub(crate) fn expected_at(alloc: Global, location: u64) -> Result<String, AllocE
     }
 }
 
-/// How many pairs a recording has, which are a beginning of what a run at a location asks. None where it has others.
+/// The length of a recording that is a prefix of what a run at a location asks; `None` if it isn't.
 pub(crate) fn recorded(sink: Constraint<PlaceCall, PlaceAnswer>, location: u64) -> Option<u64> {
     let (mut reads, writes) = sink.into_parts();
     if !writes.is_empty() {
@@ -104,7 +104,7 @@ pub(crate) fn recorded(sink: Constraint<PlaceCall, PlaceAnswer>, location: u64) 
     }
 }
 
-/// A cache, the age of the entry of each place that is kept in it, and what the calls so far came to.
+/// A cache, the age of each place's entry in it, and the results so far.
 #[derive(Drop)]
 struct Places {
     cache: CacheData<AnySaid>,
@@ -114,9 +114,8 @@ struct Places {
 }
 
 impl Places {
-    /// Calls the function of the place at a location, and takes note of what became of the call, but for what its
-    /// sink was told. A call that is refused leaves the entries their ages. Gives what became of it, where there was
-    /// one.
+    /// Calls the function at a location, checks the result but for its sink, and returns it. A failing call doesn't
+    /// change any entry's age.
     fn visit<S: Sink<Call = PlaceCall, Answer = PlaceAnswer>>(
         &mut self,
         alloc: Global,
@@ -158,8 +157,8 @@ impl Places {
         Some(went)
     }
 
-    /// How many calls a look-up asks at a location, of which an entry of this age is kept or none: its path's, else one
-    /// where any entry is. Where the sink keeps nothing, those of an entry with an age are asked twice.
+    /// How many calls a look-up asks at a location: those of the entry's path, or one if there are only other entries.
+    /// If the sink keeps nothing, an entry with an age is asked twice.
     fn asks(&self, kept: Option<usize>, location: u64, is_told: bool) -> u64 {
         if self.count == 0 {
             return 0;
@@ -175,14 +174,14 @@ impl Places {
         }
     }
 
-    /// Calls the function of each place in turn, with no run around it.
+    /// Calls the function of each place in turn, outside of any run.
     fn pass_by(&mut self, alloc: Global, count: u64) {
         for location in 0..count {
             let _ = self.visit(alloc, location, &mut Top::new(), false);
         }
     }
 
-    /// Calls the function of each place in turn, each within a run, and takes note of what the run is told.
+    /// Calls the function of each place in turn, each within a run, and checks what that run records.
     fn visit_within(&mut self, alloc: Global, count: u64) {
         for location in 0..count {
             let mut sink = Constraint::new(alloc);
@@ -198,7 +197,7 @@ impl Places {
         }
     }
 
-    /// Evicts by a bound.
+    /// Evicts with a bound.
     fn evict(&mut self, max_age: usize) {
         self.cache.evict(max_age);
         let mut count: usize = 0;
@@ -213,7 +212,7 @@ impl Places {
     }
 }
 
-/// The ages of so many places, of which none is kept.
+/// The ages of this many places without entries.
 fn no_ages(alloc: Global, count: u64) -> Result<Vec<Option<usize>>, AllocError> {
     let mut ages = Vec::new(alloc);
     for _ in 0..count {
@@ -222,8 +221,8 @@ fn no_ages(alloc: Global, count: u64) -> Result<Vec<Option<usize>>, AllocError> 
     Ok(ages)
 }
 
-/// Whether each of so many places is kept, and how many calls that takes: where nobody is told what is asked, and
-/// within a run. Between the last times an eviction leaves what the time before it touched.
+/// Whether each of many places is cached, and with how many calls, outside of runs and within one. Before the last pass
+/// an eviction leaves what the pass before touched.
 pub(crate) fn places_are_kept(alloc: Global, count: u64) -> Result<bool, Broken> {
     let mut places = Places {
         cache: CacheData::new(alloc),

@@ -1,4 +1,13 @@
-//! The program: words in, a verdict out.
+//! The program: arguments in, a verdict out.
+//!
+//! | Arguments | Does | Prints, with status 0 | with status 1 |
+//! |---|---|---|---|
+//! | `rows` | runs each row | `rows ok` | `row N failed`: the first |
+//! | `fuzz SEED STEPS` | random steps by a cache and by a plain list | `fuzz ok` | `step N failed`: the first
+//! difference |
+//! | `threads WORKERS CALLS` | WORKERS threads make CALLS calls each | `threads ok` | `threads failed` |
+//!
+//! Numbers are digits only. SEED fits in a `u64`, STEPS and CALLS in a `u32`, and WORKERS is 1 to 16.
 ghost use Rattle.std.specs.Prelude.{◌≡◌, true, ℕ, MatchOption};
 ghost use Rattle.bench_rows.specs.Started.{asks_for_rows, IsNumber, AsksForFuzz, AsksForThreads, AsksForNothing, RanRows, RanFuzz, fuzz_verdict, fuzz_status, RanThreads, threads_verdict, threads_status, usage};
 ghost use Rattle.calc_lines.specs.Started.{WritesFront};
@@ -14,7 +23,7 @@ use std::rt::Clock;
 use std::sync::Wait;
 use std::thread::Threads;
 
-/// Whether the words after the program's name ask for the rows.
+/// Whether the arguments ask for the rows.
 fn are_rows(words: &[String]) -> bool
     ensures { result ≡ asks_for_rows words.now }
 {
@@ -24,7 +33,7 @@ fn are_rows(words: &[String]) -> bool
     }
 }
 
-/// The number that digits alone write, where a `u64` holds it.
+/// Parses a number of digits only, if it fits in a `u64`.
 fn number_of(digits: &str) -> Option<u64>
     ensures { MatchOption result ((n : ℕ) → ¬ IsNumber digits.now n) (IsNumber digits.now) }
 {
@@ -34,7 +43,7 @@ fn number_of(digits: &str) -> Option<u64>
     digits.parse().ok()
 }
 
-/// The seed and the number of steps for which the words after the program's name ask.
+/// The seed and the number of steps, if the arguments ask for these.
 fn fuzz_of(words: &[String]) -> Option<(u64, u32)>
     ensures { MatchOption result ((seed steps : ℕ) → ¬ AsksForFuzz words.now seed steps)
         (λ asked. AsksForFuzz words.now asked.0 asked.1) }
@@ -50,7 +59,7 @@ fn fuzz_of(words: &[String]) -> Option<(u64, u32)>
     Some((seed, u32::try_from(steps).ok()?))
 }
 
-/// The number of workers, and of the calls of each, for which the words after the program's name ask.
+/// The number of workers, and of calls for each, if the arguments ask for these.
 fn threads_of(words: &[String]) -> Option<(usize, u32)>
     ensures { MatchOption result ((workers calls : ℕ) → ¬ AsksForThreads words.now workers calls)
         (λ asked. AsksForThreads words.now asked.0 asked.1) }
@@ -69,7 +78,7 @@ fn threads_of(words: &[String]) -> Option<(usize, u32)>
     Some((workers as usize, u32::try_from(calls).ok()?))
 }
 
-/// Prints `threads ok` or `threads failed`, and gives the program's status.
+/// Prints `threads ok` or `threads failed`, and returns the exit status.
 fn report_threads<W: Write>(right: bool, writer: &mut W) -> u8
     ensures status { result ≡ threads_status right }
     ensures written { WritesFront (W.contents writer.old) (W.contents writer.new)
@@ -83,7 +92,8 @@ fn report_threads<W: Write>(right: bool, writer: &mut W) -> u8
     1
 }
 
-/// Prints `fuzz ok`, or `step N failed` with the number of the first step that failed, and gives the program's status.
+/// Prints `fuzz ok`, or `step N failed` for the first that failed, and returns the exit status. The number allocates;
+/// without memory that line isn't printed.
 fn report_fuzz<W: Write>(alloc: Global, failed: Option<u32>, writer: &mut W) -> u8
     ensures status { result ≡ fuzz_status failed }
     ensures written { WritesFront (W.contents writer.old) (W.contents writer.new)
@@ -99,18 +109,10 @@ fn report_fuzz<W: Write>(alloc: Global, failed: Option<u32>, writer: &mut W) -> 
     1
 }
 
-/// All of the program but its streams: `words` are the arguments after its name. It gives the program's status.
+/// The whole program without its streams: `words` are the arguments after its name. Returns the exit status.
 ///
-/// The one word `rows` has it run each row; it prints `rows ok`, and the status is 0, or `row N failed` with the number
-/// of the first that failed, and the status is 1. The words `fuzz SEED STEPS`, of which SEED writes a `u64` and STEPS a
-/// `u32` by digits alone, have it do as many steps from that seed by a cache and by a plain list; it prints `fuzz ok`,
-/// and the status is 0, or `step N failed` with the number of the first that both didn't answer the same, and the status
-/// is 1. The words `threads WORKERS CALLS`, of which WORKERS writes a number from 1 to 16 and CALLS a `u32` by digits alone,
-/// have it start so many threads, each of which makes so many calls through one cache; it prints `threads ok`, and the status is
-/// 0, or `threads failed` where an output was wrong, and the status is 1. With any other words it writes how it is called on `errors` and does nothing else, and the status is 2. A
-/// failure of `writer` or `errors` changes nothing but what is written there. It costs what `run_rows`, `fuzz` or `threads` costs;
-/// of the messages only the number of a step takes memory, and where there is none the line isn't written. This
-/// project's own.
+/// With any other arguments it only writes its usage to `errors`; the status is 2. Failures of `writer` and `errors`
+/// are ignored.
 pub fn start<R: Threads + Wait + Clock + Sync, W: Write, E: Write>(
     rt: &R,
     alloc: Global,

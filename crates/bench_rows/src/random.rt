@@ -1,4 +1,4 @@
-//! Steps from a seed.
+//! Random steps from a seed.
 ghost use Rattle.std.specs.Prelude.{IfOk};
 ghost use Rattle.comemo.specs.Steps.{IsStep};
 
@@ -6,19 +6,19 @@ use crate::steps::{Anything, evict, look, store, touch};
 use comemo::{Meant, Step};
 use std::alloc::{AllocError, Global};
 
-/// Numbers that look random, from a seed.
+/// Pseudorandom numbers.
 #[derive(Drop)]
 pub(crate) struct Numbers {
     state: u64,
 }
 
 impl Numbers {
-    /// The numbers of a seed.
+    /// The numbers from a seed.
     pub(crate) fn new(seed: u64) -> Self {
         Numbers { state: seed }
     }
 
-    /// The next number. It is that of SplitMix64.
+    /// The next number, by SplitMix64.
     fn next(&mut self) -> u64 {
         self.state = self.state.wrapping_add(0x9e37_79b9_7f4a_7c15);
         let mixed = (self.state ^ (self.state >> 30)).wrapping_mul(0xbf58_476d_1ce4_e5b9);
@@ -32,7 +32,7 @@ impl Numbers {
         u8::try_from(number).unwrap_or(0)
     }
 
-    /// At most five reads of eight, each with an answer of four.
+    /// At most five reads, of eight, each with one of four answers.
     fn pairs(&mut self, alloc: Global) -> Result<Vec<(u8, u8)>, AllocError> {
         let mut pairs = Vec::new(alloc);
         for _ in 0..self.below(6) {
@@ -41,7 +41,7 @@ impl Numbers {
         Ok(pairs)
     }
 
-    /// At most five answers of four.
+    /// At most five answers, of four.
     fn answers(&mut self, alloc: Global) -> Result<Vec<u8>, AllocError> {
         let mut answers = Vec::new(alloc);
         for _ in 0..self.below(6) {
@@ -60,7 +60,7 @@ impl Numbers {
         Ok(writes)
     }
 
-    /// The next step, under one of four keys. What it stores has this output.
+    /// The next step, under one of four keys. If it stores, then this output.
     pub(crate) fn step(&mut self, alloc: Global, output: u32) -> Result<Step<Anything>, AllocError>
         ensures { IfOk result (IsStep ⟦<Anything as Meant>⟧.meaning) }
     {

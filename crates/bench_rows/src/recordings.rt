@@ -1,4 +1,4 @@
-//! The row of recordings: what one holds that absorbed another, and what one holds of.
+//! The row of recordings: what one holds after it absorbed another, and for which values it is valid.
 
 use crate::broken::Broken;
 use crate::steps::{Numbered, read, write};
@@ -7,7 +7,7 @@ use comemo::{Constraint, Sink, Track};
 use comemo_samples::{Context, ContextCall};
 use std::alloc::Global;
 
-/// What a recording took: of two reads and a write each.
+/// Which of two reads and a write a recording took.
 #[derive(Clone, Copy, Drop)]
 struct Taken {
     first: bool,
@@ -15,7 +15,7 @@ struct Taken {
     written: bool,
 }
 
-/// Records two reads, with their answers, and a write, where there is one. Gives which of them the recording took.
+/// Records two reads with their answers, and perhaps a write. Returns which of them the recording took.
 fn record(
     recording: &mut Constraint<Numbered, u64>,
     tally: &mut Tally,
@@ -40,8 +40,8 @@ fn record(
     }
 }
 
-/// Whether a recording that absorbs another keeps its own answers, and has the other's writes after its own, if it has one.
-/// What is refused to a recording is not in it. One that is refused another is spoiled, and else as before.
+/// Checks that a recording that absorbs another keeps its own answers, and has the other's writes after its own. A
+/// failing call isn't recorded; a failing absorption leaves the recording incomplete, and else unchanged.
 fn what_is_absorbed_comes_after(alloc: Global, tally: &mut Tally, own_write: Option<u8>) {
     let mut left = Constraint::new(alloc);
     let own = record(&mut left, tally, (b'a', 1), (b'b', 2), own_write);
@@ -75,7 +75,7 @@ fn what_is_absorbed_comes_after(alloc: Global, tally: &mut Tally, own_write: Opt
     tally.hold(rest.next().is_none());
 }
 
-/// Whether a recording of a location holds there alone, and an empty one everywhere.
+/// Checks that a recording of a location is valid only there, and an empty one everywhere.
 fn recordings_hold_where_answers_are_the_same(alloc: Global, tally: &mut Tally) {
     let [here, there] = [0, 1].map(|location| Context {
         location,
@@ -93,11 +93,11 @@ fn recordings_hold_where_answers_are_the_same(alloc: Global, tally: &mut Tally) 
     tally.hold(nothing.validate(&there) == Ok(true));
 }
 
-/// Whether recordings absorb others in order, and hold where the answers are the same.
+/// Whether recordings absorb others in order, and are valid where the answers are the same.
 pub(crate) fn recordings_absorb_and_hold(alloc: Global) -> Result<bool, Broken> {
     let mut tally = Tally::new();
     what_is_absorbed_comes_after(alloc, &mut tally, Some(b'1'));
-    // Its writes have no room before.
+    // There is no room for its writes yet.
     what_is_absorbed_comes_after(alloc, &mut tally, None);
     recordings_hold_where_answers_are_the_same(alloc, &mut tally);
     tally.came_to()

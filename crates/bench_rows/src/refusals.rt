@@ -1,4 +1,4 @@
-//! Rows of what is refused: a write of a hit, and what a call within a run was to tell the run.
+//! Rows of failures: a write of a hit, and a call within a run.
 ghost use Rattle.std.specs.Prelude.{◌≡◌, [], ◌∷◌};
 ghost use Rattle.std.proofs.Common.{rules};
 ghost use Rattle.comemo.specs.MeaningLaws.{exact_laws};
@@ -15,7 +15,7 @@ use comemo_samples::NotebookCall;
 use std::alloc::{AllocError, Global};
 use std::marker::Model;
 
-/// Lines, of which one is refused once: the one before which so many more were taken.
+/// Lines, one of which fails once: the one after this many more.
 #[derive(Drop)]
 pub(crate) struct Book {
     lines: Vec<u64>,
@@ -69,7 +69,7 @@ impl Track for Book {
     }
 }
 
-/// Notes 1, 2 and 3, and gives its number.
+/// Notes 1, 2 and 3, and returns the book's number.
 struct NotesThree;
 
 impl FunctionMut for NotesThree {
@@ -96,7 +96,7 @@ impl FunctionMut for NotesThree {
     }
 }
 
-/// How many writes a recording has, which are the first of the notes 1, 2 and 3. None where it has others, or reads.
+/// The length of a recording that is a prefix of the notes 1, 2 and 3; `None` if it isn't, or has reads.
 fn sent(sink: Constraint<NotebookCall, u64>) -> Option<usize> {
     let (mut reads, writes) = sink.into_parts();
     let notes = [1, 2, 3].map(|number| NotebookCall::Note(number));
@@ -106,8 +106,8 @@ fn sent(sink: Constraint<NotebookCall, u64>) -> Option<usize> {
     None
 }
 
-/// Notes three lines in a book. Gives what became of the call, whether its sink is whole then, and how many of the
-/// writes were sent to it.
+/// Notes three lines in a book. Returns how the call came about, whether its sink is complete, and how many writes it
+/// got.
 fn note(
     alloc: Global,
     cache: &mut CacheData<MemoOfMut<NotesThree>>,
@@ -126,7 +126,7 @@ fn note(
     }
 }
 
-/// An empty book, with room for so many lines, of which one is refused once.
+/// An empty book, with room for this many lines, one of which fails once.
 fn book_of(alloc: Global, room: usize, refuses_after: Option<usize>) -> Result<Book, AllocError> {
     let mut lines = Vec::new(alloc);
     lines.reserve(room)?;
@@ -136,8 +136,7 @@ fn book_of(alloc: Global, room: usize, refuses_after: Option<usize>) -> Result<B
     })
 }
 
-/// Takes note of a hit of which the second write is refused, and of the same call again. Before, the entry has the
-/// age 1.
+/// Checks a hit whose second write fails, and then the same call again. Before, the entry has age 1.
 fn is_stopped_and_goes_on(
     alloc: Global,
     cache: &mut CacheData<MemoOfMut<NotesThree>>,
@@ -168,8 +167,8 @@ fn is_stopped_and_goes_on(
     }
 }
 
-/// Whether a hit of which a write is refused says so, leaves those before it, and has the age 0; and whether the same
-/// call again is a hit and does all its writes.
+/// Whether a hit with a failing write reports it, does the writes before it, and resets the age; and whether the same
+/// call then hits, and does all its writes.
 pub(crate) fn a_refused_write_is_done_again(alloc: Global) -> Result<bool, Broken> {
     let mut cache: CacheData<MemoOfMut<NotesThree>> = CacheData::new(alloc);
     let mut tally = Tally::new();
@@ -188,8 +187,8 @@ pub(crate) fn a_refused_write_is_done_again(alloc: Global) -> Result<bool, Broke
     tally.came_to()
 }
 
-/// Calls the function of a place, of which the run calls the same function by another cache, and gives what it gives.
-/// Gives also whether that call was refused.
+/// Calls the function of a place, whose run calls the same function with another cache. Returns the reply, and whether
+/// the inner call failed.
 fn call_within(
     alloc: Global,
     outer: &mut CacheData<AnySaid>,
@@ -213,8 +212,8 @@ fn call_within(
     }
 }
 
-/// Takes note of a call of the function of the place at a location, of which the run calls the same function by another
-/// cache. An entry of the outer call was kept or not; gives whether one is kept then.
+/// Checks such a call at a location. Given whether there was an entry of the outer call, it returns whether there is
+/// one afterwards.
 fn is_told_of_a_loss(
     alloc: Global,
     outer: &mut CacheData<AnySaid>,
@@ -249,8 +248,8 @@ fn is_told_of_a_loss(
     Ok(tally.call(was_kept, went, is_whole))
 }
 
-/// Whether a run that called another, which was refused, is incomplete: it is not stored, its caller is told so, and
-/// its recording is not given.
+/// Whether a run with a failing call is incomplete: it isn't stored, its caller is told, and its recording isn't passed
+/// on.
 pub(crate) fn a_run_that_lost_something_is_incomplete(alloc: Global) -> Result<bool, Broken> {
     let mut outer = CacheData::new(alloc);
     let mut inner = CacheData::new(alloc);

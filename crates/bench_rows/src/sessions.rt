@@ -11,7 +11,7 @@ fn prints(alloc: Global, lines: &str, wanted: &str) -> Result<bool, Broken> {
     Ok(printed.as_slice() == wanted.as_bytes())
 }
 
-/// Whether a script's value is kept until a file changes that it read.
+/// Whether a script's value is cached until a file that it read changes.
 pub(crate) fn a_value_is_kept_until_its_files_change(alloc: Global) -> Result<bool, Broken> {
     let lines = "write alpha.calc 2 + eval beta.calc\n\
         write beta.calc 2 + 3\n\
@@ -29,7 +29,7 @@ pub(crate) fn a_value_is_kept_until_its_files_change(alloc: Global) -> Result<bo
     prints(alloc, lines, wanted)
 }
 
-/// The lines that write `1` to the file `f0`, and to each of 127 others the script that asks for the one before it.
+/// Lines that write `1` to the file `f0`, and to each of 127 others a script that calls the one before.
 fn files_in_a_row(alloc: Global) -> Result<String, AllocError> {
     let mut lines = String::from_str(alloc, "write f0 1\n")?;
     for before in 0..127_u32 {
@@ -40,7 +40,7 @@ fn files_in_a_row(alloc: Global) -> Result<String, AllocError> {
     Ok(lines)
 }
 
-/// Whether a script that is too high is told so whatever is kept, and gives up what it was about to keep.
+/// Whether a script that is too high is reported whatever is cached, and its run is given up.
 pub(crate) fn a_script_too_high_is_told_so(alloc: Global) -> Result<bool, Broken> {
     let mut lines = files_in_a_row(alloc)?;
     lines.push_str(
@@ -57,7 +57,7 @@ pub(crate) fn a_script_too_high_is_told_so(alloc: Global) -> Result<bool, Broken
     prints(alloc, lines.as_str(), wanted)
 }
 
-/// Whether a script without a number says why, and what is no command is said to be none.
+/// Whether a script without a number says why, and a line that is no command is reported.
 pub(crate) fn a_script_without_a_number_says_why(alloc: Global) -> Result<bool, Broken> {
     let sessions: &[(&str, &str)] = &[
         (
@@ -86,8 +86,8 @@ pub(crate) fn a_script_without_a_number_says_why(alloc: Global) -> Result<bool, 
     Ok(true)
 }
 
-/// Whether scripts that call one another in a circle, that fail on the way, or that never end are told so, and the last one
-/// again after it was mended.
+/// Whether scripts that call each other in a circle, fail on the way, or never end are reported, and the last again
+/// after it was mended.
 pub(crate) fn scripts_that_misbehave_are_told_so(alloc: Global) -> Result<bool, Broken> {
     let lines = "write p 1 + eval q\n\
         write q eval p\n\
@@ -104,7 +104,7 @@ pub(crate) fn scripts_that_misbehave_are_told_so(alloc: Global) -> Result<bool, 
     prints(alloc, lines, wanted)
 }
 
-/// Whether the bytes of files are counted, and no input is answered by nothing.
+/// Whether the bytes of files are counted, and empty input has no output.
 pub(crate) fn the_bytes_of_files_are_counted(alloc: Global) -> Result<bool, Broken> {
     let lines =
         "write a hello\nsize a\nsize a\nwrite b x\nsize a\nwrite a hello!\nsize a\nsize none\n";

@@ -25,13 +25,13 @@ fn insert_z(alloc: Global, tree: &mut Tree) -> Result<(), InsertError> {
     insert(alloc, tree, pairs, 'z')
 }
 
-/// Puts `w` under the pairs of `x` in another order.
+/// Stores `w` under the pairs of `x` in another order.
 fn insert_w(alloc: Global, tree: &mut Tree) -> Result<(), InsertError> {
     let pairs = vec![in alloc; (B, 2), (A, 1), (C, 3)]?;
     insert(alloc, tree, pairs, 'w')
 }
 
-/// The answer of a table to a call. One that the table lacks is refused.
+/// A table's answer to a call. Fails if it has none.
 fn answer_in(table: &[(Letter, u128)], call: Letter) -> Result<u128, AllocError> {
     for (known, answer) in table {
         if *known == call {
@@ -41,7 +41,7 @@ fn answer_in(table: &[(Letter, u128)], call: Letter) -> Result<u128, AllocError>
     Err(AllocError)
 }
 
-/// Whether a tree finds this by the answers of a table, and asks these calls for it.
+/// Whether a look-up with a table's answers finds this value, and asks these calls.
 fn finds(
     alloc: Global,
     tree: &Tree,
@@ -64,7 +64,7 @@ fn finds(
     is_found && asked.as_slice() == calls
 }
 
-/// Whether a set of pairs is stored once, whichever of its orders comes, and again after it was dropped.
+/// Whether a set of pairs is stored once, in whichever order, and again after it was dropped.
 fn sets_are_stored_once(alloc: Global) -> bool {
     let mut tree = Settled::new(alloc);
     let x_stored = insert_x(alloc, &mut tree).is_ok();
@@ -96,7 +96,7 @@ fn sets_are_stored_once(alloc: Global) -> bool {
     stored && twice && x && whole && less && y && none && z && again
 }
 
-/// Whether the same sets are stored where they come in another order.
+/// Whether the same sets are stored if they come in another order.
 fn sets_come_in_any_order(alloc: Global) -> bool {
     let mut tree = Settled::new(alloc);
     let y_stored = insert_y(alloc, &mut tree).is_ok();
@@ -122,7 +122,7 @@ fn sets_come_in_any_order(alloc: Global) -> bool {
     stored && twice && y && x && z && tree.shape() == (4, 3, 6, 1)
 }
 
-/// What a tree finds at a location whose styles are 20.
+/// The value that a tree has at a location whose styles are 20.
 fn found_at(tree: &Settled<Places, u64>, location: u64) -> Result<Option<u64>, AllocError> {
     let found = tree.get(
         &0,
@@ -134,7 +134,7 @@ fn found_at(tree: &Settled<Places, u64>, location: u64) -> Result<Option<u64>, A
     Ok(found.copied())
 }
 
-/// Whether of a thousand places that a list of steps stores exactly the even ones are found, which its last step keeps.
+/// Whether of a thousand stored places exactly the even ones are found, after a last step that retains these.
 fn even_places_stay(alloc: Global) -> Result<bool, AllocError> {
     let mut tree = Settled::new(alloc);
     let steps = steps_below(alloc, 1000, 20)?;

@@ -12,7 +12,7 @@ use std::rt::Clock;
 use std::sync::Wait;
 use std::thread::Threads;
 
-/// Whether of two runs of one key that are open at once one is stored, and a third call is a hit.
+/// Whether of two simultaneous runs of one key one is stored, and a third call hits.
 pub(crate) fn a_shared_cache_stores_one_of_two<R: Threads + Wait + Clock + Sync>(
     rt: &R,
     alloc: Global,
@@ -22,7 +22,7 @@ pub(crate) fn a_shared_cache_stores_one_of_two<R: Threads + Wait + Clock + Sync>
     Ok(two_runs_of_one_key(rt, alloc, left, right)?)
 }
 
-/// Whether of two runs that are open at once and ask other questions one is stored.
+/// Whether of two simultaneous runs that ask different questions one is stored.
 pub(crate) fn other_questions<R: Threads + Wait + Clock + Sync>(
     rt: &R,
     alloc: Global,
@@ -30,7 +30,8 @@ pub(crate) fn other_questions<R: Threads + Wait + Clock + Sync>(
     Ok(two_runs_that_ask_other_questions(rt, alloc)?)
 }
 
-/// Whether of two runs that are open at once and ask the same questions in other orders one is stored, and the other exists.
+/// Whether of two simultaneous runs that ask the same in different orders one is stored, and the other gets
+/// `AlreadyExists`.
 pub(crate) fn turned_orders<R: Threads + Wait + Clock + Sync>(
     rt: &R,
     alloc: Global,
@@ -38,7 +39,7 @@ pub(crate) fn turned_orders<R: Threads + Wait + Clock + Sync>(
     Ok(two_runs_that_ask_in_turned_order(rt, alloc)?)
 }
 
-/// Whether sixteen workers get right outputs beside a thread that evicts their cache.
+/// Whether sixteen workers get right outputs while another thread evicts their cache.
 pub(crate) fn evictions_beside_workers<R: Threads + Wait + Sync>(
     rt: &R,
     alloc: Global,
@@ -46,7 +47,7 @@ pub(crate) fn evictions_beside_workers<R: Threads + Wait + Sync>(
     Ok(workers_beside_evictions(rt, alloc, &Cache::new(alloc))?)
 }
 
-/// Evicts a cache that it borrows.
+/// Evicts a borrowed cache.
 #[derive(Drop)]
 struct OfCache<'a, M: Memo, R: Wait> {
     cache: &'a Cache<M>,
@@ -59,7 +60,7 @@ impl<M: Memo, R: Wait> Evict for OfCache<'_, M, R> {
     }
 }
 
-/// Whether the branches of a run are absorbed in order, and an eviction reaches a cache that is shared.
+/// Whether a run's branches are absorbed in order, and an eviction reaches a shared cache.
 pub(crate) fn branches_and_evictions<R: Threads + Wait + Clock + Sync>(
     rt: &R,
     alloc: Global,

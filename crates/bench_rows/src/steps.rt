@@ -1,4 +1,4 @@
-//! Steps of a cache of a function of which everything is right. Its calls are numbers.
+//! Steps of a cache of a function for which everything is right. Its calls are numbers.
 ghost use Rattle.std.specs.Prelude.{◌≡◌, ⊤, true, false, IfOk};
 ghost use Rattle.std.specs.List.{All};
 ghost use Rattle.std.proofs.Common.{rules};
@@ -8,9 +8,7 @@ use comemo::{Call, Meant, Memo, Step};
 use std::alloc::{AllocError, Global};
 use std::hash::Hash;
 
-/// A call by its number: a read, or a write.
-///
-/// This project's own.
+/// A read or a write, by its number.
 #[derive(Clone, Copy, Drop, Debug, PartialEq, Eq, Hash)]
 pub struct Numbered {
     number: u8,
@@ -51,9 +49,7 @@ pub(crate) fn write(number: u8) -> Numbered
     Numbered { number, writes }
 }
 
-/// A function of which every output and all writes are right.
-///
-/// This project's own.
+/// A function for which every output and all writes are right.
 pub struct Anything;
 
 impl Memo for Anything {
@@ -92,7 +88,7 @@ fn writes(alloc: Global, numbers: &[u8]) -> Result<Vec<Numbered>, AllocError>
     Ok(writes)
 }
 
-/// Looks under a key, by the answers of some reads and the answer to every other.
+/// A look-up under a key, with these answers to some reads and one to all others.
 pub(crate) fn look(
     alloc: Global,
     key: u8,
@@ -109,7 +105,7 @@ pub(crate) fn look(
     })
 }
 
-/// Touches the entry under a key whose path has these answers.
+/// A touch of the entry under a key whose path has these answers.
 pub(crate) fn touch(alloc: Global, key: u8, answers: &[u8]) -> Result<Step<Anything>, AllocError>
     ensures { IfOk result (IsStep ⟦<Anything as Meant>⟧.meaning) }
 {
@@ -117,7 +113,7 @@ pub(crate) fn touch(alloc: Global, key: u8, answers: &[u8]) -> Result<Step<Anyth
     Ok(Step::Touch { key, answers })
 }
 
-/// Stores an output and writes under a key, by the answers of some reads.
+/// Stores an output and writes under a key and some reads with their answers.
 pub(crate) fn store(
     alloc: Global,
     key: u8,
@@ -137,7 +133,7 @@ pub(crate) fn store(
     })
 }
 
-/// Evicts by a bound.
+/// Evicts with a bound.
 pub(crate) fn evict(max_age: usize) -> Step<Anything>
     ensures { IsStep ⟦<Anything as Meant>⟧.meaning result }
 {

@@ -1,4 +1,4 @@
-//! The row of the program `calc` over streams that fail.
+//! The row of the program `calc` with failing streams.
 
 use crate::broken::Broken;
 use crate::tally::Tally;
@@ -7,7 +7,7 @@ use calc_sessions::run;
 use std::alloc::{AllocError, Global};
 use std::io::{BufReader, Error, ErrorKind, Read, Result as IoResult, Write};
 
-/// Gives its bytes, and then fails.
+/// A reader that returns its bytes, and then fails.
 #[derive(Drop)]
 struct Ending<'a>(&'a [u8]);
 
@@ -20,7 +20,7 @@ impl Read for Ending<'_> {
     }
 }
 
-/// Takes as many bytes as it has room for, and then fails.
+/// A writer that takes as many bytes as it has room for, and then fails.
 #[derive(Drop)]
 struct Full {
     taken: Vec<u8>,
@@ -43,21 +43,19 @@ impl Write for Full {
     }
 }
 
-/// How many bytes are made room for, beside those of a writer that fails.
+/// How many bytes a failing writer has allocated.
 const ROOM: usize = 32;
 
-/// A writer that fails where it has taken so many bytes.
+/// A writer that fails after this many bytes.
 fn full_after(alloc: Global, room: usize) -> Result<Full, AllocError> {
     let mut taken = Vec::new(alloc);
     taken.reserve(ROOM)?;
     Ok(Full { taken, room })
 }
 
-/// Takes note of a session of the line `size a` and another, that is to end in a fault: what it came to, and what was
-/// written.
+/// Checks the end of a session of the line `size a` and another, which should end in a fault, and what it printed.
 ///
-/// Where memory is refused to the first line, this is written in the place of its answer; where it is refused to the
-/// session, that ends earlier, and says so.
+/// It may print `out of memory` for the first line instead, or run out of memory itself, and then ends earlier.
 fn note_end(tally: &mut Tally, came_to: Result<(), RunFault>, fault: RunFault, written: &Full) {
     let taken = written.taken.as_slice();
     let is_answered = taken == b"miss 0\n".as_slice();
@@ -74,7 +72,7 @@ fn note_end(tally: &mut Tally, came_to: Result<(), RunFault>, fault: RunFault, w
     }
 }
 
-/// Takes note of a line that is answered before its reader fails.
+/// Checks a line that is answered before the reader fails.
 fn a_reader_that_fails(alloc: Global, tally: &mut Tally) -> Result<(), Broken> {
     let mut writer = full_after(alloc, ROOM)?;
     let Ok(mut reader) = BufReader::new(alloc, Ending(b"size a\n")) else {
@@ -85,7 +83,7 @@ fn a_reader_that_fails(alloc: Global, tally: &mut Tally) -> Result<(), Broken> {
     Ok(())
 }
 
-/// Takes note of a line that is answered before one that is not UTF-8.
+/// Checks a line that is answered before one that is not UTF-8.
 fn a_line_that_is_no_text(alloc: Global, tally: &mut Tally) -> Result<(), Broken> {
     let mut writer = full_after(alloc, ROOM)?;
     let came_to = run(alloc, &mut b"size a\n\xff\n".as_slice(), &mut writer);
@@ -93,7 +91,7 @@ fn a_line_that_is_no_text(alloc: Global, tally: &mut Tally) -> Result<(), Broken
     Ok(())
 }
 
-/// Takes note of two answers of which the first is written and the writer fails at the second.
+/// Checks two answers: the first is written, and the writer fails at the second.
 fn a_writer_that_fails(alloc: Global, tally: &mut Tally) -> Result<(), Broken> {
     let mut writer = full_after(alloc, 7)?;
     let came_to = run(alloc, &mut b"size a\nsize a\n".as_slice(), &mut writer);
@@ -101,8 +99,8 @@ fn a_writer_that_fails(alloc: Global, tally: &mut Tally) -> Result<(), Broken> {
     Ok(())
 }
 
-/// Whether a stream that fails, or a line that is not UTF-8, ends a run with its own fault, after all that was answered
-/// before.
+/// Whether a failing stream, or a line that is not UTF-8, ends a run with its own fault, after all earlier answers were
+/// written.
 pub(crate) fn what_was_answered_was_written(alloc: Global) -> Result<bool, Broken> {
     let mut tally = Tally::new();
     let read = a_reader_that_fails(alloc, &mut tally);

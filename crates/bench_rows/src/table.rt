@@ -38,12 +38,9 @@ use std::rt::Clock;
 use std::sync::Wait;
 use std::thread::Threads;
 
-/// Runs each row, and says which failed first.
+/// Runs each row, and returns the first that failed. Running out of memory is a failure.
 ///
-/// The longest starts seventeen threads, of which sixteen make two thousand calls each; one, of a thousand places,
-/// calls a function five thousand times, and one stores and looks up a thousand runs; each of the others makes some
-/// dozen calls. Three more start two threads each, of which two wait for each other. A row for which there is no
-/// memory fails. This project's own.
+/// The longest row starts seventeen threads, of which sixteen make two thousand calls each.
 pub fn run_rows<R: Threads + Wait + Clock + Sync>(rt: &R, alloc: Global) -> Outcome
     ensures { IfSome result (Contains row_numbers) }
 {
@@ -88,12 +85,10 @@ pub fn run_rows<R: Threads + Wait + Clock + Sync>(rt: &R, alloc: Global) -> Outc
     rows
 }
 
-/// Runs each row that goes on where memory is refused to it, and says which was wrong first.
+/// Runs the rows that go on when they run out of memory, and returns the first that was wrong.
 ///
-/// The rows 12, 13, 14, of twenty places, 19, 21 and R12 of `run_rows`; 20, a run of which a nested call is refused;
-/// and of R12 also a hit of which a write is refused. At each refused request a row compares the answer with what it
-/// has to be, and what is kept, with its ages, what is written and what is recorded with what they were before. This
-/// project's own.
+/// These are 12, 13, 14 with twenty places, 19, 20, 21 and two of R12. After each failed allocation they compare
+/// results, entries, ages, writes and recordings with what they should be.
 pub fn run_scarce_rows(alloc: Global) -> Outcome {
     let mut rows = Outcome::new();
     rows.scarce_row("12", hits_stay_young(alloc));

@@ -1,12 +1,10 @@
-//! What a row comes to that goes on after a refused request for memory.
+//! The result of a row that goes on after a failed allocation. Nothing here allocates.
 ghost use Rattle.std.specs.Prelude.{◌≡◌, ◌||◌, not, true, false, Ok, IfOk};
 
 use crate::broken::Broken;
 use comemo::{Fault, How};
 
-/// What a row has come to so far: whether something was wrong, and whether a request for memory was refused.
-///
-/// It takes no memory. This project's own.
+/// A row's result so far: whether something was wrong, and whether an allocation failed.
 #[derive(Drop)]
 pub struct Tally {
     is_wrong: bool,
@@ -14,7 +12,7 @@ pub struct Tally {
 }
 
 impl Tally {
-    /// Nothing was wrong yet, and nothing refused.
+    /// Nothing was wrong yet, and nothing failed.
     pub fn new() -> Self
         ensures wrong { result.is_wrong ≡ false }
         ensures refused { result.was_refused ≡ false }
@@ -25,7 +23,7 @@ impl Tally {
         }
     }
 
-    /// Takes note that something is as it has to be, or is not.
+    /// Records whether something is as it should be.
     pub fn hold(&mut self, holds: bool)
         ensures wrong { self.new.is_wrong ≡ (self.old.is_wrong || not holds) }
         ensures refused { self.new.was_refused ≡ self.old.was_refused }
@@ -35,7 +33,7 @@ impl Tally {
         }
     }
 
-    /// Takes note of a refused request.
+    /// Records a failed allocation.
     pub fn refuse(&mut self)
         ensures wrong { self.new.is_wrong ≡ self.old.is_wrong }
         ensures refused { self.new.was_refused ≡ true }
@@ -43,7 +41,7 @@ impl Tally {
         self.was_refused = true;
     }
 
-    /// Takes note that something is as it has to be where nothing was refused so far, or is not.
+    /// Records whether something is as it should be, if no allocation has failed so far.
     pub fn hold_if_ample(&mut self, holds: bool)
         ensures wrong { self.new.is_wrong
             ≡ (self.old.is_wrong || not (holds || self.old.was_refused)) }
@@ -54,12 +52,11 @@ impl Tally {
         }
     }
 
-    /// Takes note of what became of a call of a memoized function, and whether its sink is whole then. Of the call an
-    /// entry was kept or not. Gives whether one is kept now.
+    /// Checks the result of a memoized call, and that its sink is complete unless it failed. Given whether there was an
+    /// entry, it returns whether there is one now.
     ///
-    /// A call is right if it is a hit exactly where an entry was kept, or else a run that is stored. It is refused if
-    /// it says that there was no memory: a run that is not stored, or a fault, which spoils the sink. All else is
-    /// wrong.
+    /// A call is right if it hits an entry or, without one, stores its run. A run that isn't stored, and `Memory`,
+    /// count as failed allocations. All else is wrong.
     pub fn call(&mut self, was_kept: bool, went: Result<How, Fault>, is_whole: bool) -> bool {
         self.hold(went.is_ok() == is_whole);
         match (was_kept, went) {
@@ -80,7 +77,7 @@ impl Tally {
         }
     }
 
-    /// What the row came to: `Ok(false)` if something was wrong, else `Err(Broken)` if a request was refused, else
+    /// The row's result: `Ok(false)` if something was wrong, else `Err(Broken)` if an allocation failed, else
     /// `Ok(true)`.
     pub fn came_to(&self) -> Result<bool, Broken>
         ensures wrong { self.now.is_wrong ≡ true → result ≡ Ok false }

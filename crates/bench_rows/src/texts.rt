@@ -10,7 +10,7 @@ use comemo_guide::numbers::SumBelow;
 use comemo_guide::texts::Same;
 use std::alloc::{AllocError, Global};
 
-/// Whether a text gives itself, and this became of the call.
+/// Whether a text's call returns it, and came about like this.
 fn says_itself(alloc: Global, cache: &mut CacheData<MemoOf<Selfie>>, text: &str, how: How) -> bool {
     let Ok(own) = String::from_str(alloc, text) else {
         return false;
@@ -21,7 +21,7 @@ fn says_itself(alloc: Global, cache: &mut CacheData<MemoOf<Selfie>>, text: &str,
     }
 }
 
-/// Whether a text is called long or not, as it is where its length and five pass ten, and this became of the call.
+/// Whether a text is called long or not (long: its length and five exceed ten), and the call came about like this.
 fn is_called(
     alloc: Global,
     cache: &mut CacheData<MemoOf<IsLong>>,
@@ -38,7 +38,7 @@ fn is_called(
     }
 }
 
-/// Whether a text answers two kinds of questions, each to its own function.
+/// Whether a text answers two kinds of questions, each for its own function.
 pub(crate) fn two_kinds_of_questions(alloc: Global) -> Result<bool, Broken> {
     let mut selfies: CacheData<MemoOf<Selfie>> = CacheData::new(alloc);
     let mut lengths: CacheData<MemoOf<IsLong>> = CacheData::new(alloc);
@@ -52,7 +52,7 @@ pub(crate) fn two_kinds_of_questions(alloc: Global) -> Result<bool, Broken> {
     Ok(first && stored && hit && again && other && short && long)
 }
 
-/// Whether what a function of nothing gives is kept.
+/// Whether the output of a function of nothing is cached.
 fn the_world_is_big(alloc: Global) -> Result<bool, Broken> {
     let mut cache: CacheData<MemoOf<World>> = CacheData::new(alloc);
     let mut needs = alloc;
@@ -67,7 +67,7 @@ fn the_world_is_big(alloc: Global) -> Result<bool, Broken> {
     Ok(true)
 }
 
-/// Whether a sum is kept under its number.
+/// Whether a sum is cached under its number.
 fn a_sum_is_kept(alloc: Global) -> Result<bool, Broken> {
     let mut cache: CacheData<MemoOf<SumBelow>> = CacheData::new(alloc);
     let first = gives(call(alloc, &mut cache, 1000, &())?, 499500, How::Stored);
@@ -75,7 +75,7 @@ fn a_sum_is_kept(alloc: Global) -> Result<bool, Broken> {
     Ok(first && second)
 }
 
-/// Whether a cache of texts gives this text, and this became of the call.
+/// Whether a call with this text returns it, and came about like this.
 fn keeps(alloc: Global, cache: &mut CacheData<MemoOf<Same>>, text: &str, how: How) -> bool {
     let Ok(own) = String::from_str(alloc, text) else {
         return false;
@@ -86,7 +86,7 @@ fn keeps(alloc: Global, cache: &mut CacheData<MemoOf<Same>>, text: &str, how: Ho
     }
 }
 
-/// Whether two functions of texts have each a cache of their own.
+/// Whether two functions of texts each have their own cache.
 fn each_function_has_its_cache(alloc: Global) -> bool {
     let mut taken: CacheData<MemoOf<Same>> = CacheData::new(alloc);
     let mut copied: CacheData<MemoOf<Same>> = CacheData::new(alloc);
@@ -116,7 +116,7 @@ fn hello_is_asked_for(alloc: Global) -> Result<bool, Broken> {
     Ok(true)
 }
 
-/// A loader that gives the same bytes for every path.
+/// A loader that returns the same bytes for every path.
 #[derive(Drop)]
 struct OneFile {
     bytes: Vec<u8>,
@@ -155,7 +155,7 @@ fn each_path_is_loaded_once(alloc: Global) -> Result<bool, Broken> {
     Ok(true)
 }
 
-/// Whether functions of nothing, of numbers, of texts and of a loader are each kept.
+/// Whether functions of nothing, of numbers, of texts and of a loader are cached.
 pub(crate) fn functions_are_kept(alloc: Global) -> Result<bool, Broken> {
     Ok(
         the_world_is_big(alloc)?

@@ -6,7 +6,7 @@ use std::alloc::{AllocError, Global};
 
 type Tree = CallTree<u128, u8, u128, char>;
 
-/// A sequence of these pairs, of which the first of each call counts.
+/// A sequence of these pairs; of pairs with one call the first counts.
 fn sequence_of(alloc: Global, pairs: &[(u8, u128)]) -> Result<CallSequence<u8, u128>, AllocError> {
     let mut sequence = CallSequence::new(alloc);
     for (call, answer) in pairs {
@@ -15,7 +15,7 @@ fn sequence_of(alloc: Global, pairs: &[(u8, u128)]) -> Result<CallSequence<u8, u
     Ok(sequence)
 }
 
-/// Puts a value under the key 0 and these pairs.
+/// Stores a value under the key 0 and these pairs.
 fn insert(
     alloc: Global,
     tree: &mut Tree,
@@ -26,7 +26,7 @@ fn insert(
     tree.insert(0, sequence, value)
 }
 
-/// The answer of a table to a call. One that the table lacks is refused.
+/// A table's answer to a call. Fails if it has none.
 fn answer_in(table: &[(u8, u128)], call: u8) -> Result<u128, AllocError> {
     for (known, answer) in table {
         if *known == call {
@@ -36,7 +36,7 @@ fn answer_in(table: &[(u8, u128)], call: u8) -> Result<u128, AllocError> {
     Err(AllocError)
 }
 
-/// Whether a tree finds this under a key by the answers of a table, and asks these calls for it.
+/// Whether a look-up under a key with a table's answers finds this value, and asks these calls.
 fn finds(
     alloc: Global,
     tree: &Tree,
@@ -56,10 +56,10 @@ fn finds(
     Ok(found.copied() == value && asked.as_slice() == calls)
 }
 
-/// Pairs of a path.
+/// The pairs of a path.
 type Pairs = &'static [(u8, u128)];
 
-/// Puts each value under its pairs into a new tree.
+/// A new tree with each value under its pairs.
 fn tree_of(alloc: Global, paths: &[(Pairs, char)]) -> Result<Tree, InsertError> {
     let mut tree = CallTree::new(alloc);
     for (pairs, value) in paths {
@@ -68,10 +68,10 @@ fn tree_of(alloc: Global, paths: &[(Pairs, char)]) -> Result<Tree, InsertError> 
     Ok(tree)
 }
 
-/// A look under the key 0: the answers, the value that is found by them, and the calls that are asked for it.
+/// A look-up under the key 0: the answers, the value found, and the calls asked.
 type Look = (Pairs, Option<char>, &'static [u8]);
 
-/// Whether a tree with this shape finds all this.
+/// Whether a tree has this shape, and these look-ups.
 fn finds_all(
     alloc: Global,
     tree: &Tree,
@@ -86,7 +86,7 @@ fn finds_all(
     Ok(tree.shape() == shape)
 }
 
-/// Whether paths that part are each found by their own answers.
+/// Whether diverging paths are each found by their own answers.
 pub(crate) fn paths_that_part(alloc: Global) -> Result<bool, Broken> {
     let first: Pairs = &[(b'a', 10), (b'b', 15)];
     let second: Pairs = &[(b'a', 10), (b'b', 20)];
@@ -106,10 +106,10 @@ const SECOND: Pairs = &[(b'a', 10), (b'c', 15), (b'b', 20)];
 
 const THIRD: Pairs = &[(b'a', 15), (b'b', 30), (b'c', 15)];
 
-/// Three paths under one key, of which the second goes on with its own calls after the first pair of the first.
+/// Three paths under one key; the second has its own calls after the first pair of the first.
 const THREE: &[(Pairs, char)] = &[(FIRST, 'f'), (SECOND, 's'), (THIRD, 't')];
 
-/// Whether a tree gives this path by the answers of the second of the three, with its value.
+/// Whether the answers of the second path find this path, with its value.
 fn leads_to(tree: &Tree, path: Pairs, value: char) -> Result<bool, AllocError> {
     let found = tree.find(&0, &mut |call: &u8| answer_in(SECOND, *call))?;
     Ok(match found {
@@ -130,7 +130,7 @@ pub(crate) fn a_path_follows_the_stored_ones(alloc: Global) -> Result<bool, Brok
     Ok(follows && finds_all(alloc, &tree, (5, 3, 7, 1), looks)?)
 }
 
-/// Whether of three paths the one that is kept is found alone.
+/// Whether of three paths only the retained one is found.
 pub(crate) fn what_is_kept_is_found_alone(alloc: Global) -> Result<bool, Broken> {
     let mut tree = tree_of(alloc, THREE)?;
     tree.retain(|value: &mut char| *value == 's');
@@ -142,7 +142,7 @@ pub(crate) fn what_is_kept_is_found_alone(alloc: Global) -> Result<bool, Broken>
     Ok(finds_all(alloc, &tree, (3, 1, 3, 1), looks)?)
 }
 
-/// Whether neither what is stored already nor what lacks a stored call is stored.
+/// Whether a path that is stored already isn't stored again, and one that lacks a stored call isn't stored.
 pub(crate) fn what_is_stored_stays(alloc: Global) -> Result<bool, Broken> {
     let mut tree = tree_of(alloc, &[(&[(b'a', 1)], 'x')])?;
     let longer = insert(alloc, &mut tree, &[(b'a', 1), (b'b', 2)], 'y');
@@ -158,7 +158,7 @@ pub(crate) fn what_is_stored_stays(alloc: Global) -> Result<bool, Broken> {
     Ok(stays? && are_refused)
 }
 
-/// Whether an empty path is found with nothing asked.
+/// Whether an empty path is found without asking.
 pub(crate) fn an_empty_path_is_found_unasked(alloc: Global) -> Result<bool, Broken> {
     let mut tree = tree_of(alloc, &[(&[], 'x')])?;
     let longer = insert(alloc, &mut tree, &[(b'a', 1)], 'y');
@@ -172,7 +172,7 @@ pub(crate) fn an_empty_path_is_found_unasked(alloc: Global) -> Result<bool, Brok
     Ok(found? && other? && longer == Err(InsertError::AlreadyExists))
 }
 
-/// Whether calls are asked in the order of the tree, and none after an answer that no path has.
+/// Whether calls are asked in the tree's order, and none after an answer that no path has.
 pub(crate) fn calls_are_asked_in_order(alloc: Global) -> Result<bool, Broken> {
     let paths: &[(Pairs, char)] = &[
         (&[(b'a', 1), (b'b', 2)], 'x'),
@@ -186,7 +186,7 @@ pub(crate) fn calls_are_asked_in_order(alloc: Global) -> Result<bool, Broken> {
     Ok(finds_all(alloc, &tree, (2, 2, 3, 1), looks)?)
 }
 
-/// Whether a call that was taken out of a sequence stays seen.
+/// Whether a call taken out of a sequence stays seen.
 pub(crate) fn a_call_that_was_taken_out_stays_seen(alloc: Global) -> Result<bool, Broken> {
     let mut sequence = sequence_of(alloc, &[(b'a', 1), (b'b', 2)])?;
     let first = sequence.extract(&b'b');

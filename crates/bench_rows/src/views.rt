@@ -1,4 +1,4 @@
-//! The row of a view that keeps what it was answered.
+//! The row of a view that caches answers.
 ghost use Rattle.std.proofs.Common.{rules};
 
 use crate::broken::Broken;
@@ -8,7 +8,7 @@ use comemo::{Accelerated, Begun, CacheData, Constraint, Fault, How, Reply, Top, 
 use std::alloc::{AllocError, Global};
 use std::sync::atomic::{AtomicU64, Ordering};
 
-/// A place, which counts how often it is asked where it is, and how it is set.
+/// A place that counts how often each of its two calls is asked.
 #[derive(Drop)]
 struct Watched {
     location: u64,
@@ -18,7 +18,7 @@ struct Watched {
 }
 
 impl Watched {
-    /// The place at a location, with the styles `styles`. It was not asked yet.
+    /// The place at a location, with the styles `styles`, not asked yet.
     fn at(alloc: Global, location: u64) -> Result<Watched, AllocError> {
         Ok(Watched {
             location,
@@ -64,7 +64,7 @@ impl Track for Watched {
     }
 }
 
-/// What is said of a place: where it is and, of the fifth alone, how it is set.
+/// The text for a place: where it is and, for the fifth only, how it is set.
 fn said_of(
     alloc: Global,
     view: &mut Accelerated<'_, Watched>,
@@ -82,7 +82,7 @@ fn said_of(
     format!(in alloc; "Twenty has {styles}")
 }
 
-/// Calls the function of a place through a view of it: the look-up and the run both ask that view.
+/// Calls the function of a place through a view, which both the look-up and the run ask.
 fn contextual(
     alloc: Global,
     cache: &mut CacheData<AnySaid>,
@@ -103,7 +103,7 @@ fn contextual(
     }
 }
 
-/// Whether three calls through one view ask the value each thing once, and give the same.
+/// Whether three calls through one view ask the value each call once, and return the same.
 pub(crate) fn a_view_asks_once(alloc: Global) -> Result<bool, Broken> {
     let place = Watched::at(alloc, 5)?;
     let mut cache = CacheData::new(alloc);

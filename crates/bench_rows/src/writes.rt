@@ -42,7 +42,7 @@ impl FunctionMut for Dump {
     }
 }
 
-/// By how many of these parts, one byte each, a text has grown. None where it has grown by others.
+/// By how many of these parts, one byte each, a text has grown; `None` if it has grown by others.
 fn grown_by(text: &str, before: usize, parts: &[u8]) -> Option<usize> {
     let Some(grown) = text.as_bytes().get(before..) else {
         return None;
@@ -53,8 +53,7 @@ fn grown_by(text: &str, before: usize, parts: &[u8]) -> Option<usize> {
     None
 }
 
-/// How many writes a recording has, which are a beginning of these parts, one byte each. None where it has others, or
-/// reads.
+/// The length of a recording that is a prefix of these parts, one byte each; `None` if it isn't, or has reads.
 fn recorded(sink: Constraint<EmitterCall, ()>, parts: &[u8]) -> Option<usize> {
     let (mut reads, writes) = sink.into_parts();
     if reads.next().is_some() || writes.len() > parts.len() {
@@ -69,7 +68,7 @@ fn recorded(sink: Constraint<EmitterCall, ()>, parts: &[u8]) -> Option<usize> {
     Some(writes.len())
 }
 
-/// What has a text and then `1` emitted, and what the calls so far came to.
+/// Emits texts, each followed by `1`, and checks the results.
 #[derive(Drop)]
 struct Emitting {
     cache: CacheData<MemoOfMut<Dump>>,
@@ -78,11 +77,11 @@ struct Emitting {
 }
 
 impl Emitting {
-    /// Has a text emitted, of one byte, and `1` behind it. Takes note of what became of the call, of which an entry
-    /// of this age was kept or none, and gives the age of the entry that is kept then.
+    /// Emits a text of one byte, and then `1`. Checks the result, given the entry's age, and returns the age
+    /// afterwards.
     ///
-    /// A hit that is refused emits nothing. One of which a write is refused has the age 0, and its recording has the
-    /// writes that were done. A run that is refused emits a beginning.
+    /// A hit that runs out of memory emits nothing. After a failing write the entry has age 0, and the recording has
+    /// the writes done. A failing run emits a prefix.
     fn emit(
         &mut self,
         alloc: Global,
@@ -116,8 +115,8 @@ impl Emitting {
         self.note(kept, went, is_whole, (grown, sent), parts.len())
     }
 
-    /// Takes note of a call that went so: whether its sink is whole then, how many of its parts were emitted and sent,
-    /// of so many. Gives the age of the entry that is kept then.
+    /// Checks the result of a call: whether its sink is complete, and how many of its parts were emitted and sent.
+    /// Returns the entry's age afterwards.
     fn note(
         &mut self,
         kept: Option<usize>,
@@ -148,7 +147,7 @@ impl Emitting {
     }
 }
 
-/// Evicts by a bound from a cache, and gives the ages of these entries then. Takes note of how many there are.
+/// Evicts with a bound, checks the number of entries, and returns their ages.
 fn evict(
     cache: &mut CacheData<MemoOfMut<Dump>>,
     tally: &mut Tally,
@@ -189,7 +188,7 @@ fn a_hit_emits_again(alloc: Global) -> Result<bool, Broken> {
             kept[*place] = emitting.emit(alloc, *name, parts.as_bytes(), kept[*place]);
         }
     }
-    // Of the first two an entry goes now that no hit touched after its run.
+    // Of the first two, the entry that no hit has touched since its run is dropped now.
     let _ = evict(&mut emitting.cache, &mut emitting.tally, kept, 3);
     let is_so = emitting.emitter.text() == "a1b1c1a1b1";
     emitting.tally.hold_if_ample(is_so);
@@ -225,7 +224,7 @@ impl FunctionMut for AddsThree {
     }
 }
 
-/// Has 3 added to a counter by `AddsThree`, whichever number it is given.
+/// Adds 3 to a counter by a call of `AddsThree`, whatever its key.
 struct AddsByAnother;
 
 impl FunctionMut for AddsByAnother {
@@ -254,15 +253,15 @@ impl FunctionMut for AddsByAnother {
     }
 }
 
-/// Whether a recording has the one write that adds 3, or else, if that is not asked for, nothing.
+/// Whether a recording has the one write that adds 3 or, if it may lack that, nothing.
 fn has_added(sink: Constraint<CounterCall, u64>, is_sure: bool) -> bool {
     let (mut reads, writes) = sink.into_parts();
     let has_one = writes.as_slice() == [CounterCall::Add(3)].as_slice();
     reads.next().is_none() && (has_one || !is_sure && writes.is_empty())
 }
 
-/// Calls on a new counter the function that has 3 added by another. Takes note of what became of the call, of which an
-/// entry was kept or not, and gives whether one is kept then.
+/// Calls the function that adds 3 by another, on a new counter. Checks the result and, given whether there was an
+/// entry, returns whether there is one afterwards.
 fn add_by_another(
     alloc: Global,
     cache: &mut CacheData<MemoOfMut<AddsByAnother>>,
@@ -280,7 +279,7 @@ fn add_by_another(
         Ok(reply) => Ok(reply.how),
         Err(fault) => Err(fault),
     };
-    // A run that is refused may have added before.
+    // A failing run may have added already.
     let is_added = counter.number == 3;
     tally.hold(is_added || went.is_err() && counter.number == 0);
     tally.hold(went.is_ok() || !was_kept || !is_added);
@@ -292,7 +291,7 @@ fn add_by_another(
     tally.call(was_kept, went, is_whole)
 }
 
-/// Whether a hit writes what a function wrote that its run called.
+/// Whether a hit repeats the writes of a function that its run called.
 fn a_hit_writes_what_was_written_within(alloc: Global) -> Result<bool, Broken> {
     let mut cache: CacheData<MemoOfMut<AddsByAnother>> = CacheData::new(alloc);
     let mut inner = CacheData::new(alloc);
@@ -304,8 +303,8 @@ fn a_hit_writes_what_was_written_within(alloc: Global) -> Result<bool, Broken> {
     tally.came_to()
 }
 
-/// Whether a hit does again what its run wrote, itself or by the functions that it called. A call that is refused
-/// says so, and leaves a beginning of what it was to write.
+/// Whether a hit repeats the writes of its run, and of the functions that this called. A failing call reports it, and
+/// has done a prefix of its writes.
 pub(crate) fn hits_write_again(alloc: Global) -> Result<bool, Broken> {
     let emitted = a_hit_emits_again(alloc);
     let written = a_hit_writes_what_was_written_within(alloc);

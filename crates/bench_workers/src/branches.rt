@@ -1,4 +1,4 @@
-//! Branches of one run, each in a thread with a recording and a view of its own.
+//! Branches of one run, each in a thread with its own recording and view.
 
 use comemo::{Constraint, Fault, Track, Tracked};
 use comemo_samples::{Cells, Get};
@@ -19,8 +19,7 @@ fn branch(
     Ok(recording)
 }
 
-/// Whether the recording of a run has the questions of its left branch first, and each question once, whichever branch ended
-/// first.
+/// Whether a run's recording has its left branch's questions first, and each once, whichever branch ended first.
 pub fn branches_are_absorbed_in_order<R: Threads + Sync>(
     rt: &R,
     alloc: Global,

@@ -1,4 +1,4 @@
-//! Doubles of numbers, kept in a cache that threads share.
+//! Doubles of numbers, in a cache that threads share.
 ghost use Rattle.std.specs.Prelude.{◌≡◌, ◌+◌, ◌%◌, ◌^◌, IfOk, IfSome};
 
 use crate::gate::{Gate, Meeting, Open, TURNS};
@@ -8,9 +8,7 @@ use std::alloc::Global;
 use std::rt::Clock;
 use std::thread::{Threads, join};
 
-/// The double of a number, kept in what holds a cache; none where a gate of the run wasn't opened.
-///
-/// Between the beginning of a run and its end it holds no lock: it has no right to wait for one. This project's own.
+/// The double of a number, memoized; `None` if a gate of the run didn't open. It holds no lock while it runs.
 pub fn doubled<H: Hold<MemoOf<Double>>, G: Gate>(
     alloc: Global,
     cache: &mut H,
@@ -47,8 +45,8 @@ pub fn doubled<H: Hold<MemoOf<Double>>, G: Gate>(
     }
 }
 
-/// Whether of two runs of one key that are open at once one is stored and the other finds its path there, and a third
-/// call is a hit, where each thread has one of two holders of a cache.
+/// Runs the same key on two threads at once. True if one run is stored, the other gets `AlreadyExists`, and a third
+/// call hits.
 pub fn two_runs_of_one_key<R: Threads + Clock + Sync, H: Hold<MemoOf<Double>> + Send + Drop>(
     rt: &R,
     alloc: Global,
@@ -79,7 +77,7 @@ pub fn two_runs_of_one_key<R: Threads + Clock + Sync, H: Hold<MemoOf<Double>> + 
 /// How many numbers are doubled in a round.
 const NUMBERS: u32 = 100;
 
-/// Whether a round of calls, one for each number, ends like this, and like that at one of the numbers.
+/// Whether a round of calls, one for each number, ends like this, except like that for one number.
 fn round_ends<H: Hold<MemoOf<Double>>>(
     alloc: Global,
     cache: &mut H,
@@ -99,8 +97,8 @@ fn round_ends<H: Hold<MemoOf<Double>>>(
     Ok(true)
 }
 
-/// Whether an eviction reaches the doubles of all numbers: where it drops all, each is stored anew, and of those that are
-/// as old as its bound it leaves the one that was hit last.
+/// Whether an eviction with bound 0 drops the entries of all numbers, and later ones with bound 1 leave only the entry
+/// that was hit between them.
 pub fn evictions_reach_all_keys<H: Hold<MemoOf<Double>>, E: Evict>(
     alloc: Global,
     cache: &mut H,

@@ -1,4 +1,4 @@
-//! Runs of one function that ask different questions at once.
+//! Simultaneous runs of one function that ask different questions.
 ghost use Rattle.std.specs.Prelude.{◌≡◌, []};
 ghost use Rattle.std.proofs.Common.{rules};
 
@@ -10,7 +10,7 @@ use std::rt::Clock;
 use std::sync::Wait;
 use std::thread::{Threads, join};
 
-/// The empty text, whatever was asked.
+/// Returns the empty text, whatever it asked.
 struct Empty;
 
 impl Memo for Empty {
@@ -29,7 +29,7 @@ impl Memo for Empty {
     ghost laws = { Prim.search rules };
 }
 
-/// The empty text, by a run that asks one question; none where a gate of the run wasn't opened.
+/// The empty text, from a run that asks one question; `None` if a gate didn't open.
 fn empty_by<H: Hold<Empty>, G: Gate>(
     alloc: Global,
     cache: &mut H,
@@ -62,8 +62,8 @@ fn empty_by<H: Hold<Empty>, G: Gate>(
     }
 }
 
-/// Whether of two runs that are open at once and begin with different questions one is stored, and the other's path is told
-/// to lack a call.
+/// Whether of two simultaneous runs that begin with different questions one is stored, and the other gets
+/// `MissingCall`.
 pub fn two_runs_that_ask_other_questions<R: Threads + Wait + Clock + Sync>(
     rt: &R,
     alloc: Global,

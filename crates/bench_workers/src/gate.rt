@@ -5,14 +5,14 @@ use std::sync::atomic::{AtomicUsize, Ordering};
 use std::thread;
 use std::time::Duration;
 
-/// A gate of a run. This project's own.
+/// The gate of a run.
 pub trait Gate {
-    /// Says that a worker came to a place: 1 is just after a run began, 2 just before it ends. It answers false where the
-    /// gate wasn't opened in time; then the run is to be given up.
+    /// Reports that a worker reached a place: 1 is after a run begins, 2 before it ends. False, if the gate didn't open
+    /// in time, means to give the run up.
     fn reach(&self, place: u32) -> bool;
 }
 
-/// A gate that is always open. This project's own.
+/// A gate that is always open.
 pub struct Open;
 
 impl Gate for Open {
@@ -24,8 +24,8 @@ impl Gate for Open {
 /// How many turns a worker of a row waits for others.
 pub const TURNS: u32 = 10_000;
 
-/// A gate whose place 1 opens once so many workers came there. Its other places are open. A turn of waiting is a sleep of one
-/// millisecond, and after so many of them it answers false. This project's own.
+/// A gate whose place 1 opens once this many workers reached it. Its other places are open. A turn of waiting is a
+/// sleep of one millisecond.
 #[derive(Drop)]
 pub struct Meeting<'a, R: Clock> {
     rt: &'a R,
@@ -35,7 +35,7 @@ pub struct Meeting<'a, R: Clock> {
 }
 
 impl<'a, R: Clock> Meeting<'a, R> {
-    /// A gate to which nobody came yet, for so many workers, each of which waits so many turns. It takes no memory.
+    /// A gate for this many workers, each of which waits at most this many turns. Does not allocate.
     pub fn new(rt: &'a R, wanted: usize, turns: u32) -> Self {
         Meeting {
             rt,

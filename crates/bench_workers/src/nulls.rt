@@ -5,7 +5,7 @@ ghost use Rattle.std.proofs.Common.{rules};
 use comemo::{Evict, Fault, Function, Hold, How, MemoOf, Recorder, Top, Track, memoized};
 use std::alloc::Global;
 
-/// Gives 0.
+/// Returns 0.
 pub struct Null;
 
 impl Function for Null {
@@ -26,14 +26,14 @@ impl Function for Null {
     }
 }
 
-/// Whether an eviction drops what is as old as its bound, and a hit makes what it gives young again, where a cache has one
-/// who holds it and one who evicts it.
+/// Whether an eviction drops entries as old as its bound, and a hit refreshes its entry, in a cache with one holder and
+/// one evictor.
 pub fn evictions_reach_a_cache<H: Hold<MemoOf<Null>>, E: Evict>(
     alloc: Global,
     cache: &mut H,
     evictor: &E,
 ) -> Result<bool, Fault> {
-    // How many evictions by 1 come before a call, and what becomes of the call.
+    // How many evictions with bound 1 precede a call, and the call's result.
     let calls = [
         (0, How::Stored),
         (1, How::Hit),

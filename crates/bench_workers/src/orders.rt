@@ -1,4 +1,4 @@
-//! Runs of one function that ask the same questions at once, each in another order.
+//! Simultaneous runs of one function that ask the same questions in different orders.
 ghost use Rattle.std.specs.Prelude.{◌≢◌, ⊤};
 ghost use Rattle.std.proofs.Common.{rules};
 
@@ -10,7 +10,7 @@ use std::rt::Clock;
 use std::sync::Wait;
 use std::thread::{Threads, join};
 
-/// Nothing, of a run that asks where a context is and how it is set.
+/// Returns nothing, and asks a context where it is and how it is set.
 struct Whole;
 
 impl Memo for Whole {
@@ -26,13 +26,13 @@ impl Memo for Whole {
 
     ghost def = { λ _ _ _ _. ⊤ };
 
-    // both calls are asked, whatever is answered
+    // both calls are asked, whatever the answers are
     ghost naming = { names (λ _ _ _. ⊤) };
 
     ghost laws = { Prim.search rules };
 }
 
-/// A run that asks one question, waits at a gate, and then asks the other; none where the gate wasn't opened.
+/// A run that asks one question, waits at a gate, and then asks the other; `None` if the gate didn't open.
 fn whole_by<H: Hold<Whole>, G: Gate>(
     alloc: Global,
     cache: &mut H,
@@ -69,8 +69,8 @@ fn whole_by<H: Hold<Whole>, G: Gate>(
     }
 }
 
-/// Whether of two runs that are open at once and ask the same questions in other orders one is stored, and the other is told that
-/// it is.
+/// Whether of two simultaneous runs that ask the same questions in different orders one is stored, and the other gets
+/// `AlreadyExists`.
 pub fn two_runs_that_ask_in_turned_order<R: Threads + Wait + Clock + Sync>(
     rt: &R,
     alloc: Global,

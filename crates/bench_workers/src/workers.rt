@@ -8,7 +8,7 @@ use std::alloc::{AllocError, Global};
 use std::sync::Wait;
 use std::thread::{Threads, join, map_indices};
 
-/// Whether a worker's calls were all right: it calls the double of each call's number modulo 16.
+/// Whether a worker's calls were all right: it doubles each call's number modulo 16.
 fn works<R: Wait>(rt: &R, alloc: Global, cache: &Cache<MemoOf<Double>>, calls: u32) -> bool {
     for call in 0..calls {
         let number = call % 16;
@@ -20,9 +20,7 @@ fn works<R: Wait>(rt: &R, alloc: Global, cache: &Cache<MemoOf<Double>>, calls: u
     true
 }
 
-/// Whether so many workers, each in a thread of its own, got right outputs of so many calls each through one cache.
-///
-/// The error says that there was no memory to begin them. This project's own.
+/// Whether workers, each in its own thread, got right outputs through one cache. Fails if starting them does.
 pub fn threads<R: Threads + Wait + Sync>(
     rt: &R,
     alloc: Global,
@@ -34,10 +32,7 @@ pub fn threads<R: Threads + Wait + Sync>(
     Ok(worked.iter().all(|right| *right))
 }
 
-/// Whether sixteen workers got right outputs of two thousand calls each through one cache, which another thread evicts by 1 a
-/// hundred times meanwhile.
-///
-/// The error says that there was no memory to begin the workers.
+/// Whether sixteen workers get right outputs while another thread evicts their cache. Fails if starting them does.
 pub fn workers_beside_evictions<R: Threads + Wait + Sync>(
     rt: &R,
     alloc: Global,

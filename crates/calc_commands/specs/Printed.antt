@@ -8,12 +8,12 @@ use Rattle.calc_lines.specs.Answers.{out_of_memory}
 use Rattle.calc_commands.specs.declared.answer.Answer.{Answer}
 use Rattle.calc_commands.specs.declared.answer.Answer.TheVariants as answer
 
--- what stands before a value: whether it was found in a cache
+-- the word before a value: whether it comes from a cache
 abbrev pub found : Bool → List ℕ
 found true = codes "hit "
 found false = codes "miss "
 
--- what stands for a number where a script has none
+-- the text for a script without a number
 abbrev pub fault_text : CalcFault → List ℕ
 fault_text NotANumber = codes "not a number"
 fault_text Overflow = codes "overflow"
@@ -32,6 +32,6 @@ printed (answer.Size hit bytes) = found hit ++ decimal bytes ++ 10 ∷ []
 printed answer.TooDeep = codes "too deep\n"
 printed answer.Memory = out_of_memory
 
--- what a line prints that asks for nothing
+-- what a line without a command prints
 abbrev pub bad_command : List ℕ
 bad_command = codes "bad command\n"

@@ -20,7 +20,7 @@ request_of (Eval script) = eval (string_bytes script)
 request_of (Size path) = size (string_bytes path)
 request_of (Evict max_age) = evict max_age
 
--- and what one asks for whose texts are borrowed
+-- what a command with borrowed texts asks for
 abbrev pub asked_by : CommandRef → Request
 asked_by (lent.Write path text) = write path.now text.now
 asked_by (lent.Eval script) = eval script.now
@@ -35,7 +35,7 @@ IsWord path = (0 < length path) × All (λ byte. byte ≢ 32) path
 abbrev pub IsWriteOf : List ℕ → List ℕ → List ℕ → Type 0
 IsWriteOf line path text = (line ≡ codes "write " ++ path ++ 32 ∷ text) ⊎ ((line ≡ codes "write " ++ path) × (text ≡ []))
 
--- the text is digits alone, at least one, which write n, and a `usize` holds it
+-- the text is at least one digit and nothing else, denotes n, and fits in a `usize`
 abbrev pub IsNumber : List ℕ → ℕ → Type 0
 IsNumber digits n = IsNumeral 10 digits × (digits_value 10 digits ≡ n) × (n < 2 ^ 64)
 

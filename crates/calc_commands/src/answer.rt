@@ -1,41 +1,40 @@
-//! What a command is answered, and how that is printed.
+//! The answer to a command, and how it is printed.
 ghost use Rattle.std.specs.Prelude.{◌≡◌, ◌≢◌, ◌++◌, ◌∷◌, [], IfOk, OnErr, string_bytes};
 ghost use Rattle.calc_commands.specs.Printed.{printed, found as found_text, value_text as text_of_value, fault_text as text_of_fault};
 
 use calc_scripts::CalcFault;
 use std::alloc::{AllocError, Global};
 
-/// What a session answers to a command. It holds no memory.
+/// A session's answer to a command.
 #[derive(Clone, Copy, Debug, PartialEq, Eq)]
 pub enum Answer {
     /// The text was written.
     Written,
-    /// What was kept is as old as was asked for.
+    /// The eviction was done.
     Evicted,
-    /// The script has this value, by a kept output (`hit`) or by a run; `kept` says that the run is in the cache
-    /// afterwards.
+    /// The script's value, from the cache (`hit`) or a run. `kept` says whether the run is in the cache afterwards.
     Value {
-        /// Whether the value is a kept output.
+        /// Whether the value comes from the cache.
         hit: bool,
-        /// Whether the run is in the cache afterwards; so it is after every hit. It is not printed.
+        /// Whether the run is in the cache afterwards, as after every hit. Not printed.
         kept: bool,
         /// The script's number, or why it has none.
         value: Result<i32, CalcFault>,
     },
-    /// The file has so many bytes, by a kept output (`hit`) or by a run.
+    /// The size of a file, from the cache (`hit`) or a run.
     Size {
-        /// Whether the size is a kept output.
+        /// Whether the size comes from the cache.
         hit: bool,
         /// The length of the file's text in bytes.
         bytes: u64,
     },
     /// The script goes deeper than the session's limit, or never ends.
     TooDeep,
-    /// There was no memory for the command, which changed no file.
+    /// Out of memory; no file has changed.
     Memory,
 }
 
-/// What stands before a value: whether it was found in a cache.
+/// The word before a value: whether it comes from the cache.
 fn found(hit: bool) -> &'static str
     ensures { result.now ≡ found_text hit }
 {
@@ -43,10 +42,7 @@ fn found(hit: bool) -> &'static str
 }
 
 impl Answer {
-    /// What the answer prints, with its line's end; nothing where it is `Written` or `Evicted`.
-    ///
-    /// An error says that there was no memory for the text, a line of at most 26 bytes; `Written` and `Evicted`, which
-    /// print nothing, take none.
+    /// The line that the answer prints, at most 26 bytes; empty for `Written` and `Evicted`, which do not allocate.
     pub fn text(&self, alloc: Global) -> Result<String, AllocError>
         ensures ok { IfOk result (λ text. string_bytes text ≡ printed self.now) }
         ensures err { OnErr result ((self.now ≢ Answer.Written) × (self.now ≢ Answer.Evicted)) }
@@ -64,7 +60,7 @@ impl Answer {
     }
 }
 
-/// What stands for a number where a script has none.
+/// The text for a script without a number.
 fn fault_text(fault: CalcFault) -> &'static str
     ensures { result.now ≡ text_of_fault fault }
 {
@@ -74,7 +70,7 @@ fn fault_text(fault: CalcFault) -> &'static str
     }
 }
 
-/// The bytes that the longest line of a value needs: `miss not a number` and its end.
+/// The bytes of the longest line of a value: `miss not a number` and a line feed.
 const VALUE_ROOM: usize = 18;
 
 /// The line of a script's value.

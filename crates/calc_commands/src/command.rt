@@ -1,36 +1,36 @@
-//! What a line asks for.
+//! The command of a line.
 ghost use Rattle.std.specs.Prelude.{◌≡◌, ℕ, IfOk, MatchOption};
 ghost use Rattle.calc_commands.specs.Requests.{IsNumber, IsLineOf, IsNoCommand, request_of, asked_by};
 
 use std::alloc::{AllocError, Global};
 
-/// A command to a session. It owns its texts: to clone it copies them.
+/// A command to a session, with its own texts. A clone copies them.
 #[derive(Clone, Drop, Debug, PartialEq, Eq)]
 pub enum Command {
     /// Writes a text to the file at a path: the path, then the text.
     Write(String, String),
-    /// Asks for the value of a script.
+    /// Asks for a script's value.
     Eval(String),
     /// Asks for the size of the file at a path.
     Size(String),
-    /// Drops what was kept of scripts and of sizes whose age is the bound or more; the rest grows one older.
+    /// Drops the cached values and sizes whose age is at least the bound; the others' ages grow by one.
     Evict(usize),
 }
 
-/// A command whose texts are borrowed, of a line or of a `Command`.
+/// A command whose texts are borrowed from a line or a `Command`.
 #[derive(Clone, Copy, Debug, PartialEq, Eq)]
 pub enum CommandRef<'a> {
     /// Writes a text to the file at a path: the path, then the text.
     Write(&'a str, &'a str),
-    /// Asks for the value of a script.
+    /// Asks for a script's value.
     Eval(&'a str),
     /// Asks for the size of the file at a path.
     Size(&'a str),
-    /// Drops what was kept of scripts and of sizes whose age is the bound or more; the rest grows one older.
+    /// Drops the cached values and sizes whose age is at least the bound; the others' ages grow by one.
     Evict(usize),
 }
 
-/// The number that digits alone write, where a `usize` holds it.
+/// Parses a number of digits only, if it fits in a `usize`.
 fn number_of(digits: &str) -> Option<usize>
     ensures { MatchOption result ((n : ℕ) → ¬ IsNumber digits.now n) (IsNumber digits.now) }
 {
@@ -41,12 +41,10 @@ fn number_of(digits: &str) -> Option<usize>
 }
 
 impl<'a> CommandRef<'a> {
-    /// The command that a line asks for, or `None` where it asks for nothing. The line comes without its end.
+    /// Parses a line, without its line end.
     ///
-    /// `write PATH TEXT` has as PATH all up to the next blank, at least one character, and as TEXT all after that
-    /// blank, which is empty where there is none. `eval SCRIPT` and `size PATH` have all after their first blank, which
-    /// may be nothing. `evict N` has digits alone after its blank, at least one, and any number of zeros before the
-    /// others; they write a number that a `usize` holds.
+    /// PATH of `write PATH TEXT` is not empty, and ends at the next blank; TEXT may be empty. `eval SCRIPT` and `size
+    /// PATH` take all after the first blank. N of `evict N` is digits only, and may have leading zeros.
     pub fn parse(line: &'a str) -> Option<Self>
         ensures { MatchOption result (IsNoCommand line.now)
             (λ command. IsLineOf line.now (asked_by command)) }
@@ -69,7 +67,7 @@ impl<'a> CommandRef<'a> {
         Some(CommandRef::Size(path))
     }
 
-    /// The command with texts of its own, which are copied. An error says that there was no memory for them.
+    /// The command with copies of its texts.
     pub fn to_owned(self, alloc: Global) -> Result<Command, AllocError>
         ensures { IfOk result (λ command. request_of command ≡ asked_by self.entry) }
     {
@@ -93,9 +91,7 @@ impl<'a> CommandRef<'a> {
 }
 
 impl Command {
-    /// The command that a line asks for, as `CommandRef::parse` finds it, with copies of its texts.
-    ///
-    /// An error says that there was no memory for them.
+    /// As `CommandRef::parse`, with copies of the texts.
     pub fn parse(alloc: Global, line: &str) -> Result<Option<Command>, AllocError>
         ensures { IfOk result (λ found. MatchOption found (IsNoCommand line.now)
             (λ command. IsLineOf line.now (request_of command))) }

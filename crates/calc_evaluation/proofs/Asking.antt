@@ -1,4 +1,4 @@
--- What a run of a script asks: what it has recorded is what the script asks for.
+-- What a run of a script reads: its recording is what the script reads.
 use Rattle.std.proofs.Common.{◌≡◌, ◌⊎◌, ◌∙◌, true, false, ℕ, ℤ, pos, List, [], ◌∷◌, Ok, Err, IsTrue, String, string_bytes, sym, ap, subst, inl, inr, rules}
 use Rattle.std.specs.Bool.{⊤}
 use Rattle.std.specs.Prelude.{bytes_eq}

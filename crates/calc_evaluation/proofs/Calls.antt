@@ -1,4 +1,4 @@
--- How calls of scripts lead from entries to entries: each reply does, and no entry is lost.
+-- How calls of scripts lead from entries to entries, without losing any.
 use Rattle.std.proofs.Common.{◌≡◌, true, false, ℕ, List, ℤ, refl, subst, inl, inr}
 use Rattle.std.specs.Bool.{⊤}
 use Rattle.comemo.specs.Begin.{PendingRun, IsRun}

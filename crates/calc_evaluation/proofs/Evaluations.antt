@@ -1,4 +1,4 @@
--- What a part of a script comes to where it calls another one, and what a run of a script learnt.
+-- The outcome of a part that calls another script, and what a run of a script learnt.
 use Rattle.std.proofs.Common.{◌≡◌, ◌≤◌, ◌&&◌, rules, true, false, IsTrue, ℕ, List, [], ◌++◌, Result, Ok, Err, IsErrAnd, ◌∙◌, ◌↔◌, ◌≢◌, String, string_bytes, bytes_eq, refl, sym, ap, subst, append-nil}
 use Rattle.std.specs.Bool.{⊤}
 use Rattle.std.specs.Global.{Global}

@@ -1,4 +1,4 @@
--- For a caller of `evaluate`: what is too deep by the texts of the files is so by what they answer.
+-- For callers of `evaluate`: a script too deep by the files' texts is too deep by their answers.
 use Rattle.std.proofs.Common.{ℕ, List}
 use Rattle.calc_scripts.specs.Meaning.{IsTooDeep}
 use Rattle.calc_scripts.proofs.Meanings.{means_map}

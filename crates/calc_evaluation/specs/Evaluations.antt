@@ -1,4 +1,4 @@
--- What a script comes to and what it asks for, by what its files answer.
+-- The outcome of a script and what it reads, by the answers of its files.
 use Rattle.std.specs.Prelude.{◌≡◌, ⊤, ℕ, List, ℤ, String, string_bytes, bytes_eq}
 use Rattle.std.specs.Global.{Global}
 use Rattle.comemo.specs.Cache.{Entries}
@@ -13,23 +13,23 @@ use Rattle.calc_files.specs.Joined.{joined}
 use Rattle.calc_files.specs.declared.files.FileCall.{FileCall}
 use Rattle.calc_files.specs.declared.files.FileCall.TheVariants.{Read}
 
--- the text at a path is what a key joined with files answers when that path is read
+-- the text at a path is the answer of a key joined with files when that path is read
 abbrev pub In : (JoinedCall → JoinedAnswer) → List ℕ → List ℕ → Type 0
 In m path text = (own : String Global) × (string_bytes own ≡ path) × (m (second_call (Read own)) ≡ second_answer text)
 
--- so it is where files answer this
+-- the same, for files with these answers
 abbrev pub At : (FileCall → List ℕ) → List ℕ → List ℕ → Type 0
 At m = In (with_key m)
 
--- the script comes to this, at these answers
+-- the script has this outcome, at these answers
 abbrev pub Comes : (JoinedCall → JoinedAnswer) → List ℕ → Outcome → Type 0
 Comes m script outcome = Means (In m) script outcome.value outcome.height
 
--- so it does where files answer this
+-- the same, for files with these answers
 abbrev pub ComesTo : (FileCall → List ℕ) → List ℕ → Outcome → Type 0
 ComesTo m = Comes (with_key m)
 
--- a part of a script comes to this
+-- a part of a script has this outcome
 abbrev pub PartComes : (JoinedCall → JoinedAnswer) → List ℕ → Outcome → Type 0
 PartComes m part outcome = PartMeans (In m) part outcome.value outcome.height
 
@@ -50,7 +50,7 @@ APartAsks part m c = OnRead (PartAsks (In m) part) c
 abbrev pub LeftAsk : List (List ℕ) → ℤ → (JoinedCall → JoinedAnswer) → JoinedCall → Type 0
 LeftAsk parts sum m c = OnRead (AsksIn (In m) parts sum) c
 
--- what a call at this key asks: the script's reads
+-- the calls at this key: the script's reads
 abbrev pub EvalAsks : List ℕ × ⊤ → (JoinedCall → JoinedAnswer) → JoinedCall → Type 0
 EvalAsks key = ScriptAsks key.0
 
@@ -58,13 +58,13 @@ EvalAsks key = ScriptAsks key.0
 abbrev pub CallsDeep : (FileCall → List ℕ) → List ℕ → ℕ → Type 0
 CallsDeep m part limit = (path text : List ℕ) × IsEval part path × At m path text × Deep (At m) text limit
 
--- what the memoized function means: there are no writes, and the script comes to the outcome
+-- the meaning of the memoized function: no writes, and the script's outcome
 abbrev pub IsOutcome : List ℕ × ⊤ → (JoinedCall → JoinedAnswer) → Outcome → List JoinedCall → Type 0
 IsOutcome = reading (λ key m outcome. Comes m key.0 outcome)
 
 abbrev pub evaluating : Meaning (List ℕ × ⊤) JoinedCall JoinedAnswer Outcome
 evaluating = record (joined bytes_eq IsOutcome) { naming = names EvalAsks }
 
--- what a cache of outcomes keeps
+-- the entries of a cache of outcomes
 abbrev pub Outcomes : Type 0
 Outcomes = Entries (List ℕ × ⊤) JoinedCall JoinedAnswer Outcome

@@ -1,4 +1,7 @@
 //! The memoized value of a script.
+//!
+//! Runs of scripts nest on the stack, at most `limit` of them, each of about 1,160 bytes: 8 MiB last for some 7,000,
+//! and a program that goes deeper ends there.
 ghost use Rattle.std.specs.Prelude.{◌≡◌, ◌≢◌, ⊤, ◌<◌, ◌≤◌, ◌↔◌, ℕ, List, IfOk, OnOk, OnErr, Err};
 ghost use Rattle.std.proofs.Common.{rules};
 ghost use Rattle.comemo.specs.Recording.{Took};
@@ -27,10 +30,10 @@ use comemo::{
 };
 use std::alloc::Global;
 
-/// What a script comes to: what the cache of `evaluate` is the cache of, as `CacheData<Eval>`.
+/// The memoized function of `evaluate`, whose cache is a `CacheData<Eval>`.
 ///
-/// Its key is the script's text, which is joined with the files and shares the bytes of the file where it is one's; its
-/// calls are reads of files.
+/// The key is the script's text, joined with the files, and shares the file's bytes if it is a file's; its calls are
+/// reads of files.
 pub struct Eval;
 
 impl Memo for Eval {
@@ -55,16 +58,16 @@ impl Memo for Eval {
     } };
 }
 
-/// Why a script was not evaluated. Each fault spoils the sink.
+/// Why a script was not evaluated. The sink is incomplete after each fault.
 #[derive(Clone, Copy, Debug, PartialEq, Eq)]
 pub enum EvalFault {
     /// The script goes deeper than the limit, or never ends.
     TooDeep,
-    /// There was no memory.
+    /// Out of memory.
     Memory,
 }
 
-/// Begins a script: finds what it comes to, or begins a run.
+/// Begins a script: returns its outcome on a hit, or a run.
 fn begin_script<S: Sink<Call = JoinedCall, Answer = JoinedAnswer>>(
     alloc: Global,
     cache: &mut CacheData<Eval>,
@@ -94,7 +97,7 @@ fn begin_script<S: Sink<Call = JoinedCall, Answer = JoinedAnswer>>(
         return Err(EvalFault::Memory);
     };
     let mut input = Multi((Hashed(key), files.fork(alloc)));
-    // One match and no test before it, which would move a `Pending` once more, also where none was begun.
+    // One match and no test before it: a test would move the `Pending` once more, even if there is none.
     match begin(alloc, cache, &mut input, sink, true) {
         Ok(Begun::Hit(outcome)) => {
             if outcome.height > limit {
@@ -108,8 +111,8 @@ fn begin_script<S: Sink<Call = JoinedCall, Answer = JoinedAnswer>>(
     }
 }
 
-/// What the script comes to that was begun so: `evaluate` for any sink, and for the recording of a run around it. It is
-/// written once as a macro, since a function can't call itself for another sink.
+/// The outcome of a script that was begun: `evaluate` for any sink, and for the recording of an outer run. A macro
+/// avoids writing it twice, since a function can't call itself with another sink type.
 macro_rules! evaluate_script {
     ($alloc:ident, $cache:ident, $files:ident, $script:ident, $limit:ident, $sink:ident) => {
         match begin_script($alloc, $cache, $files, $script, $limit, $sink) {
@@ -134,7 +137,7 @@ macro_rules! evaluate_script {
     };
 }
 
-/// What one part of a script comes to, with the scripts that it calls under a limit.
+/// The outcome of one part of a script. The scripts that it calls have a limit.
 #[cycle(evaluating)]
 fn evaluate_part(
     alloc: Global,
@@ -180,7 +183,7 @@ fn evaluate_part(
     }
 }
 
-/// What a script comes to, with what it reads recorded.
+/// Runs a script, and records what it reads.
 #[cycle(evaluating)]
 fn run_script(
     alloc: Global,
@@ -219,7 +222,7 @@ fn run_script(
     Ok(total.outcome(Ok(())))
 }
 
-/// What a script comes to that a run around it called: `evaluate`, with what was read told to that run's recording.
+/// `evaluate` for a script that an outer run calls, whose reads go to that run's recording.
 #[cycle(evaluating)]
 fn evaluate_within(
     alloc: Global,
@@ -243,7 +246,7 @@ fn evaluate_within(
     evaluate_script!(alloc, cache, files, script, limit, recording)
 }
 
-/// What the script of a text comes to, as `evaluate` says of a script.
+/// `evaluate` for a text.
 fn evaluate_text<S: Sink<Call = JoinedCall, Answer = JoinedAnswer>>(
     alloc: Global,
     cache: &mut CacheData<Eval>,
@@ -268,18 +271,10 @@ fn evaluate_text<S: Sink<Call = JoinedCall, Answer = JoinedAnswer>>(
     evaluate_script!(alloc, cache, files, script, limit, sink)
 }
 
-/// What a script comes to, kept under the script and what was read of the files.
+/// The outcome of a script, memoized under the script and what it read of the files.
 ///
-/// Each script that a run calls is a call too, in the same cache and in the turn of its part: a hit there, or a run,
-/// which is kept. `TooDeep` comes exactly where the script is higher than the limit or never ends, on a hit as on a
-/// run; `Memory` says that there was no memory. Both spoil the sink; what was kept on the way stays.
-///
-/// Each call, a nested one and a hit too, finds the script by one hash look-up, and follows one stored path: it finds
-/// the text of each file on it in an ordered map of the texts that are kept at its place. It copies the script
-/// for the look-up, and the path of each file that a run reads; the texts of files are shared, as keys too. Runs nest on
-/// the stack, at most `limit` of them, some 1,160 bytes for each: 8 MiB last for some 7,000, and a program that goes
-/// deeper ends there. comemo's example `calc` has `evaluate`
-/// with neither a limit nor faults.
+/// Each script that a run calls is memoized too. `TooDeep` means that the script is higher than the limit or never
+/// ends, on a hit as on a run. What was cached on the way stays after a fault.
 pub fn evaluate<S: Sink<Call = JoinedCall, Answer = JoinedAnswer>>(
     alloc: Global,
     cache: &mut CacheData<Eval>,

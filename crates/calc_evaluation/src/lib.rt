@@ -1,4 +1,4 @@
-//! The memoized value of a script of the program `calc`, where each script that a script calls is a call too.
+//! The memoized value of a script of the program `calc`. Each script that a script calls is memoized too.
 //!
 //! ```rust
 //! use calc_evaluation::evaluate;

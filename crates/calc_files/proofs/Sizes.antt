@@ -1,4 +1,4 @@
--- The size that a run finds stands for all answers that agree with its recording.
+-- The size that a run finds is right for all answers that agree with its recording.
 use Rattle.std.proofs.Common.{◌≡◌, ◌∙◌, ℕ, true, false, List, [], ◌∷◌, Result, Ok, Err, IfOk, OnErr, refl, subst, inr, String, string_bytes, length, sym, ap}
 use Rattle.std.specs.Prelude.{bytes_eq}
 use Rattle.std.specs.Bool.{⊤}

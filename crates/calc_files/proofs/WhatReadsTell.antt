@@ -1,4 +1,4 @@
--- What a read of the files tells a recording, and what a sink was told that was broken off.
+-- What a recording states about a read of the files, and what an interrupted sink got.
 use Rattle.std.proofs.Common.{◌≡◌, Bool, true, false, IsTrue, List, [], ◌∷◌, Result, Ok, Err, OnErr, ◌∙◌, ℕ, String, refl, sym, subst, append-nil}
 use Rattle.std.specs.Prelude.{bytes_eq}
 use Rattle.std.specs.Global.{Global}

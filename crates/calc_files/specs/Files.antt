@@ -1,4 +1,4 @@
--- Files in memory, and what they answer.
+-- Files in memory, and their answers.
 use Rattle.std.specs.Prelude.{◌≡◌, ⊤, ℕ, List, string_bytes, unwrap_or}
 use Rattle.std.specs.HashMap.{get_by_text}
 use Rattle.comemo.specs.Function.{OnPart}
@@ -17,11 +17,11 @@ Texts = List ℕ → List ℕ
 abbrev pub text_at : Files → Texts
 text_at files path = unwrap_or (get_by_text files.texts path) files.missing
 
--- this text stands at this path
+-- this text is at this path
 abbrev pub Reads : Texts → List ℕ → List ℕ → Type 0
 Reads texts path text = texts path ≡ text
 
--- what files answer to a call
+-- the files' answer to a call
 abbrev pub answers_of : Files → FileCall → List ℕ
 answers_of files (Read path) = text_at files (string_bytes path)
 
@@ -32,10 +32,10 @@ JoinedCall = MultiCall ⊤ FileCall
 abbrev pub JoinedAnswer : Type 0
 JoinedAnswer = MultiAnswer ⊤ (List ℕ)
 
--- what a key joined with files answers, where the files answer m: the key's own call is answered by nothing
+-- the answers of a key joined with files that answer m: nothing, for the key's own call
 abbrev pub with_key : (FileCall → List ℕ) → JoinedCall → JoinedAnswer
 with_key m = part_answers (λ _. tt) m
 
--- what holds of the files' answers, whichever they are, where a key joined with files answers m
+-- a property of the files' answers, where a key joined with files answers m
 abbrev pub OnFiles : ((FileCall → List ℕ) → Type 0) → (JoinedCall → JoinedAnswer) → Type 0
 OnFiles P m = OnPart second_call second_answer m P

@@ -13,18 +13,18 @@ use Rattle.calc_files.specs.Joined.{joined, with_files}
 use Rattle.calc_files.specs.declared.files.FileCall.{FileCall}
 use Rattle.calc_files.specs.declared.files.FileCall.TheVariants.{Read}
 
--- the length in bytes of what is answered for the path
+-- the length in bytes of the answer for the path
 abbrev pub IsSize : String Global → (FileCall → List ℕ) → ℕ → Type 0
 IsSize path m out = out ≡ length (m (Read path))
 
--- what the memoized function means: there are no writes, and the output is that length, at the files' answers alone
+-- the meaning of the memoized function: no writes, and that length, at the files' answers only
 abbrev pub IsSizeOf : String Global × ⊤ → (JoinedCall → JoinedAnswer) → ℕ → List JoinedCall → Type 0
 IsSizeOf = reading (λ key answers out. OnFiles (λ m. IsSize key.0 m out) answers)
 
 abbrev pub sizing : Meaning (String Global × ⊤) JoinedCall JoinedAnswer ℕ
 sizing = joined string_eq IsSizeOf
 
--- what a cache of sizes keeps
+-- the entries of a cache of sizes
 abbrev pub Sizes : Type 0
 Sizes = Entries (String Global × ⊤) JoinedCall JoinedAnswer ℕ
 

@@ -1,4 +1,4 @@
--- That equal paths have the same size, which the trait asks. It says nothing that a reader must believe.
+-- Equal paths have the same size, as the trait demands. A reader needn't trust this.
 use Rattle.std.proofs.Common.{◌≡◌, ◌∙◌, IsTrue, ℕ, String, length, ap, rules}
 use Rattle.std.specs.Prelude.{bytes_eq, string_eq}
 use Rattle.std.specs.Bool.{⊤}

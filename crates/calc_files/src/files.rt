@@ -13,14 +13,14 @@ use std::alloc::{AllocError, Global};
 use std::collections::HashMap;
 use std::hash::Hash;
 
-/// A call to the files. Each is a read, and to clone it copies its path.
+/// A call to the files. All are reads. A clone copies the path.
 #[derive(Clone, Drop, Debug, PartialEq, Eq, Hash)]
 pub enum FileCall {
     /// The text of the file at a path.
     Read(String),
 }
 
-/// A call of a key joined with the files: one of the files, since the key isn't tracked.
+/// A call to a key joined with the files: one to the files, since the key isn't tracked.
 pub type JoinedCall = MultiCall<(), FileCall>;
 
 /// An answer of a key joined with the files: a text.
@@ -46,8 +46,7 @@ impl Call for FileCall {
 
 /// Files in memory: a text for each path. A file that was never written is empty.
 ///
-/// As a tracked value it answers each read with a clone of the text, which shares its bytes. Paths are told apart by
-/// their bytes alone. comemo's example `calc` has `Files`, whose paths are `PathBuf`s.
+/// The answer to a read is a clone of the text, which shares its bytes. Paths are told apart by their bytes.
 #[derive(Drop)]
 pub struct Files {
     texts: HashMap<String, Text>,
@@ -58,7 +57,7 @@ pub struct Files {
 impl Files {
     ghost use Rattle.calc_files.specs.Files.{text_at, answers_of};
 
-    /// No files. It takes no memory.
+    /// No files. Does not allocate.
     pub fn new(alloc: Global) -> Self
         ensures { (path : List ℕ) → text_at result path ≡ [] }
     {
@@ -78,11 +77,9 @@ impl Files {
         }
     }
 
-    /// Writes a text to the file at a path, in the place of any text before it.
+    /// Replaces the text of the file at a path. The text is shared from now on.
     ///
-    /// From here on the text is shared. An error says that there was no memory; then the files are as they were, and the
-    /// path and the text are gone. It copies neither; beside the time to hash the path it takes constant expected time,
-    /// over many writes. `write` of `Files` in comemo's example `calc`.
+    /// On error the files are unchanged; the path and the text are dropped.
     pub fn write(&mut self, path: String, text: String) -> Result<(), AllocError>
         ensures ok { OnOk result ((q : List ℕ) → text_at self.new q
             ≡ (if bytes_eq q (string_bytes path) then string_bytes text else text_at self.old q)) }
@@ -94,10 +91,9 @@ impl Files {
         }
     }
 
-    /// The text of the file at a path, asked of a view, into a recording of a key joined with the files.
+    /// Reads the file at a path through a view, and records the read in a sink for a key joined with the files.
     ///
-    /// It copies the path, and shares the text with the caller and with the sink. An error says that there was no memory
-    /// for the path or in the sink; then the sink is as it was. `read` of `Files` in comemo's example `calc`.
+    /// Fails if copying the path or the sink does; the sink is then unchanged.
     pub fn read<S: Sink<Call = JoinedCall, Answer = JoinedAnswer>>(
         alloc: Global,
         view: &Tracked<'_, Files>,

@@ -15,9 +15,9 @@ use comemo::{
 };
 use std::alloc::Global;
 
-/// How many bytes the file at a path has: what the cache of `size` is the cache of, as `CacheData<FileSize>`.
+/// The memoized function of `size`, whose cache is a `CacheData<FileSize>`.
 ///
-/// Its key is a path, which is joined with the files; a run's one call is the read of that path.
+/// The key is a path, joined with the files; a run has one call, the read of that path.
 pub struct FileSize;
 
 impl Memo for FileSize {
@@ -42,12 +42,9 @@ impl Memo for FileSize {
     } };
 }
 
-/// How many bytes the file at a path has, kept under the path and what was read.
+/// The memoized size of the file at a path, in bytes, as the file is now.
 ///
-/// The size is that of the present text, on a hit as on a miss. `Memory` says that there was no memory for the answer:
-/// then the cache is as it was, and the sink is spoiled. A call, a hit too, finds the path by one hash look-up, and the
-/// text in an ordered map of those kept under the path; it takes memory for some copies of the path. A run that is
-/// stored keeps the text, which it shares, and the path where none was kept under it.
+/// On error the cache is unchanged, and the sink is incomplete. A stored run keeps the file's text, which it shares.
 pub fn size<S: Sink<Call = JoinedCall, Answer = JoinedAnswer>>(
     alloc: Global,
     cache: &mut CacheData<FileSize>,
@@ -69,7 +66,7 @@ pub fn size<S: Sink<Call = JoinedCall, Answer = JoinedAnswer>>(
         return Err(Fault::Memory);
     };
     let mut input = Multi((Hashed(key), files.fork(alloc)));
-    // One match and no `?` before it, which would move a `Pending` once more, also where none was begun.
+    // One match and no `?` before it: either would move the `Pending` once more, even if there is none.
     match begin(alloc, cache, &mut input, sink, true) {
         Ok(Begun::Hit(output)) => Ok(Reply {
             output,

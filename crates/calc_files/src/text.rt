@@ -1,4 +1,4 @@
-//! A text that is shared, not copied.
+//! A text whose clones share its bytes.
 ghost use Rattle.std.specs.Prelude.{◌≡◌, [], length, bytes_eq, string_bytes, IfOk, refl, Some};
 ghost use Rattle.std.specs.Hash as fed;
 ghost use Rattle.std.specs.Cmp.Lexicographic.{nat_list_eq_equiv, bytes_decides};
@@ -14,18 +14,17 @@ use std::hash::{FoldHasher, Hash, Hasher};
 use std::marker::Model;
 use std::sync::ArcStr;
 
-/// A text whose clones share its bytes. A contract sees the bytes, and by them texts are told apart.
+/// A text whose clones share its bytes. Contracts see the bytes, by which texts are told apart.
 ///
-/// Its number is kept beside them: it is what a text feeds a hasher, and texts are ordered by their numbers first, and
-/// only those of one number by their bytes. So a search among many texts reads the bytes of few, which lie elsewhere.
+/// It also holds a hash of the bytes, which it feeds to hashers. Texts are ordered by hash first, then by bytes. So a
+/// search among many texts reads the bytes of few.
 ///
-/// A clone copies no byte and takes no memory, and is refused only where the count of clones is full. The bytes are let
-/// go with the last of them.
+/// Cloning does not allocate; it fails only if the count of clones is full.
 #[derive(Drop)]
 pub struct Text {
-    // The bytes, where there are any: the empty text may go without.
+    // The bytes. The empty text may have none.
     shared: Option<ArcStr>,
-    // The number of the bytes.
+    // The hash of the bytes.
     number: u64,
 }
 
@@ -43,7 +42,7 @@ impl Model for Text {
     ghost invariant = { λ t. t.number ≡ digest (unwrap_or (option_map arc_str_bytes t.shared) []) };
 }
 
-/// The number of a text: what std's map makes of its bytes.
+/// The hash of a text: that of std's map.
 fn number_of(text: &str) -> u64
     ensures { result ≡ digest text.now }
 {
@@ -53,7 +52,7 @@ fn number_of(text: &str) -> u64
 }
 
 impl Text {
-    /// The empty text. It takes no memory.
+    /// The empty text. Does not allocate.
     pub fn empty() -> Self
         ensures { result ≡ [] }
     {
@@ -63,9 +62,7 @@ impl Text {
         }
     }
 
-    /// A copy of a text, to be shared.
-    ///
-    /// An error says that there was no memory for it.
+    /// A shared text, copied from a `str`.
     pub fn from_str(alloc: Global, text: &str) -> Result<Self, AllocError>
         ensures { IfOk result (λ shared. shared ≡ text.now) }
     {
@@ -73,10 +70,7 @@ impl Text {
         Text::new(own)
     }
 
-    /// The text of a `String`, to be shared.
-    ///
-    /// It copies nothing, and takes memory for the count of its clones alone. An error says that there was none; then
-    /// the text is gone.
+    /// A shared text made of a `String`, whose bytes aren't copied. On error the string is dropped.
     pub fn new(text: String) -> Result<Self, AllocError>
         ensures { IfOk result (λ shared. shared ≡ string_bytes text) }
     {
@@ -98,7 +92,7 @@ impl Text {
         }
     }
 
-    /// How many bytes it has.
+    /// The length in bytes.
     pub fn len(&self) -> usize
         ensures { result ≡ length self.now }
     {

@@ -1,4 +1,4 @@
--- The first line of an input ends at the first line feed, and lines are taken one after the other.
+-- The first line of an input ends at the first line feed; lines are taken one by one.
 use Rattle.std.proofs.Common.{Bool, Option, None, Some, IfSome, slice_index, slice_index_or, ◌≡◌, ◌≢◌, ℕ, ◌-◌, ◌<◌, List, [], ◌∷◌, ◌++◌, ◌⊎◌, inl, inr, true, false, eqb, cond, length, take, subst, sym, ap, refl, ◌∙◌, append-nil, arith, length-append}
 use Rattle.std.proofs.lemmas.Bool.Decides.{eqb_tells, nat_tests}
 use Rattle.std.proofs.lemmas.List.Elements.{All-nil, All-cons}

@@ -1,4 +1,4 @@
--- What a session answers, seen through a function of its states.
+-- A session's answers, seen through a function of its states.
 use Rattle.std.proofs.Common.{ℕ, List, Option, Result, Ok, Err}
 use Rattle.calc_lines.specs.Answers.{Answered, no_line, empty_line, answered, refused}
 use Rattle.calc_lines.specs.Runs.{AnswersFront, Ran}

@@ -1,7 +1,7 @@
--- What a session answers to lines.
+-- A session's answers to lines.
 use Rattle.std.specs.Prelude.{ℕ, ◌<◌, List, [], ◌∷◌, ◌++◌, length, IsUtf8, codes}
 
--- what a line prints for which the session found no memory
+-- what a line prints when the session is out of memory
 abbrev pub out_of_memory : List ℕ
 out_of_memory = codes "out of memory\n"
 

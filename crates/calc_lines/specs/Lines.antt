@@ -15,17 +15,17 @@ pub data FirstLines : List ℕ → List (List ℕ) → List ℕ → Type 0 where
   last_line : (line : List ℕ) → 0 < length line → HasNoLineFeed line → FirstLines line (line ∷ []) []
   one_line : (line rest : List ℕ) {lines : List (List ℕ)} {left : List ℕ} → HasNoLineFeed line → FirstLines rest lines left → FirstLines (line ++ 10 ∷ rest) (strip_last 13 line ∷ lines) left
 
--- these lines were taken of an input, where its bytes are known
+-- these lines were taken from an input, if its bytes are known
 abbrev pub TakesLines : Option (List ℕ) → List (List ℕ) → Option (List ℕ) → Type 0
 TakesLines None lines left = Unit {0}
 TakesLines (Some bytes) lines None = ⊥
 TakesLines (Some bytes) lines (Some left) = FirstLines bytes lines left
 
--- of an input, where its bytes are known, no more was taken than the beginning of a line
+-- at most a prefix of a line was taken from an input, if its bytes are known
 abbrev pub BeginsLine : Option (List ℕ) → Option (List ℕ) → Type 0
 BeginsLine input left = (begun : List ℕ) × HasNoLineFeed begun × Consumes input left begun
 
--- an input, where its bytes are known, is at its end
+-- an input is at its end, if its bytes are known
 abbrev pub MeetsEnd : Option (List ℕ) → Option (List ℕ) → Type 0
 MeetsEnd input left = IfSome input (λ bytes. (bytes ≡ []) × (left ≡ Some []))
 

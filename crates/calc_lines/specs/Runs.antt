@@ -1,4 +1,4 @@
--- What a run read and wrote, and where it left the session, by how it ended.
+-- What a run read and wrote, and the state of the session afterwards, for each way in which it ended.
 use Rattle.std.specs.Prelude.{ℕ, List, [], ◌∷◌, Option, Result, Ok, Err, IsUtf8}
 use Rattle.std.specs.Io.KnownBytes.{Appends}
 use Rattle.calc_lines.specs.Lines.{TakesLines, BeginsLine, MeetsEnd}
@@ -7,7 +7,7 @@ use Rattle.calc_lines.specs.Written.{WritesBeginning}
 use Rattle.calc_lines.specs.declared.fault.RunFault.{RunFault}
 use Rattle.calc_lines.specs.declared.fault.RunFault.TheVariants.{Read, Write, Memory, NotText}
 
--- the lines that were taken of the input, up to this rest, led the session from s to t, and what they print was written
+-- the lines taken from the input, up to this rest, led the session from s to t, and what they print was written
 abbrev pub AnswersFront : {S : Type 0} → (S → List ℕ → List ℕ → S → Type 0) → (S → List ℕ → S → Type 0)
     → Option (List ℕ) → Option (List ℕ) → Option (List ℕ) → Option (List ℕ) → S → S → Type 0
 AnswersFront answers refuses input rest before after s t =
@@ -20,7 +20,7 @@ abbrev pub AnswersAll : {S : Type 0} → (S → List ℕ → List ℕ → S → 
 AnswersAll answers refuses input left before after s t =
     (rest : Option (List ℕ)) × AnswersFront answers refuses input rest before after s t × MeetsEnd rest left
 
--- all lines that were read were answered; then a read failed, with no more than the beginning of a line
+-- all lines that were read were answered; then a read failed, with at most a prefix of a line
 abbrev pub StopsInRead : {S : Type 0} → (S → List ℕ → List ℕ → S → Type 0) → (S → List ℕ → S → Type 0)
     → Option (List ℕ) → Option (List ℕ) → Option (List ℕ) → Option (List ℕ) → S → S → Type 0
 StopsInRead answers refuses input left before after s t =
@@ -33,14 +33,14 @@ StopsAtNoText answers refuses input left before after s t =
     (rest : Option (List ℕ)) × (last : List ℕ) × AnswersFront answers refuses input rest before after s t
     × TakesLines rest (last ∷ []) left × (IsUtf8 last → ⊥)
 
--- all lines that were read were answered, and of what the last one prints a beginning was written, but not all
+-- all lines that were read were answered, and a proper prefix of what the last one prints was written
 abbrev pub StopsInText : {S : Type 0} → (S → List ℕ → List ℕ → S → Type 0) → (S → List ℕ → S → Type 0)
     → Option (List ℕ) → Option (List ℕ) → Option (List ℕ) → Option (List ℕ) → S → S → Type 0
 StopsInText {S} answers refuses input left before after s t =
     (rest written : Option (List ℕ)) × (m : S) × (last text : List ℕ) × AnswersFront answers refuses input rest before written s m
     × TakesLines rest (last ∷ []) left × Answered answers refuses m (last ∷ []) text t × WritesBeginning written after text
 
--- what stands after a run that ended so: what is left of the input, what was written, and the session
+-- the state after a run that ended so: the rest of the input, what was written, and the session
 abbrev pub Ran : {S : Type 0} → (S → List ℕ → List ℕ → S → Type 0) → (S → List ℕ → S → Type 0)
     → Option (List ℕ) → Option (List ℕ) → Option (List ℕ) → Option (List ℕ) → S → S → Result (Unit {0}) RunFault → Type 0
 Ran answers refuses input left before after s t (Ok _) = AnswersAll answers refuses input left before after s t

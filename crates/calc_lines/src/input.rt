@@ -6,7 +6,7 @@ ghost use Rattle.calc_lines.specs.Lines.{without_line_end, TakesLines, BeginsLin
 use crate::RunFault;
 use std::io::{BufRead, ErrorKind};
 
-/// Why a line could not be read.
+/// The fault of a line that could not be read.
 fn fault_of(kind: ErrorKind) -> RunFault
     ensures memory { kind ≡ ErrorKind.OutOfMemory → result ≡ RunFault.Memory }
     ensures device { kind ≢ ErrorKind.OutOfMemory → result ≡ RunFault.Read }
@@ -17,14 +17,14 @@ fn fault_of(kind: ErrorKind) -> RunFault
     }
 }
 
-/// Whether the line has its line feed.
+/// Whether the line ends with a line feed.
 fn is_ended(line: &[u8]) -> bool
     ensures { result ≡ ends_with_byte 10 line.now }
 {
     line.last() == Some(&b'\n')
 }
 
-/// Takes the line feed at the end away, and then the carriage return before it.
+/// Removes the line feed at the end, and then a carriage return before it.
 fn drop_line_end(line: &mut Vec<u8>)
     ensures { line.new.items ≡ without_line_end line.old.items }
 {
@@ -36,9 +36,7 @@ fn drop_line_end(line: &mut Vec<u8>)
     }
 }
 
-/// Reads the next line without its end into the room of an earlier one, or says that the input has ended.
-///
-/// Refuses with `Read` or `Memory`; then what was read of the line is lost, and its line feed is not read yet.
+/// Reads the next line, without its end, into the buffer of an earlier one; false at the end of the input.
 pub(crate) fn next_line<R: BufRead>(reader: &mut R, line: &mut Vec<u8>) -> Result<bool, RunFault>
     ensures line { IfOk result (λ more. IsTrue more → TakesLines (R.remaining reader.old)
         (line.new.items ∷ []) (R.remaining reader.new)) }
@@ -51,7 +49,7 @@ pub(crate) fn next_line<R: BufRead>(reader: &mut R, line: &mut Vec<u8>) -> Resul
     match reader.read_until(b'\n', line) {
         Ok(0) => Ok(false),
         Err(error) if !is_ended(line.as_slice()) => Err(fault_of(error.kind())),
-        // A line that came whole counts, also from a read that failed: the next read shows what is wrong.
+        // A whole line counts even if the read failed: the next read shows the failure.
         _ => {
             drop_line_end(line);
             Ok(true)

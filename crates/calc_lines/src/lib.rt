@@ -1,5 +1,11 @@
-//! The loop of a program that answers lines: it reads a line, asks the session, writes what the session prints, and
-//! says how it ended. Proved once, for every session, reader and writer.
+//! The loop of a program that answers lines: it reads a line, asks the session, writes the answer, and returns how it
+//! ended. Proved once, for every session, reader and writer.
+//!
+//! A line ends at a line feed, and doesn't include a carriage return right before it. Text after the last line feed is
+//! a line too, with any carriage return in it. Nothing here flushes.
+//!
+//! If a reader's `remaining` is `None` the contracts don't say which lines were read; if a writer's `contents` is
+//! `None`, not what was written.
 //!
 //! `Echo` answers each line with itself:
 //!

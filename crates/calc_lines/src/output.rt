@@ -7,9 +7,7 @@ ghost use Rattle.calc_lines.specs.Started.{WritesFront};
 use crate::RunFault;
 use std::io::{ErrorKind, Write};
 
-/// Writes some of the bytes, and says how many. A write that a signal broke off is made again.
-///
-/// Refuses with `Write` where the device failed or took no byte; then none was written.
+/// Writes some of the bytes, and returns how many. Retries when a signal interrupts. On error nothing is written.
 fn write_some<W: Write>(writer: &mut W, bytes: &[u8]) -> Result<usize, RunFault>
     ensures bound { IfOk result (λ count. (0 < count) × (count ≤ length bytes.now)) }
     ensures bytes { WriteAppends (W.contents writer.old) (W.contents writer.new) result bytes.now }
@@ -29,9 +27,7 @@ fn write_some<W: Write>(writer: &mut W, bytes: &[u8]) -> Result<usize, RunFault>
     Err(RunFault::Write)
 }
 
-/// Writes all the bytes.
-///
-/// Refuses with `Write` where the device failed or took no byte; then a beginning was written, and not all.
+/// Writes all the bytes. On error a proper prefix is written.
 pub(crate) fn put<W: Write>(writer: &mut W, bytes: &[u8]) -> Result<(), RunFault>
     ensures written { MatchResult result
         (λ _. Appends (W.contents writer.old) (W.contents writer.new) bytes.now)
@@ -46,10 +42,7 @@ pub(crate) fn put<W: Write>(writer: &mut W, bytes: &[u8]) -> Result<(), RunFault
     Ok(())
 }
 
-/// Writes a message in three parts, without memory for their joined text.
-///
-/// Refuses with `Write` where the device failed or took no byte; then a beginning was written. It costs what the
-/// writer's `write` costs, which is called until all is taken. This project's own.
+/// Writes a message in three parts, without allocating. On error a prefix is written.
 pub fn put_message<W: Write>(
     writer: &mut W,
     front: &str,

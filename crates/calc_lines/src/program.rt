@@ -6,7 +6,7 @@ use crate::{RunFault, Session, put_message, run};
 use std::alloc::Global;
 use std::io::{BufRead, Write};
 
-/// What the message of a fault says after the program's name.
+/// The text of a fault's message, after the program's name.
 fn message_end(fault: RunFault) -> &'static str
     ensures { result.now ≡ fault_text fault }
 {
@@ -18,13 +18,10 @@ fn message_end(fault: RunFault) -> &'static str
     }
 }
 
-/// All of a line program but its streams: runs the session on the reader's lines, and gives the program's status.
+/// A whole line program without its streams: runs the session on the reader's lines, and returns the exit status.
 ///
-/// The program takes no words: with any it writes `usage: NAME` on `errors`, reads and asks nothing, and the status
-/// is 2. Else the status is 0 where the run answered all lines, and 1 where it ended by a fault, which is written on
-/// `errors` as `NAME: cannot read`, `NAME: cannot write`, `NAME: out of memory` or `NAME: not UTF-8`. A failure of
-/// `errors` changes nothing but what is written there. What stands after a fault, and what it costs, is that of
-/// `run`; the messages take no memory.
+/// With any arguments it only writes its usage to `errors`; the status is 2. Otherwise it is 0, or 1 after a fault, which
+/// is written to `errors`.
 pub fn start<R: BufRead, W: Write, E: Write, S: Session>(
     alloc: Global,
     name: &str,

@@ -1,4 +1,4 @@
--- Laws of what scripts ask for.
+-- Laws of what scripts read.
 use Rattle.std.proofs.Common.{◌≡◌, ◌⊎◌, ℕ, List, [], ◌∷◌, ℤ, ◌+ℤ◌, Ok, Err, sym, subst, inl, inr}
 use Rattle.calc_scripts.specs.declared.outcome.CalcFault.{CalcFault}
 use Rattle.calc_scripts.specs.Meaning.{Value, Fits, Means, means, PartMeans, is_number, is_bad, is_eval, Takes, ends, adds, overflows, fails}

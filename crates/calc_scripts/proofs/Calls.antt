@@ -1,4 +1,4 @@
--- How the calls of a script add up while a loop takes its parts from the left.
+-- How the calls of a script add up in a loop over its parts.
 use Rattle.std.proofs.Common.{◌≡◌, ℕ, max, List, [], ◌∷◌, ℤ, pos, ◌+ℤ◌, Ok, Err, refl, sym, subst}
 use Rattle.calc_scripts.specs.Parts.{parts}
 use Rattle.calc_scripts.specs.Meaning.{Value, Fits, PartMeans, Takes, ends, adds, overflows, fails}

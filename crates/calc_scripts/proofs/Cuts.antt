@@ -1,4 +1,4 @@
--- How a script falls into its first part and the others.
+-- How a script is cut into its first part and the others.
 use Rattle.std.proofs.Common.{◌≡◌, ℕ, ◌<◌, List, [], ◌∷◌, map, ap, sym, subst, ◌∙◌, lit<, Some, None, Bor}
 use Rattle.std.proofs.Math.Dec.{eqb}
 use Rattle.std.specs.Str.{trim}

@@ -1,4 +1,4 @@
--- Laws of what scripts mean, over every knowledge of which text stands at each path.
+-- Laws of what scripts mean, for every map from paths to texts.
 use Rattle.std.proofs.Common.{arith, ◌≡◌, ℕ, zero, suc, ◌≤◌, ◌<◌, max, List, ◌∷◌, ℤ, ◌+ℤ◌, Ok, Err, refl, sym, ap, subst, ◌∙◌, inl, inr}
 use Rattle.std.specs.Prelude.{codes}
 use Rattle.std.proofs.lemmas.Bool.{cases_lt}

@@ -1,4 +1,4 @@
--- How the parts of a script are taken one after the other: what one part adds, and what all come to.
+-- How the parts of a script are added one by one, and their total.
 use Rattle.std.proofs.Common.{◌≡◌, ℕ, suc, ◌+◌, ◌-◌, ◌<◌, arith, add-one, max, List, [], ◌∷◌, ℤ, pos, Ok, Err, w32, FitsSigned, to_z, of_z, sym, subst, ◌∙◌}
 use Rattle.std.proofs.lemmas.Int.{to_z-of_z}
 use Rattle.calc_scripts.specs.Parts.{parts, IsEval, IsNumber}

@@ -1,10 +1,10 @@
--- How calls of scripts move a state, such as what a cache keeps, each in the turn in which the parts of a script are taken.
+-- How calls of scripts move a state, such as a cache's entries, in the order of the script's parts.
 use Rattle.std.specs.Prelude.{ℕ, List, [], ◌∷◌, ℤ, pos, ◌+ℤ◌, Ok, Err}
 use Rattle.calc_scripts.specs.Parts.{parts, IsEval, IsNoEval}
 use Rattle.calc_scripts.specs.Meaning.{Fits, PartMeans}
 use Rattle.calc_scripts.specs.declared.outcome.CalcFault.{CalcFault}
 
--- what a call of a script does by itself, the calls that its run makes aside
+-- what a call of a script does by itself, apart from the calls of its run
 pub record Moves (S : Type 0) : Type 1 where
   -- a call of the script was a hit, and led from the first state to the second
   pub hit : List ℕ → S → S → Type 0
@@ -15,7 +15,7 @@ pub record Moves (S : Type 0) : Type 1 where
   -- a call of the script failed before a run began, and led from the first state to the second
   pub refused : List ℕ → S → S → Type 0
 
--- At path text: this text stands at this path
+-- At path text: this text is at this path
 module _ (At : List ℕ → List ℕ → Type 0) {S : Type 0} (move : Moves S) where
   mutual
     -- a call of the script ended, and led from s to t: a hit; or a run, by the calls that it made and then by its end

@@ -1,4 +1,4 @@
--- What a `Part` says of the bytes of a part.
+-- What a `Part` states about the bytes of a part.
 use Rattle.std.specs.Prelude.{ℕ, List}
 use Rattle.calc_scripts.specs.declared.part.Part.{Part}
 use Rattle.calc_scripts.specs.declared.part.Part.TheVariants.{Eval, Number, Bad}

@@ -1,4 +1,4 @@
--- What a script means, where it is known which text stands at each path.
+-- What a script means, given the text at each path.
 use Rattle.std.specs.Prelude.{ℕ, zero, suc, ◌≤◌, max, List, [], ◌∷◌, ℤ, pos, ◌+ℤ◌, FitsSigned, Result, Ok, Err}
 use Rattle.std.specs.Int.{w32}
 use Rattle.calc_scripts.specs.Parts.{parts, IsEval, IsNumber, IsBad}
@@ -12,9 +12,9 @@ Value = Result ℤ CalcFault
 abbrev pub Fits : ℤ → Type 0
 Fits n = FitsSigned w32 n
 
--- At path text: this text stands at this path
+-- At path text: this text is at this path
 mutual
-  -- the script has this value and this height: 1 plus the greatest height of a part that was taken
+  -- the script has this value and this height: 1 plus the greatest height of its evaluated parts
   pub data Means (At : List ℕ → List ℕ → Type 0) : List ℕ → Value → ℕ → Type 0 where
     means : {script : List ℕ} {v : Value} {h : ℕ} → Takes At (parts script) (pos 0) 0 v h → Means At script v (suc h)
 
@@ -24,7 +24,7 @@ mutual
     is_bad : {part : List ℕ} → IsBad part → PartMeans At part (Err NotANumber) 0
     is_eval : {part path text : List ℕ} {v : Value} {h : ℕ} → IsEval part path → At path text → Means At text v h → PartMeans At part v h
 
-  -- these parts, taken after parts with this sum and this greatest height, give this value and this greatest height in all
+  -- these parts, after parts with this sum and this greatest height, result in this value and this greatest height
   pub data Takes (At : List ℕ → List ℕ → Type 0) : List (List ℕ) → ℤ → ℕ → Value → ℕ → Type 0 where
     ends : {sum : ℤ} {h : ℕ} → Takes At [] sum h (Ok sum) h
     adds : {p : List ℕ} {ps : List (List ℕ)} {sum n : ℤ} {h g e : ℕ} {v : Value} → PartMeans At p (Ok n) g → Fits (sum +ℤ n) → Takes At ps (sum +ℤ n) (max h g) v e → Takes At (p ∷ ps) sum h v e

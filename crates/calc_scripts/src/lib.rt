@@ -1,7 +1,7 @@
 //! Scripts of the program `calc`: their parts, and what they mean.
 //!
-//! A script is numbers and calls `eval PATH` of scripts in files, with `+` between them. What it comes to is known only
-//! with the files, so this crate has what needs none: the cutting, and the sum of what the parts come to.
+//! A script is numbers and calls `eval PATH` of scripts in files, with `+` between them. Its value depends on the
+//! files; this crate needs none. It cuts a script into parts, and adds up their values.
 //!
 //! ```rust
 //! use calc_scripts::{CalcFault, Outcome, Part, Parts, Total};

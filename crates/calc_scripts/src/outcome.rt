@@ -1,30 +1,28 @@
-//! What a script comes to.
+//! The outcome of a script. Nothing here allocates.
 ghost use Rattle.std.specs.Prelude.{◌≡◌, ℕ, ◌+◌, ◌-◌, ◌^◌, ◌<◌, max, pos};
 ghost use Rattle.calc_scripts.specs.Totals.{IsAdded, value_at};
 
 use std::marker::Model;
 
-/// Why a script has no number: the fault of the first part at which it fails, taken from the left.
-///
-/// comemo's example `calc` panics where a part is no number, and doesn't check its sum.
+/// Why a script has no number: the fault of the leftmost part that fails.
 #[derive(Clone, Copy, Debug, PartialEq, Eq)]
 pub enum CalcFault {
-    /// A part is neither a number of 32 bits nor the call of a script.
+    /// A part is neither a 32-bit number nor a call of a script.
     NotANumber,
-    /// The sum of the parts up to one of them passes 32 bits, the sign among them.
+    /// The sum of the parts up to this one doesn't fit in 32 bits, with the sign.
     Overflow,
 }
 
-/// What a script, or a part of it, comes to: its value, and how deep it calls.
+/// The outcome of a script or a part: its value, and how deeply it calls.
 #[derive(Clone, Copy, Debug, PartialEq, Eq)]
 pub struct Outcome {
     /// The number, or why there is none.
     pub value: Result<i32, CalcFault>,
-    /// 0 for a part that calls nothing; 1 plus the greatest height of the parts that were taken for a script.
+    /// 0 for a part that calls nothing; for a script one more than the greatest height of its evaluated parts.
     pub height: u64,
 }
 
-/// The sum and the greatest height of the parts that were taken so far. It holds no memory.
+/// The sum and the greatest height of the parts so far.
 #[derive(Drop)]
 pub struct Total {
     number: i32,
@@ -40,7 +38,7 @@ impl Model for Total {
 }
 
 impl Total {
-    /// No part was taken: the sum is 0, and so is the height.
+    /// No parts: sum and height are 0.
     pub fn new() -> Self
         ensures { result ≡ record { sum = pos 0; height = 0 } }
     {
@@ -50,10 +48,7 @@ impl Total {
         }
     }
 
-    /// Takes a part, by what it comes to.
-    ///
-    /// Refuses with the part's own fault, or with `Overflow` where the sum passes 32 bits. The sum is unchanged then,
-    /// and the height counts the part. It takes constant time and no memory.
+    /// Adds a part's outcome. On error the sum is unchanged, and the height counts the part.
     pub fn add(&mut self, part: Outcome) -> Result<(), CalcFault>
         ensures sum { IsAdded self.old.sum part.value self.new.sum result }
         ensures height { self.new.height ≡ max self.old.height part.height }
@@ -66,10 +61,7 @@ impl Total {
         Ok(())
     }
 
-    /// What the whole script comes to, where taking its parts ended so: the sum, or the fault at which it ended; and
-    /// one more than the greatest height.
-    ///
-    /// The height has to be below 2^64 - 1. It refuses nothing, and takes constant time and no memory.
+    /// The outcome of the whole script: the sum, or the fault that ended it, and one more than the greatest height.
     pub fn outcome(self, end: Result<(), CalcFault>) -> Outcome
         requires { self.height < 2 ^ 64 - 1 }
         ensures value { result.value ≡ value_at self.sum end }

@@ -1,4 +1,4 @@
-//! The parts of a script.
+//! The parts of a script. Nothing here allocates.
 ghost use Rattle.std.specs.Prelude.{◌≡◌, ℕ, List, [], ◌∷◌, MatchOption};
 ghost use Rattle.std.specs.Str.{trim};
 ghost use Rattle.calc_scripts.specs.Kinds.{IsPart};
@@ -6,21 +6,19 @@ ghost use Rattle.calc_scripts.specs.Parts.{parts, left};
 
 use std::marker::Model;
 
-/// What one part of a script is, white space at its ends aside.
-///
-/// It borrows the script. comemo's example `calc` knows the first two, and panics at any other.
+/// A part of a script, without white space at its ends. It borrows the script.
 #[derive(Clone, Copy, Debug, PartialEq, Eq)]
 pub enum Part<'a> {
-    /// The value of the script in the file at this path, which is all after the `eval` and one blank.
+    /// The value of the script in the file at this path: all after `eval` and one blank.
     Eval(&'a str),
-    /// A number of 32 bits, as Rust reads one.
+    /// A 32-bit number, as Rust parses one.
     Number(i32),
-    /// Neither: as an empty part, or a number that passes 32 bits.
+    /// Neither, such as an empty part or a number that doesn't fit in 32 bits.
     Bad,
 }
 
 impl<'a> Part<'a> {
-    /// What a part is, white space at its ends aside.
+    /// Parses a text as a part.
     fn of(text: &'a str) -> Self
         ensures { IsPart (trim text.now) result }
     {
@@ -35,9 +33,7 @@ impl<'a> Part<'a> {
     }
 }
 
-/// The parts of a script that are left, in their order. It borrows the script.
-///
-/// Contracts see it as the list of the parts' bytes. comemo's example `calc` cuts a script in the same way.
+/// The remaining parts of a script, in order. Contracts see the list of their bytes.
 #[derive(Drop)]
 pub struct Parts<'a> {
     rest: Option<&'a str>,
@@ -50,19 +46,14 @@ impl<'a> Model for Parts<'a> {
 }
 
 impl<'a> Parts<'a> {
-    /// All parts of a script: it is cut at each `+`, so there is one more part than there are `+`.
-    ///
-    /// It takes constant time and no memory, and refuses nothing. An empty script has one part, which is empty.
+    /// Cuts a script at each `+`. An empty script has one part, which is empty.
     pub fn new(script: &'a str) -> Self
         ensures { result ≡ parts script.now }
     {
         Parts { rest: Some(script) }
     }
 
-    /// The next part, without the white space at its ends, or `None` after the last one, and from then on.
-    ///
-    /// It takes time for the bytes of that part, and copies none. It refuses nothing: what is no part of a script is
-    /// `Part::Bad`.
+    /// The next part, without white space at its ends. What is no part of a script is `Part::Bad`.
     pub fn next(&mut self) -> Option<Part<'a>>
         ensures { MatchOption result
             ((self.old ≡ []) × (self.new ≡ []))

@@ -1,4 +1,4 @@
--- What a line prints, by the text that was made for it.
+-- What a line prints, given the text made for it.
 use Rattle.std.proofs.Common.{◌≡◌, ℕ, List, Result, Ok, Err, IfOk, String, string_bytes, sym, subst}
 use Rattle.std.specs.Global.{Global}
 use Rattle.calc_commands.specs.Requests.{Request, IsLineOf, IsNoCommand}

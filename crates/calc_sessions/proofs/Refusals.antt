@@ -1,4 +1,4 @@
--- A command whose text was refused left the texts.
+-- A command that failed to allocate a text doesn't change the texts.
 use Rattle.std.proofs.Common.{◌≢◌, Result, Ok, Err, OnErr, refl}
 use Rattle.calc_commands.specs.Requests.{Request}
 use Rattle.calc_commands.specs.declared.answer.Answer.{Answer}

@@ -1,4 +1,4 @@
--- What a session answers.
+-- A session's answers.
 use Rattle.comemo.specs.declared.pending.How.{How}
 use Rattle.comemo.specs.declared.pending.How.TheVariants as how
 use Rattle.std.specs.Prelude.{Bool, true, false, ◌≡◌, ◌≤◌, ℕ, List, bytes_eq, length, if◌then◌else◌}
@@ -31,7 +31,7 @@ in_cache how.NotStored = false
 in_cache how.Disabled = false
 in_cache how.Late = false
 
--- what a request is answered at the texts before it, and the texts after it
+-- the answer to a request at the texts before it, and the texts after it
 pub data Answers : Texts → Request → Answer → Texts → Type 0 where
   -- the text is at the path, and nothing else changed
   written : {before after : Texts} {path text : List ℕ} → ((q : List ℕ) → after q ≡ (if bytes_eq q path then text else before q)) → Answers before (write path text) answer.Written after
@@ -39,20 +39,20 @@ pub data Answers : Texts → Request → Answer → Texts → Type 0 where
   value : {before after : Texts} {script : List ℕ} {hit kept : Bool} {v : Value} {height : ℕ} → Means (Reads before) script v height → height ≤ height_limit → Same before after → Answers before (eval script) (answer.Value hit kept v) after
   -- the script is higher than the limit, or means nothing
   too_deep : {before after : Texts} {script : List ℕ} → IsTooDeep (Reads before) script height_limit → Same before after → Answers before (eval script) answer.TooDeep after
-  -- the text at the path has so many bytes
+  -- the text at the path has this many bytes
   bytes_at : {before after : Texts} {path : List ℕ} {hit : Bool} {bytes : ℕ} → bytes ≡ length (before path) → Same before after → Answers before (size path) (answer.Size hit bytes) after
-  -- what was kept is as old as was asked for, and the texts stay
+  -- the caches were evicted, and the texts are unchanged
   evicted : {before after : Texts} {max_age : ℕ} → Same before after → Answers before (evict max_age) answer.Evicted after
-  -- there was no memory for what was asked, a write among it, and nothing was done
+  -- out of memory, and nothing was done
   no_memory : {before after : Texts} {request : Request} → Same before after → Answers before request answer.Memory after
 
 -- what a line prints at the texts before it, and the texts after it
 pub data Prints : Texts → List ℕ → List ℕ → Texts → Type 0 where
-  -- the answer to what it asks for
+  -- the answer to its command
   is_answered : {before after : Texts} {line : List ℕ} {request : Request} {reply : Answer} → IsLineOf line request → Answers before request reply after → Prints before line (printed reply) after
-  -- or that it asks for nothing
+  -- it has no command
   is_bad : {before after : Texts} {line : List ℕ} → IsNoCommand line → Same before after → Prints before line bad_command after
 
--- a line for whose answer there was no memory changed nothing
+-- a line whose answer was out of memory changed nothing
 abbrev pub Refuses : Texts → List ℕ → Texts → Type 0
 Refuses before line after = Same before after

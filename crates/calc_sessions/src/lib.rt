@@ -1,5 +1,5 @@
-//! The sessions of the program `calc`: its files with the memoized functions of them, what it answers to each command,
-//! and the loop over lines.
+//! The sessions of the program `calc`: its files and memoized functions, its answer to each command, and the loop over
+//! lines.
 //!
 //! ```rust
 //! use calc_sessions::{run, start};

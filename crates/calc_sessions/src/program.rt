@@ -1,4 +1,14 @@
 //! The program: lines in, lines out.
+//!
+//! | Line | Prints |
+//! |---|---|
+//! | `write PATH TEXT`, `evict N` | nothing |
+//! | `eval SCRIPT` | `miss V` or `hit V`: V is a number, `not a number` or `overflow`; or `too deep` |
+//! | `size PATH` | `miss N` or `hit N`, where N is the file's length in bytes |
+//! | an empty line | nothing |
+//! | any other | `bad command` |
+//!
+//! If memory runs out, a line prints `out of memory` instead.
 ghost use Rattle.std.specs.Prelude.{◌≡◌, ◌<◌, ℕ, List, [], codes, length, Option};
 ghost use Rattle.calc_lines.specs.Runs.{Ran};
 ghost use Rattle.calc_lines.specs.Started.{RanAs, WritesFront, usage_of};
@@ -24,15 +34,9 @@ impl Session for State {
     }
 }
 
-/// Reads lines, carries out the command of each, and writes what it is answered, until the input ends.
+/// Reads lines, carries out the command of each, and writes the answer, until the input ends.
 ///
-/// A session begins with no files. `write PATH TEXT` prints nothing; `eval SCRIPT` prints `miss V` or `hit V`, V
-/// the script's number, `not a number` or `overflow`, or `too deep` where it is higher than 128 or never ends;
-/// `size PATH` prints `miss N` or `hit N`, N the bytes of the file; `evict N` drops what was kept of scripts and of
-/// sizes whose age is N or more, the rest growing one older, and prints nothing; any other line that isn't empty prints
-/// `bad command`; and a command that found no memory prints `out of memory`. How lines end, which fault comes when, what
-/// stands then and what it costs is as in `calc_lines::run`; the session's answers cost what `State::carry_out` does, and
-/// what it keeps stays until it is evicted or the run ends.
+/// The session begins without files. Faults and line ends are those of `calc_lines::run`.
 pub fn run<R: BufRead, W: Write>(
     alloc: Global,
     reader: &mut R,
@@ -45,12 +49,8 @@ pub fn run<R: BufRead, W: Write>(
     calc_lines::run(alloc, reader, writer, &mut State::new(alloc))
 }
 
-/// All of the program but its streams: `run`, and the program's status. `words` are the arguments after its name.
-///
-/// With any words it writes `usage: calc` on `errors` and the status is 2. Else the status is 0 where all lines were
-/// answered and 1 where a fault ended the run, which is written on `errors`: `calc: cannot read`, `calc: cannot write`,
-/// `calc: out of memory` or `calc: not UTF-8`. A failure of `errors` changes nothing else. With words it reads and
-/// writes nothing else, and takes no memory; else it costs what `run` does.
+/// The whole program without its streams: `run`, and the exit status, as `calc_lines::start`. `words` are the arguments
+/// after its name.
 pub fn start<R: BufRead, W: Write, E: Write>(
     alloc: Global,
     words: &[String],

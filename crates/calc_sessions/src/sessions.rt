@@ -1,4 +1,4 @@
-//! A whole session: a list of commands to the list of their answers.
+//! A whole session: a list of commands, and the list of their answers.
 ghost use Rattle.std.specs.Prelude.{◌≡◌, ℕ, List, [], map, IfOk};
 ghost use Rattle.calc_commands.specs.Requests.{request_of};
 ghost use Rattle.calc_files.specs.Files.{Texts};
@@ -8,13 +8,10 @@ use crate::state::State;
 use calc_commands::{Answer, Command};
 use std::alloc::{AllocError, Global};
 
-/// Carries out commands one after the other, from no files and nothing kept, and gives the answer of each.
+/// Carries out commands in turn, beginning without files and with empty caches, and returns their answers.
 ///
-/// An error says that there was no memory for the list of answers; then no command was carried out. A command that
-/// found no memory is answered by `Answer::Memory`, and the next one goes on. A script that was answered by a value
-/// which is kept is answered by a hit with that value, or by `Memory`, until an eviction, as often as the texts of all
-/// paths that it asked for are the same as then. It keeps one answer for each command, and costs what
-/// `State::carry_out` does.
+/// Fails, before the first command, if the list can't be allocated. Until an eviction, a cached value is a hit whenever
+/// the texts that it read are the same.
 pub fn session(alloc: Global, commands: &[Command]) -> Result<Vec<Answer>, AllocError>
     ensures { IfOk result (λ answers. (before after : Texts) × (left : List Past)
         × ((path : List ℕ) → before path ≡ [])

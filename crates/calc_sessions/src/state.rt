@@ -1,4 +1,4 @@
-//! The state of a session, and what it answers to a command.
+//! The state of a session, and its answer to a command.
 ghost use Rattle.std.specs.Prelude.{◌≡◌, ℕ, List, [], bytes_eq, if◌then◌else◌, OnOk, OnErr};
 ghost use Rattle.calc_commands.specs.Requests.{asked_by, eval as eval_of, size as size_of, evict as evict_of};
 ghost use Rattle.comemo.specs.Cache.{Evicts};
@@ -14,9 +14,9 @@ use std::alloc::{AllocError, Global};
 /// The greatest height of a script that a session evaluates.
 const HEIGHT_LIMIT: u64 = 128;
 
-/// What a session knows between two commands: its files, and what its memoized functions gave.
+/// The state between two commands: the files, and the caches of the memoized functions.
 ///
-/// All that they gave stays kept as long as the state, with the texts that were asked for.
+/// A cached output, with the texts that it read, stays until it is evicted.
 #[derive(Drop)]
 pub struct State {
     pub(crate) alloc: Global,
@@ -25,7 +25,7 @@ pub struct State {
     pub(crate) sizes: CacheData<FileSize>,
 }
 
-/// Whether the run is in the cache after a call that ended so.
+/// Whether a run is in the cache after a call that ended so.
 fn is_kept(how: How) -> bool
     ensures { result ≡ in_cache how }
 {
@@ -33,7 +33,7 @@ fn is_kept(how: How) -> bool
 }
 
 impl State {
-    /// No files, and nothing kept. It takes no memory.
+    /// No files, and empty caches. Does not allocate.
     pub fn new(alloc: Global) -> Self
         ensures { (path : List ℕ) → texts_in result path ≡ [] }
     {
@@ -45,13 +45,10 @@ impl State {
         }
     }
 
-    /// Carries out a command, and gives its answer.
+    /// Carries out a command, and returns its answer, which is right for the files as they are now.
     ///
-    /// The answer is the one that the files as they are have, whatever was asked before. `Memory` says that there was
-    /// no memory for the command; then the files are as they were, and what was kept on the way stays. A script is
-    /// evaluated to a height of 128 at most. A write copies its path and its text, in constant expected time beside; the others cost
-    /// what `evaluate` and `size` do, which follow one stored path in each look-up; an eviction takes time linear in all
-    /// that is kept, and no memory.
+    /// After `Memory` the files are unchanged; what was cached on the way stays. An eviction is linear in the cached
+    /// entries.
     pub fn carry_out(&mut self, command: CommandRef<'_>) -> Answer
         ensures answer { Answers (texts_in self.old) (asked_by command.entry) result
             (texts_in self.new) }

@@ -1,4 +1,4 @@
--- Lemmas on paths: what a look-up has asked, and how two paths of a tree lie to each other.
+-- Lemmas on paths: what a look-up has asked, and how two paths of a tree diverge.
 use Rattle.std.proofs.Common.{◌≡◌, ◌<◌, ◌+◌, ℕ, zero, suc, Bool, true, false, List, [], ◌∷◌, ◌++◌, length, take, get_or, refl, sym, ap, ◌∙◌, inl, inr, arith, IsTrue, subst, None, Some, Option, Result, Ok, Err, IsOk, add-one}
 use Rattle.std.proofs.lemmas.Bool.{cases_eq}
 use Rattle.std.proofs.lemmas.List.{take_all}

@@ -1,4 +1,4 @@
--- Lemmas on trees all of whose paths are what runs of one function ask.
+-- Lemmas on trees whose paths are all runs of one function.
 use Rattle.std.proofs.Common.{◌≡◌, zero, Bool, true, false, List, [], ◌∷◌, ◌++◌, get_or, refl, sym, ap, ◌∙◌, inl, inr, arith, IsTrue, subst, None, Some, Option, is_some, Result, Ok, Err, OnOk, OnErr, IfOk, IfErr}
 use Rattle.std.proofs.lemmas.Bool.{cases_Bool, cases_eq}
 use Rattle.std.proofs.lemmas.List.Elements.{All-cons}

@@ -1,4 +1,4 @@
--- Lemmas on lists of pairs as sets: which pairs a list has, up to equality.
+-- Lemmas on lists of pairs as sets, up to equality.
 use Rattle.std.proofs.Common.{◌≡◌, Bool, true, false, cond, List, [], ◌∷◌, ◌++◌, refl, sym, ap, ◌∙◌, inl, inr, IsTrue, subst, None, Some, Option, is_some}
 use Rattle.std.proofs.lemmas.Bool.{cases_Bool}
 use Rattle.std.specs.List.{filter}

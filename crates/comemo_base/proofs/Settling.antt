@@ -1,4 +1,4 @@
--- Lists of pairs that grow while a function runs: what is causal stays so, and what is asked is held in the end.
+-- Lists of pairs that grow while a function runs: they stay causal, and in the end they hold what is asked.
 use Rattle.std.proofs.Common.{◌≡◌, ◌⊎◌, Bool, true, false, List, [], ◌∷◌, ◌++◌, refl, sym, ap, ◌∙◌, inl, inr, IsTrue, subst, append_assoc, append-nil}
 use Rattle.std.proofs.lemmas.Bool.{cases_Bool}
 use Rattle.std.specs.Cmp.{IsEquivalence}

@@ -1,4 +1,4 @@
--- What holds of the entries under a key, said of all entries with the key tested.
+-- What holds for the entries under a key, as a property of all entries that tests the key.
 use Rattle.std.proofs.Common.{◌≡◌, ◌∙◌, ◌<◌, ◌⊎◌, ℕ, zero, suc, Bool, true, false, cond, subst, List, [], ◌∷◌, length, get_or, refl, sym, ap, inl, inr, arith, IsTrue}
 use Rattle.std.proofs.lemmas.Bool.{cases_Bool}
 use Rattle.std.proofs.lemmas.List.Elements.{All-cons, All-head, All-tail}

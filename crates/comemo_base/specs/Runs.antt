@@ -9,7 +9,7 @@ use Rattle.comemo_base.specs.declared.insertion.InsertError.{InsertError}
 use Rattle.comemo_base.specs.declared.insertion.InsertError.TheVariants.{AlreadyExists, MissingCall, Memory}
 
 module _ {C R : Type 0} (eq : C → C → Bool) (same : R → R → Bool) where
-  -- under the answers m the first call is asked, and where m answers it as the list does, so is the next, and so on
+  -- under the answers m the first call is asked and, if m answers it as the list does, the next, and so on
   abbrev pub IsAskedInTurn : (C → Type 0) → (C → R) → List (C × R) → Type 0
   IsAskedInTurn asked m [] = Unit {0}
   IsAskedInTurn asked m (p ∷ ps) = asked p.0 × (IsTrue (same (m p.0) p.1) → IsAskedInTurn asked m ps)
@@ -33,16 +33,16 @@ module _ {C R : Type 0} (eq : C → C → Bool) (same : R → R → Bool) where
   abbrev pub IsSettled : {K T : Type 0} → (K → (C → R) → C → Type 0) → List (Stored K C R T) → Type 0
   IsSettled asks es = All (λ e. IsRun (asks e.key) e.path) es
 
--- what is asked under equal keys is the same, and of two equal calls both are asked or none
+-- the same is asked under equal keys, and of two equal calls both are asked or neither
 abbrev pub AsksRespect : {K C R : Type 0} → (K → K → Bool) → (C → C → Bool) → (K → (C → R) → C → Type 0) → Type 0
 AsksRespect {K} {C} {R} eqk eq asks = (k k' : K) (m : C → R) (c c' : C) → IsTrue (eqk k k') → IsTrue (eq c c') → asks k m c → asks k' m c'
 
--- the laws of a definition of asked calls: it tells no equal keys and no equal calls apart, and a clone of a key is equal to it
+-- the laws of a definition of asked calls: it treats equal keys and equal calls alike, and a clone of a key is equal to it
 pub record AsksLaws {K C R : Type 0} (eqk : K → K → Bool) (eq : C → C → Bool) (is_clone : K → K → Type 0) (asks : K → (C → R) → C → Type 0) : Type 0 where
   pub respect : AsksRespect eqk eq asks
   pub clones : (x y : K) → is_clone x y → IsTrue (eqk x y)
 
--- why an insertion of a run stored nothing, where `there` says that the set of its pairs is stored: a call is never missing
+-- why an insertion of a run stored nothing; `there` means that the set of its pairs is stored; a call is never missing
 abbrev pub IsRunReason : Type 0 → InsertError → Type 0
 IsRunReason there AlreadyExists = there
 IsRunReason there MissingCall = ⊥

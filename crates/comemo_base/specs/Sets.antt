@@ -1,5 +1,5 @@
--- Which sets of pairs a tree's paths make. A set is given by any list of its pairs, whose calls are distinct: no definition
--- looks at the order in such a list, nor at that of the entries.
+-- The sets of pairs that a tree's paths form. A set is any list of its pairs, whose calls are distinct: neither the order of
+-- that list nor that of the entries matters.
 use Rattle.std.specs.Prelude.{◌≡◌, ◌<◌, ◌≢◌, ℕ, Bool, List, ◌∷◌, length, IsTrue, Option, MatchOption, slice_index_or}
 use Rattle.std.specs.List.{Any}
 use Rattle.std.specs.List.Sorted.{IsPermutation}
@@ -8,13 +8,13 @@ use Rattle.comemo_base.specs.Lookup.{under}
 use Rattle.comemo_base.specs.Insertion.{AllAmong}
 
 module _ {C R : Type 0} (eq : C → C → Bool) (same : R → R → Bool) where
-  -- the lists have the same pairs, in whatever order
+  -- the lists have the same pairs, in any order
   abbrev pub HasSamePairs : List (C × R) → List (C × R) → Type 0
   HasSamePairs ps qs = AllAmong eq same ps qs × AllAmong eq same qs ps
 
   -- Of the entries under one key:
   module _ {K T : Type 0} (us : List (Stored K C R T)) (ps : List (C × R)) where
-    -- some path has the very pairs of the list
+    -- some path has exactly the pairs of the list
     abbrev pub HasSet : Type 0
     HasSet = Any (λ e. HasSamePairs e.path ps) us
 
@@ -27,7 +27,7 @@ module _ {C R : Type 0} (eq : C → C → Bool) (same : R → R → Bool) where
     abbrev pub HasEachSetOnce : List (Stored K C R T) → Type 0
     HasEachSetOnce es = (i j : ℕ) (d : Stored K C R T) → i < length es → j < length es → i ≢ j → IsTrue (eqk (slice_index_or es i d).key (slice_index_or es j d).key) → ¬ HasSamePairs (slice_index_or es i d).path (slice_index_or es j d).path
 
-    -- the set of the pairs was not there under the key, and was added with the value, and nothing else changed
+    -- the set of the pairs was not stored under the key; it was added with the value, and nothing else changed
     pub record AddsSet (key : K) (ps : List (C × R)) (value : T) (old new : List (Stored K C R T)) : Type 0 where
       pub lacked : ¬ HasSet (under eqk old key) ps
       pub own : K

@@ -1,8 +1,8 @@
--- What the private steps of the plain tree say. No public clause speaks of this.
+-- The contracts of the plain tree's private steps. No public contract uses this.
 use Rattle.std.specs.Prelude.{ℕ, ◌<◌, Bool, List, length, IsTrue, slice_index_or}
 use Rattle.std.specs.List.{HoldsAt}
 
--- the first path has at n the answer, and before n the answers of the second
+-- the first path has the answer at n, and before n the answers of the second
 abbrev pub Follows : {C R : Type 0} → (R → R → Bool) → List (C × R) → List (C × R) → ℕ → R → Type 0
 Follows {C} {R} same ps qs n answer =
     (n < length ps)

@@ -1,21 +1,19 @@
 //! Why an insertion into a tree stored nothing.
 use std::alloc::{AllocError, AllocFailed};
 
-/// Why an insertion stored nothing. Each leaves the tree as it was.
-///
-/// comemo's `InsertError`, and `Memory`.
+/// Why an insertion stored nothing. The tree is unchanged after each of these.
 #[derive(Clone, Copy, Debug, PartialEq, Eq)]
 pub enum InsertError {
-    /// A stored path under the key has all its pairs among those of the sequence.
+    /// A stored path under the key has all its pairs in the sequence.
     AlreadyExists,
-    /// After a front whose pairs are among those of the sequence, a stored path under the key goes on with a call that
-    /// the sequence lacks: the function that was run isn't determined by its key and answers.
+    /// A stored path under the key has a prefix whose pairs are all in the sequence, and then a call that the sequence
+    /// lacks: the function that was run isn't determined by its key and answers.
     MissingCall,
-    /// A request for memory was refused, or the path would be longer than a `usize` can say.
+    /// Out of memory, or the path would be longer than a `usize` can hold.
     Memory,
 }
 
-/// So that `?` hands on a refused request for memory, as `Memory`.
+/// For `?` on a failed allocation.
 impl From<AllocError> for InsertError {
     ghost use Rattle.std.specs.Prelude.{◌≡◌};
     ghost use Rattle.comemo_base.specs.declared.insertion.InsertError.TheVariants.{Memory};
@@ -27,7 +25,7 @@ impl From<AllocError> for InsertError {
     }
 }
 
-/// So that `?` hands on a value for which there was no room, as `Memory`. The value is dropped.
+/// For `?` on a value that found no memory. The value is dropped.
 impl<T: Drop> From<AllocFailed<T>> for InsertError {
     ghost use Rattle.std.specs.Prelude.{◌≡◌};
     ghost use Rattle.comemo_base.specs.declared.insertion.InsertError.TheVariants.{Memory};

@@ -1,9 +1,9 @@
-//! The ground of constrained memoization: SipHash-1-3-128, values with their hash, sequences of calls, and what a call
-//! tree is: its definitions, and the tree as a plain list. The crate `comemo_tree` has the tree that memoized outputs
-//! are found in, under the same contracts.
+//! The base of constrained memoization: SipHash-1-3-128, values with their hash, sequences of calls, the definition of
+//! a call tree, and the tree as a plain list. The crate `comemo_tree` has the tree that caches use, with the same
+//! contracts.
 //!
-//! A tree keeps a value under a key and the calls that a run asked, each with its answer. It gives the value again to
-//! an oracle that answers these calls so, and nothing to one that answers one of them otherwise:
+//! A tree stores a value under a key and the calls that a run asked, each with its answer. A look-up asks an oracle
+//! these calls. It returns the value if all answers are the same, and nothing if one differs:
 //!
 //! ```rust
 //! use comemo_base::{CallSequence, PlainTree};

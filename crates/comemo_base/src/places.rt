@@ -1,4 +1,5 @@
-//! Where the calls of a sequence lie: in a list while they are few, and those that come later in a map.
+//! Where the calls of a sequence lie: the first few in a list, later ones in a map. Calls are looked up in constant
+//! expected time.
 ghost use Rattle.std.specs.Prelude.{◌≡◌, ◌≤◌, ◌<◌, ◌+◌, [], None, true, false, length, IsOk, OnOk, OnErr, MatchOption};
 ghost use Rattle.std.specs.List.{All, AllWithin, HoldsAt};
 ghost use Rattle.comemo_base.specs.Slots.{place_of, PutsAt, KeepsBut};
@@ -8,14 +9,14 @@ use std::collections::HashMap;
 use std::hash::Hash;
 use std::marker::Model;
 
-/// How many calls lie in the list.
+/// How many calls the list holds.
 ///
-/// Most runs ask few calls. The first entry of a map asks for memory three times, and each call would be hashed, where a
-/// list asks once, and a comparison of calls is mostly that of a word or two.
+/// Most runs ask few calls. A map's first entry allocates three times and hashes each call; a list allocates once, and
+/// comparing two calls mostly compares a word or two.
 const FEW: usize = 8;
 
-/// A map from calls to places that is a word long until there is a call in it, since most sequences never have one, and
-/// a sequence is moved more often than it is asked.
+/// A map from calls to places, one word long until it has a call: most sequences never need it, and are moved more
+/// often than asked.
 #[derive(Drop)]
 struct Many<C: Eq + Hash> {
     alloc: Global,
@@ -34,14 +35,14 @@ impl<C: Eq + Hash> Model for Many<C> {
 }
 
 impl<C: Eq + Hash> Many<C> {
-    /// None. It takes no memory.
+    /// An empty map. Does not allocate.
     fn new(alloc: Global) -> Self
         ensures { result.entries ≡ [] }
     {
         Many { alloc, map: None }
     }
 
-    /// The place of a call, or `None` where it has none. It takes constant expected time.
+    /// The place of a call, if it has one.
     fn get(&self, call: &C) -> Option<usize>
         ensures { result ≡ place_of C.eq self.now call.now }
     {
@@ -51,9 +52,9 @@ impl<C: Eq + Hash> Many<C> {
         }
     }
 
-    /// Makes room for so many calls more; for none it takes no memory.
+    /// Makes room for more calls; for 0 it does not allocate.
     ///
-    /// It stands apart, as `insert` does: a call of a function pays for the size of all its locals, and a map is large.
+    /// Not inlined, as `insert`: the caller would pay for all its locals, and a map is large.
     #[inline(never)]
     fn reserve(&mut self, more: usize) -> Result<(), AllocError>
     where
@@ -74,7 +75,7 @@ impl<C: Eq + Hash> Many<C> {
         made
     }
 
-    /// Puts a call at a place. Where there is no memory it answers `AllocError`, and no place changes.
+    /// Puts a call at a place. On error no place changes.
     #[inline(never)]
     fn insert(&mut self, call: C, place: usize) -> Result<(), AllocError>
     where
@@ -96,7 +97,7 @@ impl<C: Eq + Hash> Many<C> {
         }
     }
 
-    /// Takes out the place of a call, and gives the call that stood there. Other places stay.
+    /// Takes out a call's place, and returns the call that was stored.
     fn take(&mut self, call: &C) -> Option<C>
         ensures found { MatchOption result (place_of C.eq self.old call.now ≡ None)
             (λ known. C.eq call.now known ≡ true) }
@@ -110,12 +111,12 @@ impl<C: Eq + Hash> Many<C> {
     }
 }
 
-/// The place of each call that was ever seen. No two of the calls are equal.
+/// The place of each call ever seen. No two of the calls are equal.
 #[derive(Drop)]
 pub(crate) struct Places<C: Eq + Hash> {
-    // The first calls, of which each is compared.
+    // The first calls, compared one by one.
     few: Vec<(C, usize)>,
-    // Those that came when the list was full.
+    // Calls that came when `few` was full.
     many: Many<C>,
 }
 
@@ -133,7 +134,7 @@ impl<C: Eq + Hash> Model for Places<C> {
     } };
 }
 
-/// Where in a list a call stands.
+/// The index of a call in a list.
 fn position<C: Eq>(list: &[(C, usize)], call: &C) -> Option<usize>
     ensures { MatchOption result (All (λ e. C.eq call.now e.0 ≡ false) list.now)
         (λ at. (at < length list.now) × AllWithin (λ e. C.eq call.now e.0 ≡ false) list.now 0 at
@@ -148,7 +149,7 @@ fn position<C: Eq>(list: &[(C, usize)], call: &C) -> Option<usize>
 }
 
 impl<C: Eq + Hash> Places<C> {
-    /// No places. It takes no memory.
+    /// No places. Does not allocate.
     pub(crate) fn new(alloc: Global) -> Self
         ensures { result.entries ≡ [] }
     {
@@ -158,7 +159,7 @@ impl<C: Eq + Hash> Places<C> {
         }
     }
 
-    /// The place of a call, or `None` where it was never seen. It takes constant expected time.
+    /// The place of a call, if it was seen.
     pub(crate) fn get(&self, call: &C) -> Option<usize>
         ensures { result ≡ place_of C.eq self.now call.now }
     {
@@ -168,7 +169,7 @@ impl<C: Eq + Hash> Places<C> {
         self.many.get(call)
     }
 
-    /// Makes room for more calls, so that to put them takes no memory.
+    /// Makes room for more calls, so that inserting them does not allocate.
     pub(crate) fn reserve(&mut self, more: usize) -> Result<(), AllocError>
     where
         C: Drop,
@@ -181,8 +182,7 @@ impl<C: Eq + Hash> Places<C> {
         self.many.reserve(more.saturating_sub(free))
     }
 
-    /// Puts a call that was never seen at a place. Where there is no memory it answers `AllocError`, and no place
-    /// changes.
+    /// Puts a call that was never seen at a place. On error no place changes.
     pub(crate) fn insert(&mut self, call: C, place: usize) -> Result<(), AllocError>
     where
         C: Drop,
@@ -202,7 +202,7 @@ impl<C: Eq + Hash> Places<C> {
         Ok(())
     }
 
-    /// Takes out the place of a call, and gives the call that stood there. Other places stay.
+    /// Takes out a call's place, and returns the call that was stored.
     pub(crate) fn take(&mut self, call: &C) -> Option<C>
         ensures found { MatchOption result (place_of C.eq self.old call.now ≡ None)
             (λ known. C.eq call.now known ≡ true) }

@@ -1,8 +1,7 @@
-//! The call tree as a plain list: a map from a key and a path of calls with their answers to a value, which is looked
-//! up by asking an oracle the calls along one path.
+//! The call tree as a plain list: a map from a key and a path of calls with their answers to a value.
 //!
-//! The list is searched whole. It is the definition's own program, short and slow, which the tree of `comemo_tree` is
-//! compared with: their contracts are alike, and say nothing of an order of entries. No cache stands on it.
+//! Look-ups search the whole list. It is short and slow, and no cache uses it: the tree of `comemo_tree` is compared
+//! with it, under contracts that are alike and independent of the entries' order.
 ghost use Rattle.std.specs.Prelude.{◌≡◌, ◌≤◌, ◌<◌, ◌↔◌, ◌⊎◌, ◌∷◌, ◌++◌, [], List, length, IsTrue, Some, IfSome, IfNone, IfOk, IfErr, OnOk, OnErr, IsOk, option_copied, option_map};
 ghost use Rattle.std.specs.List.{All, HoldsAt};
 ghost use Rattle.std.specs.List.Sorted.{IsPermutation};
@@ -40,10 +39,9 @@ impl<K, C, R, T> Model for Entry<K, C, R, T> {
 
 /// A map from a key and a path to a value. A path is a list of calls with their answers, each call once.
 ///
-/// Contracts see it as a list of entries, of whose order no clause speaks. Any two paths under one key part: after an
-/// equal front they go on with the same call and different answers. So at most one path under a key agrees with given
-/// answers. Each entry has its key, its whole path and its value for itself: paths with an equal front share no memory.
-/// comemo's `CallTree` as a plain list, with keys and answers themselves in the place of their hashes.
+/// Contracts see it as a list of entries, whose order doesn't matter. Two paths under one key diverge: after an equal
+/// prefix they have the same call with different answers. So at most one path under a key agrees with given answers.
+/// Paths share no memory.
 #[derive(Debug, Drop)]
 pub struct PlainTree<K: Eq + Hash, C: Eq + Hash, R: Ord, T> {
     entries: Vec<Entry<K, C, R, T>>,
@@ -63,7 +61,7 @@ impl<K: Eq + Hash, C: Eq + Hash, R: Ord, T> Model for PlainTree<K, C, R, T> {
     ghost invariant = { λ t. IsTree C.eq R.eq K.eq t.entries.items };
 }
 
-/// Whether a path has the answer at a depth, and before that the answers of another.
+/// Whether a path has the answer at a depth, and equals another path before it.
 fn follows<C, R: Ord>(path: &[(C, R)], other: &[(C, R)], depth: usize, answer: &R) -> bool
     requires { depth ≤ length other.now }
     ensures { IsTrue result ↔ Follows R.eq path.now other.now depth answer.now }
@@ -82,7 +80,7 @@ fn follows<C, R: Ord>(path: &[(C, R)], other: &[(C, R)], depth: usize, answer: &
     true
 }
 
-/// The place of the first entry under a key.
+/// The index of the first entry under a key.
 fn find_first<K: Eq, C, R, T>(entries: &[Entry<K, C, R, T>], key: &K) -> Option<usize>
     ensures some { IfSome result (λ j. (j < length entries.now)
         × HoldsAt (λ e. IsTrue (K.eq e.key key.now)) entries.now j) }
@@ -96,7 +94,7 @@ fn find_first<K: Eq, C, R, T>(entries: &[Entry<K, C, R, T>], key: &K) -> Option<
     None
 }
 
-/// The place of the first entry under a key whose path follows another to the depth, and has the answer there.
+/// The index of the first entry under a key whose path follows another to the depth, and has the answer there.
 fn find_branch<K: Eq, C, R: Ord, T>(
     entries: &[Entry<K, C, R, T>],
     key: &K,
@@ -119,7 +117,7 @@ fn find_branch<K: Eq, C, R: Ord, T>(
     None
 }
 
-/// The entry of the path that the oracle's answers lead to. The oracle is asked along one path.
+/// The entry to which the oracle's answers lead. The oracle is asked along one path.
 fn get_in<'a, K: Eq + Hash, C: Eq + Hash, R: Ord + Drop, T, O: FnMut(&C) -> Result<R, AllocError>>(
     entries: &'a [Entry<K, C, R, T>],
     key: &K,
@@ -157,9 +155,7 @@ fn get_in<'a, K: Eq + Hash, C: Eq + Hash, R: Ord + Drop, T, O: FnMut(&C) -> Resu
 }
 
 impl<K: Eq + Hash, C: Eq + Hash, R: Ord, T> PlainTree<K, C, R, T> {
-    /// An empty tree. It takes no memory.
-    ///
-    /// comemo's `CallTree::new`.
+    /// An empty tree. Does not allocate.
     pub fn new(alloc: Global) -> Self
         ensures { result ≡ [] }
     {
@@ -168,31 +164,24 @@ impl<K: Eq + Hash, C: Eq + Hash, R: Ord, T> PlainTree<K, C, R, T> {
         }
     }
 
-    /// Tells a proof that any two paths under equal keys part, and that the calls of each path are distinct, which
-    /// every tree keeps. It does nothing when it runs. This project's own.
+    /// Makes the tree's invariant known to a proof. Does nothing at run time.
     pub fn is_parted(&self)
         ensures { IsTree C.eq R.eq K.eq self.now }
     {
         let _ = &self.entries;
     }
 
-    /// How many entries the tree has. It takes constant time. This project's own.
+    /// How many entries the tree has.
     pub fn len(&self) -> usize
         ensures { result ≡ length self.now }
     {
         self.entries.len()
     }
 
-    /// The value of the path under a key whose answers the oracle gives, or `None` where there is none.
+    /// Looks up the value under a key whose path has the oracle's answers.
     ///
-    /// It asks the calls along one stored path, each once and in order, until the path ends or no stored path goes on
-    /// with the answer that was given; with no path under the key, or an empty one, it asks nothing. So the oracle
-    /// needs to answer stored calls alone. It is lent, so its state afterwards is known. An oracle that refuses an
-    /// answer ends the look-up with its error; nothing else does, and the tree takes no memory of its own.
-    ///
-    /// To begin, and again after each call that it asks, it goes through the entries from the first on, until one fits.
-    /// It compares the key of each of them and, where that is equal, the answers that its path has so far. comemo's
-    /// `CallTree::get`.
+    /// It asks the calls of one stored path, each once and in order, so the oracle only needs to answer stored calls.
+    /// Without a path under the key it asks nothing. Fails only if the oracle does.
     pub fn get<O: FnMut(&C) -> Result<R, AllocError>>(
         &self,
         key: &K,
@@ -209,7 +198,7 @@ impl<K: Eq + Hash, C: Eq + Hash, R: Ord, T> PlainTree<K, C, R, T> {
             oracle.old e oracle.new) }
         ensures answered { AlwaysReturns O.FnMut (λ a r. IsOk r) oracle.old → IsOk result }
 
-        // For a caller that knows what its oracle answers from, all that matters.
+        // For a caller that only knows which answers its oracle has.
         ensures agreeing { (m : C → R)
             → Respects C.eq R.eq m
             → AnswersAs O.FnMut R.eq m oracle.old
@@ -222,11 +211,7 @@ impl<K: Eq + Hash, C: Eq + Hash, R: Ord, T> PlainTree<K, C, R, T> {
         Ok(Some(&entry.value))
     }
 
-    /// As `get`, with the path that was found, cloned, before its value.
-    ///
-    /// It asks and compares as `get` does, and clones the calls and answers of the path that was found. Beside an
-    /// oracle that refused, an error comes where a path was found and there was no memory for its clone. This project's
-    /// own.
+    /// As `get`, with a clone of the path. Also fails if cloning the path does.
     pub fn find<O: FnMut(&C) -> Result<R, AllocError>>(
         &self,
         key: &K,
@@ -251,7 +236,7 @@ impl<K: Eq + Hash, C: Eq + Hash, R: Ord, T> PlainTree<K, C, R, T> {
             × LooksUp O.FnMut C.eq R.eq (under K.eq self.now key.now)
             oracle.old oracle.new (Some value)) }
 
-        // For a caller that knows what its oracle answers from, all that matters.
+        // For a caller that only knows which answers its oracle has.
         ensures agreeing { (m : C → R)
             → Respects C.eq R.eq m
             → AnswersAs O.FnMut R.eq m oracle.old
@@ -267,7 +252,7 @@ impl<K: Eq + Hash, C: Eq + Hash, R: Ord, T> PlainTree<K, C, R, T> {
     }
 }
 
-/// The front that a sequence has in the tree. Its pairs are taken out of the sequence.
+/// The longest path that the sequence shares with the tree, whose pairs are taken out of the sequence.
 fn walk<K: Eq + Hash, C: Clone + Eq + Hash, R: Ord + Drop, T>(
     alloc: Global,
     entries: &[Entry<K, C, R, T>],
@@ -350,14 +335,8 @@ fn new_path<K: Eq + Hash, C: Clone + Eq + Hash, R: Ord + Drop, T>(
 impl<K: Eq + Hash + Drop, C: Clone + Eq + Hash, R: Ord + Drop, T: Drop> PlainTree<K, C, R, T> {
     /// Stores a value under a key and the path that a sequence takes in the tree.
     ///
-    /// The path follows stored ones as long as the sequence has their pairs, wherever these stand in it, and then has
-    /// the pairs that are left in the sequence's order. Every error leaves the tree as it was: `AlreadyExists` and
-    /// `MissingCall` come exactly where [`InsertError`] says so, and `Memory` where a request for memory was refused.
-    /// The key, the sequence and the value are dropped then.
-    ///
-    /// It goes along stored paths as `get` does, and compares as much, with the sequence in the place of an oracle. It
-    /// clones each call that it takes from a stored path, and takes memory for the new path and, at times, for more
-    /// room for entries. comemo's `CallTree::insert`.
+    /// The path follows stored paths while the sequence has their pairs, in any position; then it has the remaining
+    /// pairs in the sequence's order. On error the key, the sequence and the value are dropped.
     pub fn insert(
         &mut self,
         key: K,

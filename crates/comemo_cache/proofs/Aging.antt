@@ -1,4 +1,4 @@
--- What becomes of entries that are touched or that an eviction leaves, and that they stay legal.
+-- The entries after a touch or an eviction, and that they stay legal.
 use Rattle.std.proofs.Common.{◌≡◌, ◌∙◌, ◌+◌, ℕ, Bool, true, false, cond, List, [], ◌∷◌, IsTrue, map, filter, get_or, inl, inr, refl, sym, ap, subst}
 use Rattle.std.proofs.lemmas.Bool.{cases_Bool}
 use Rattle.std.proofs.lemmas.List.Elements.{All-head, All-tail, All-map, All-filter}

@@ -1,4 +1,4 @@
--- What is known of an entry that was found, and of one that is stored.
+-- What is known about an entry that was found, and one that is stored.
 use Rattle.std.proofs.Common.{◌≡◌, zero, suc, Bool, false, List, [], ◌∷◌, IsTrue, subst, ◌∙◌, arith}
 use Rattle.std.specs.List.{All, Any}
 use Rattle.std.specs.Cmp.{IsEquivalence}

@@ -1,4 +1,4 @@
--- Where a function names the calls that it asks: what is stored is a run of it, and no call is missing.
+-- A function that names its calls: what is stored is a run of it, and no call is missing.
 use Rattle.std.proofs.Common.{◌≡◌, Bool, List, IsTrue, Result, Ok, Err, IfErr}
 use Rattle.std.specs.List.{All}
 use Rattle.std.specs.Cmp.{IsEquivalence}

@@ -1,4 +1,4 @@
--- What a peek found.
+-- What a peek returns.
 use Rattle.std.proofs.Common.{ℕ, suc, [], ◌∷◌, false, Option, Some, None, arith, ◌≡◌, Bool, List, IsTrue, ◌∙◌, sym, ap, subst}
 use Rattle.std.specs.List.{All, Any}
 use Rattle.std.specs.Cmp.{IsEquivalence}

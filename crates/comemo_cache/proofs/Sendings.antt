@@ -1,4 +1,4 @@
--- How pairs go to a sink one after the other.
+-- How pairs are sent to a sink one by one.
 use Rattle.std.proofs.Common.{◌≡◌, ◌∙◌, suc, Bool, false, List, [], ◌∷◌, ◌++◌, refl, sym, ap, subst, Result, Ok, Err, IfOk, OnErr, arith, append_assoc, append-nil}
 use Rattle.std.specs.List.{All}
 use Rattle.comemo_track.specs.Sending.{BreaksOff}

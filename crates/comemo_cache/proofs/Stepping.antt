@@ -1,4 +1,4 @@
--- What a step of a cache answers, and lists of steps with one more.
+-- The reply to a step of a cache, and lists of steps with one more.
 use Rattle.std.proofs.Common.{◌≡◌, ◌∙◌, ◌≤◌, ◌<◌, ◌+◌, ℕ, Bool, true, false, List, [], ◌∷◌, ◌++◌, Some, None, Result, Ok, Err, IfOk, length, get_or, drop, refl, sym, ap, subst, suc, append_assoc, append-nil}
 use Rattle.std.proofs.Math.Numerals.{add-one}
 use Rattle.std.proofs.Math.Seq.{drop-cons}

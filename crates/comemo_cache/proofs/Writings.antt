@@ -1,4 +1,4 @@
--- Writes: those that are equal, and how they go to a sink and are done on an input one after the other.
+-- Writes: equal ones, and how they are sent to a sink and done on an input one by one.
 use Rattle.std.proofs.Common.{◌≡◌, ◌≤◌, ◌+◌, ℕ, suc, Bool, true, List, [], ◌∷◌, ◌++◌, length, IsTrue, refl, sym, ap, subst, ◌∙◌, arith, append_assoc, append-nil}
 use Rattle.std.specs.List.{All, AllZip}
 use Rattle.std.specs.Cmp.{IsEquivalence}

@@ -1,4 +1,4 @@
--- What a cache keeps, and when an entry is legal.
+-- What a cache holds, and when an entry is legal.
 use Rattle.std.specs.Prelude.{◌≡◌, ℕ, ◌+◌, nat_lt, Bool, ◌⊎◌, true, false, List, ◌∷◌, Option, None, map, filter, refl, IsTrue}
 use Rattle.std.specs.List.{All, Any}
 use Rattle.std.specs.List.Sorted.{IsPermutation}
@@ -9,7 +9,7 @@ use Rattle.comemo_base.specs.Lookup.{under, IsAsked, IsRefused}
 use Rattle.comemo_tree.specs.Change.{HasAnswers, Changes}
 use Rattle.comemo_cache.specs.Meaning.{Meaning, Invocation, Run, run, SameWrites, IsNamedRun}
 
--- the output of a run, the writes that it did, and how many evictions it outlived since it was stored or last hit
+-- the output of a run, its writes, and how many evictions it outlived since it was stored or last hit
 pub record Kept (O C : Type 0) : Type 0 where
   pub output : O
   pub writes : List C
@@ -18,33 +18,33 @@ pub record Kept (O C : Type 0) : Type 0 where
 abbrev pub kept_code : {O C : Type 0} → Coded O → Coded C → Coded (Kept O C)
 kept_code {O} {C} o c = code_by (O × (List C × ℕ)) (coded× o (coded× (coded_list c) coded_ℕ)) (λ x. (x.output, (x.writes, x.age))) (λ p. record { output = p.0; writes = p.1.0; age = p.1.1 }) (λ _. refl)
 
--- what a cache keeps of a memoized function
+-- the entries of a memoized function's cache
 abbrev pub Entries : Type 0 → Type 0 → Type 0 → Type 0 → Type 0
 Entries K C R O = List (Stored K C R (Kept O C))
 
--- an entry, but that its age is 0
+-- the entry with age 0
 abbrev pub young : {K C R O : Type 0} → Stored K C R (Kept O C) → Stored K C R (Kept O C)
 young e = record e { value = record e.value { age = 0 } }
 
--- an entry, but one older
+-- the entry with its age one more
 abbrev pub older : {K C R O : Type 0} → Stored K C R (Kept O C) → Stored K C R (Kept O C)
 older e = record e { value = record e.value { age = e.value.age + 1 } }
 
--- the entries whose age is below a bound, each one older
+-- the entries with an age below the bound, each one older
 abbrev pub aged : {K C R O : Type 0} → ℕ → Entries K C R O → Entries K C R O
 aged bound es = map older (filter (λ e. nat_lt e.value.age bound) es)
 
--- the entries after an eviction, in whatever order
+-- the entries after an eviction, in any order
 abbrev pub Evicts : {K C R O : Type 0} → ℕ → Entries K C R O → Entries K C R O → Type 0
 Evicts bound es es' = IsPermutation (aged bound es) es'
 
--- the entry under a key whose path has just these answers has age 0, and the others are as they were; where there is none, all are
+-- the entry under a key whose path has exactly these answers, if there is one, has age 0; the others are unchanged
 abbrev pub TouchesAt : {K C R O : Type 0} → (R → R → Bool) → (K → K → Bool) → K → List R → Entries K C R O → Entries K C R O → Type 0
 TouchesAt same eqk key answers es es' =
     Changes same eqk (λ old new. new ≡ record old { age = 0 }) key answers es es' ⊎ (All (λ e. ¬ HasAnswers same e.path answers) (under eqk es key) × (es' ≡ es))
 
--- clones of keys and of answers are equal, and the definition of a memoized function tells apart, at answers that tell no
--- equal calls apart, neither equal keys, nor equal writes, nor an output from its clone
+-- clones of keys and of answers are equal; under answers that treat equal calls alike, the definition of a memoized function
+-- treats equal keys, equal writes, and an output and its clone alike
 pub record MemoLaws {K C R O : Type 0} (eq : C → C → Bool) (same : R → R → Bool) (eqk : K → K → Bool) (key_clone : K → K → Type 0) (answer_clone : R → R → Type 0) (cloned : O → O → Type 0) (def : K → (C → R) → O → List C → Type 0) : Type 0 where
   pub outputs : (key : K) (m : C → R) (a b : O) (writes : List C) → Respects eq same m → cloned a b → def key m a writes → def key m b writes
   pub keys : (j k : K) (m : C → R) (output : O) (writes : List C) → Respects eq same m → IsTrue (eqk j k) → def j m output writes → def k m output writes
@@ -53,12 +53,12 @@ pub record MemoLaws {K C R O : Type 0} (eq : C → C → Bool) (same : R → R �
   pub answer_clones : (x y : R) → answer_clone x y → IsTrue (same x y)
 
 module _ {K C R O : Type 0} (M : Meaning K C R O) where
-  -- whichever answers agree with what a run recorded, what it came to is right at its key
+  -- for all answers that agree with what a run recorded, its output and writes are right at its key
   abbrev pub Stands : Run K C R O → Type 0
   Stands ran = (m : C → R) → Respects M.same_call M.same_answer m → Agrees M.same_answer m ran.pairs → M.def ran.key m ran.output ran.writes
 
-  -- what an entry keeps stands, its path has reads alone, and its writes are writes; and where the asked calls are named, its path
-  -- is whole
+  -- an entry's output and writes are right for all answers that agree with its path; its path has only reads, and its writes
+  -- are writes; and if the asked calls are named, its path is causal and complete
   pub record IsLegal (e : Stored K C R (Kept O C)) : Type 0 where
     pub stands : Stands (run e.key e.path e.value.output e.value.writes)
     pub reads : All (λ p. M.is_write p.0 ≡ false) e.path
@@ -79,12 +79,13 @@ module _ {K C R O : Type 0} (M : Meaning K C R O) where
     abbrev pub Has : Run K C R O → Type 0
     Has ran = Any (IsEntryOf call.answers ran) (under M.same_key es call.key)
 
-    -- so it is, and it has this age
+    -- the same, and the entry has this age
     abbrev pub HasAged : Run K C R O → ℕ → Type 0
     HasAged ran age = Any (λ e. IsEntryOf call.answers ran e × (e.value.age ≡ age)) (under M.same_key es call.key)
 
-    -- an entry under the call's key agrees with the call's answers, and has this output, these writes and this age, up to clones. Its path
-    -- isn't told, but there is one: of reads alone, the output and the writes stand by it, and where the asked calls are named, it is whole
+    -- an entry under the call's key agrees with the call's answers, and has this output, these writes and this age, up to
+    -- clones; its path isn't shown, but has only reads, and the output and the writes are right by it; if the asked calls are
+    -- named, it is causal and complete
     pub record IsPeeked (output : O) (writes : List C) (age : ℕ) : Type 0 where
       pub pairs : List (C × R)
       pub kept : HasAged (run call.key pairs output writes) age
@@ -93,19 +94,19 @@ module _ {K C R O : Type 0} (M : Meaning K C R O) where
       pub written : All (λ c. M.is_write c ≡ true) writes
       pub settled : IsNamedRun M call.key pairs
 
-    -- a look-up for the call asked this, was answered as the call's input answers, and found nothing
+    -- a look-up for the call asked this, got the answers of the call's input, and found nothing
     abbrev pub IsMiss : List (C × R) → Type 0
     IsMiss asked = Agrees M.same_answer call.answers asked × IsAsked M.same_call M.same_answer (under M.same_key es call.key) asked (let none : Option (Kept O C) = None in none)
 
-    -- a look-up for the call was refused: the answer to a call that comes next on a path, on which all before was answered as the
-    -- call's input answers; or a clone of the entry that it found
+    -- a look-up for the call failed: at the answer to the next call on a path, after the answers of the call's input; or at a
+    -- clone of the entry that it found
     abbrev pub IsRefusedLook : Type 0
     IsRefusedLook =
         ((asked : List (C × R)) × (next : C) × Agrees M.same_answer call.answers asked × IsRefused M.same_call M.same_answer (under M.same_key es call.key) asked next)
         ⊎ Any (λ e. Agrees M.same_answer call.answers e.path) (under M.same_key es call.key)
 
-    -- the entries after a hit: the one under the call's key that agrees with the call's answers has age 0, and the others are as
-    -- they were
+    -- the entries after a hit: the one under the call's key that agrees with the call's answers has age 0, and the others are
+    -- unchanged
     pub record Touches (es' : Entries K C R O) : Type 0 where
       pub entry : Stored K C R (Kept O C)
       pub others : List (Stored K C R (Kept O C))

@@ -3,7 +3,7 @@ use Rattle.std.specs.Prelude.{◌≡◌, Bool, List, [], IsTrue}
 use Rattle.std.specs.List.{AllZip}
 use Rattle.comemo_base.specs.Runs.{IsRun}
 
--- which calls a memoized function asks under a key and given answers: it names none, or these
+-- the calls that a memoized function asks under a key and given answers: it names none, or these
 pub data Naming (K C R : Type 0) : Type 1 where
   unnamed : Naming K C R
   names : (K → (C → R) → C → Type 0) → Naming K C R
@@ -20,8 +20,8 @@ abbrev pub IsRunOf : {K C R : Type 0} → (K → K → Bool) → (C → C → Bo
 IsRunOf eqk eq same unnamed key pairs = Unit {0}
 IsRunOf eqk eq same (names asks) key pairs = IsRun eq same (AsksAlike eqk eq asks key) pairs
 
--- when two calls, two answers and two keys are equal, which calls are writes, and when an output is a clone of another;
--- which outputs and writes are right at a key and at answers; and which calls are asked, where they are named
+-- when two calls, two answers and two keys are equal, which calls are writes, and when an output is a clone of another; which
+-- outputs and writes are right at a key and answers; and which calls are asked, if they are named
 pub record Meaning (K C R O : Type 0) : Type 1 where
   pub same_call : C → C → Bool
   pub same_answer : R → R → Bool
@@ -35,11 +35,11 @@ pub record Meaning (K C R O : Type 0) : Type 1 where
 abbrev pub IsNamed : {K C R O : Type 0} → Meaning K C R O → Type 0
 IsNamed M = Names M.naming
 
--- where it does, the pairs are what a run of it under the key asks, in some order: they are causal and complete
+-- if it does, the pairs are what a run under the key asks, in some order: they are causal and complete
 abbrev pub IsNamedRun : {K C R O : Type 0} → Meaning K C R O → K → List (C × R) → Type 0
 IsNamedRun M key pairs = IsRunOf M.same_key M.same_call M.same_answer M.naming key pairs
 
--- the same, where an output has no clone but itself
+-- the same, if an output's only clone is itself
 abbrev pub exactly : {K C R O : Type 0} → Meaning K C R O → Meaning K C R O
 exactly M = record M { is_clone = λ a b. b ≡ a }
 
@@ -47,11 +47,11 @@ exactly M = record M { is_clone = λ a b. b ≡ a }
 abbrev pub SameWrites : {C : Type 0} → (C → C → Bool) → List C → List C → Type 0
 SameWrites eq V W = AllZip (λ a b. IsTrue (eq a b)) V W
 
--- what a function that only reads means, where these outputs are right: that there are no writes, and such an output
+-- the meaning of a function that only reads: no writes, and one of these outputs
 abbrev pub reading : {K C R O : Type 0} → (K → (C → R) → O → Type 0) → K → (C → R) → O → List C → Type 0
 reading right key m output writes = (writes ≡ []) × right key m output
 
--- a call of a memoized function: its key, what its input answers, and whether the cache is looked up and the run kept
+-- a call of a memoized function: its key, its input's answers, and whether the cache is looked up and the run stored
 pub record Invocation (K C R : Type 0) : Type 0 where
   pub key : K
   pub answers : C → R
@@ -61,7 +61,7 @@ pub record Invocation (K C R : Type 0) : Type 0 where
 abbrev pub invocation : {K C R : Type 0} → K → (C → R) → Bool → Invocation K C R
 invocation k m b = record { key = k; answers = m; enabled = b }
 
--- what a run came to: under a key, by the reads that it recorded with their answers, an output, and the writes that it did
+-- a run: under a key, from the recorded reads with their answers, an output, and its writes
 pub record Run (K C R O : Type 0) : Type 0 where
   pub key : K
   pub pairs : List (C × R)

@@ -1,4 +1,4 @@
--- What a list answers tells no equal calls apart. It says nothing that a reader must believe.
+-- A list's answers treat equal calls alike. A reader needn't trust this.
 use Rattle.std.proofs.Common.{◌≡◌, Bool, cond, List, [], ◌∷◌, IsTrue, Some, refl, ap, subst}
 use Rattle.std.specs.Cmp.{IsEquivalence}
 use Rattle.std.specs.Map.{lookup}

@@ -1,4 +1,4 @@
--- When a run is stored, and what is kept of it.
+-- When a run is stored, and what is stored of it.
 use Rattle.std.specs.Prelude.{◌≡◌}
 use Rattle.comemo_base.specs.Lookup.{under}
 use Rattle.comemo_base.specs.Insertion.{Exists, Misses, Adds}
@@ -15,6 +15,6 @@ module _ {K C R O : Type 0} (M : Meaning K C R O) (es : Entries K C R O) (ran : 
     pub is_new : kept.age ≡ 0
     pub adds : Adds M.same_call M.same_answer M.same_key es ran.key ran.pairs kept es'
 
-  -- so a run is stored: no entry has all its pairs among those of the run, none lacks a call of it, and there is one more
+  -- a run is stored: no entry has all its pairs among those of the run, none lacks a call of it, and there is one more
   abbrev pub Stores : Entries K C R O → Type 0
   Stores es' = (¬ Exists M.same_call M.same_answer (under M.same_key es ran.key) ran.pairs) × (¬ Misses M.same_call M.same_answer (under M.same_key es ran.key) ran.pairs) × AddsRun es'

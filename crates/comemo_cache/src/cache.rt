@@ -1,4 +1,5 @@
-//! Memoized functions, and the cache of what their runs gave.
+//! Memoized functions, and the cache of their outputs. `look`, `peek`, `store` and `touch` follow one stored path, and
+//! cost what the operations of `CallTree` do.
 ghost use Rattle.std.specs.Prelude.{◌≡◌, ◌⊎◌, ◌+◌, nat_lt, [], List, true, false, IsTrue, option_copied, option_map, IfOk, IfErr, OnOk, OnErr, IfSome, IfNone, MatchOption, length};
 ghost use Rattle.std.specs.List.{All, Any};
 ghost use Rattle.comemo_base.specs.Answers.{Agrees};
@@ -18,40 +19,38 @@ use std::alloc::{AllocError, Global};
 use std::hash::Hash;
 use std::marker::Model;
 
-/// A memoized function: the types of its calls, keys, answers and outputs, and what it means.
+/// A memoized function: its types, and which outputs and writes are right at a key and at answers, by `def`.
 ///
-/// `def` says which outputs and writes are right at a key and at answers. It knows of no cache. Its laws say that, at
-/// answers that tell no equal calls apart, it doesn't tell apart equal keys or equal writes, or a clone from its
-/// original. This project's own: comemo has the function alone.
+/// `def` doesn't depend on a cache. By its laws it treats equal keys, equal writes and clones alike, under answers that
+/// treat equal calls alike.
 pub trait Memo {
     /// What a run can ask.
     type Call: Call;
 
-    /// What a call of the function is kept under: what isn't tracked of its arguments.
+    /// The untracked arguments, under which a call is cached.
     type Key: Clone + Eq + Hash;
 
-    /// What a run is answered: one type for all calls.
+    /// The answer to a read: one type for all calls.
     type Answer: Clone + Ord;
 
-    /// What the function gives.
+    /// The output.
     type Out: Clone;
 
     // at this key and these answers, this output and these writes are right
     ghost def: { Self.Key → (Self.Call → Self.Answer) → Self.Out → List Self.Call → Type 0 };
 
-    // which calls are asked at a key and at answers, where the function names them; a cache keeps then that each path is
-    // causal and complete, and no call is missing where a run is stored
+    // the calls that are asked at a key and answers, if the function names them; then each path in a cache is causal
+    // and complete, and storing a run never fails with `MissingCall`
     ghost naming: { Naming Self.Key Self.Call Self.Answer } = { unnamed };
 
-    // clones of keys and of answers are equal, and the definition tells apart neither equal keys nor equal writes, nor an
-    // output from its clone
+    // clones of keys and answers are equal; the definition treats equal keys, equal writes, and an output and its clone
+    // alike
     ghost laws: { MemoLaws Self.Call.eq Self.Answer.eq Self.Key.eq
         Self.Key.is_clone Self.Answer.is_clone Self.Out.is_clone def };
 }
 
-/// What a memoized function means, as one value, for contracts to cite: `⟦<M as Meant>⟧.meaning`.
-///
-/// There is nothing to implement. This project's own.
+/// What a memoized function means, as one value, for contracts: `⟦<M as Meant>⟧.meaning`. There is nothing to
+/// implement.
 pub trait Meant: Memo {
     ghost meaning: { Meaning Self.Key Self.Call Self.Answer Self.Out };
 }
@@ -68,7 +67,7 @@ impl<M: Memo> Meant for M {
     } };
 }
 
-/// What a run gave, as the cache keeps it.
+/// The result of a run, as the cache holds it.
 #[derive(Drop)]
 struct KeptRun<M: Memo> {
     output: M::Out,
@@ -88,10 +87,9 @@ impl<M: Memo> Model for KeptRun<M> {
 
 /// A cache of one memoized function: outputs under the keys and the paths of calls of their runs.
 ///
-/// Contracts see it as a list of entries, of whose order no clause speaks. Its type keeps that each entry is legal:
-/// whichever answers agree with its path, its output and its writes are right at its key. It keeps keys, calls, answers
-/// and outputs themselves. All entries under a key share one copy of it, and those whose paths have an equal front share its
-/// calls and answers. It drops entries in `evict` alone. comemo's `CacheData`.
+/// Contracts see a list of entries, whose order doesn't matter. Each entry is legal: its output and its writes are
+/// right at its key for all answers that agree with its path. Entries under one key share one copy of it; paths with an
+/// equal prefix share its calls and answers. Only `evict` drops entries.
 #[derive(Drop)]
 pub struct CacheData<M: Memo> {
     tree: CallTree<M::Key, M::Call, M::Answer, KeptRun<M>>,
@@ -122,35 +120,31 @@ impl<M: Memo> Model for CacheData<M> {
     })) s.tree };
 }
 
-/// What a look-up found: the path of an entry, with its calls cloned, and clones of its output and its writes.
-///
-/// This project's own.
+/// What a look-up found: the entry's path, output and writes, cloned.
 #[derive(Drop)]
 pub struct Found<M: Memo> {
-    /// The path: the calls that were asked, in order, with the answers that were given, which equal the kept ones.
+    /// The calls of the path, in order, with the answers of this look-up, which equal the stored ones.
     pub pairs: Vec<(M::Call, M::Answer)>,
     /// The output.
     pub output: M::Out,
-    /// The writes that the run did, in order.
+    /// The run's writes, in order.
     pub writes: Vec<M::Call>,
     /// How many evictions the entry outlived since it was stored or last hit.
     pub age: usize,
 }
 
-/// What a peek found: of an entry a clone of its output and of its writes, but not its path.
-///
-/// This project's own.
+/// What a peek found: as `Found`, without the path.
 #[derive(Drop)]
 pub struct Peeked<M: Memo> {
     /// The output.
     pub output: M::Out,
-    /// The writes that the run did, in order.
+    /// The run's writes, in order.
     pub writes: Vec<M::Call>,
     /// How many evictions the entry outlived since it was stored or last hit.
     pub age: usize,
 }
 
-/// The path under a key of a tree of reads that an input's answers agree with, its calls cloned, with its value.
+/// The entry under a key whose path agrees with an input's answers, and the path, its calls cloned.
 fn find_agreeing<'a, K: Clone + Eq + Hash, In: Input, T>(
     tree: &'a CallTree<K, In::Call, In::Answer, T>,
     key: &K,
@@ -185,9 +179,7 @@ fn find_agreeing<'a, K: Clone + Eq + Hash, In: Input, T>(
     )
 }
 
-/// The value under a key of a tree of reads whose path an input's answers agree with.
-///
-/// It asks for no memory. Fails if the input refused an answer.
+/// The value under a key whose path agrees with an input's answers. Does not allocate; fails only if the input does.
 fn get_agreeing<'a, K: Clone + Eq + Hash, In: Input, T>(
     tree: &'a CallTree<K, In::Call, In::Answer, T>,
     key: &K,
@@ -219,9 +211,7 @@ fn get_agreeing<'a, K: Clone + Eq + Hash, In: Input, T>(
 }
 
 impl<M: Memo> CacheData<M> {
-    /// An empty cache. It takes no memory.
-    ///
-    /// comemo's `CacheData::default`.
+    /// An empty cache. Does not allocate.
     pub fn new(alloc: Global) -> Self
         ensures { result ≡ [] }
     {
@@ -230,20 +220,17 @@ impl<M: Memo> CacheData<M> {
         }
     }
 
-    /// How many entries the cache has. It takes constant time. This project's own.
+    /// How many entries the cache has.
     pub fn len(&self) -> usize
         ensures { result ≡ length self.now }
     {
         self.tree.len()
     }
 
-    /// Looks for the entry under a key whose path the input's answers agree with, and gives clones of it.
+    /// Finds the entry under a key whose path agrees with the input's answers, and clones it.
     ///
-    /// It asks the input the calls along one stored path, each once, as `CallTree::find` does: it finds the key by one
-    /// hash look-up, and each answer in an ordered map of those that are stored at its place. It keeps a list of the
-    /// pairs on its way, and clones nothing but what it gives: the calls, the output and the writes. Nothing changes. An
-    /// error says that there was no memory for an answer of the input or, where an entry was found, for the list or the
-    /// clones. It is the first half of a hit of comemo's `memoize`.
+    /// It asks the calls of one stored path, each once. Fails if an answer does or, once an entry is found, if a clone
+    /// does.
     pub fn look<In: Input<Call = M::Call, Key = M::Key, Answer = M::Answer>>(
         &self,
         key: &M::Key,
@@ -291,12 +278,7 @@ impl<M: Memo> CacheData<M> {
         }))
     }
 
-    /// Looks for the entry under a key whose path the input's answers agree with, and gives clones of its output and its
-    /// writes, but not of its path.
-    ///
-    /// It is for a hit whose caller keeps no path: it asks as `look` does, and clones nothing of the path, nor does it ask
-    /// for memory for it. Nothing changes. Fails if there was no memory for an answer of the input or, where an entry was
-    /// found, for a clone of its output or its writes. This project's own.
+    /// As `look`, for a caller that doesn't need the path, which isn't cloned.
     pub fn peek<In: Input<Call = M::Call, Key = M::Key, Answer = M::Answer>>(
         &self,
         key: &M::Key,
@@ -330,13 +312,10 @@ impl<M: Memo> CacheData<M> {
         }))
     }
 
-    /// Keeps the output of a run, and its writes, under a key and the sequence of calls that the run asked.
+    /// Stores a run: its output and writes under its key and the sequence of its calls.
     ///
-    /// Output and writes have to be right for all answers that agree with the sequence, which holds reads alone. The
-    /// entry's path is the one that the sequence takes in the tree. Every error leaves the cache as it was, and comes where
-    /// [`InsertError`] says so; what was handed in is dropped then. As `CallTree::insert` does, it takes each pair of
-    /// the stored front out of the sequence, and then adds a node for each pair that is left. It is the end of a miss
-    /// of comemo's `memoize`.
+    /// The output and the writes must be right for all answers that agree with the sequence, which holds reads only. On
+    /// error all arguments are dropped.
     pub fn store(
         &mut self,
         key: M::Key,
@@ -366,10 +345,7 @@ impl<M: Memo> CacheData<M> {
         self.tree.insert(key, sequence, kept)
     }
 
-    /// Sets the age of the entry under a key whose path has just these answers, in order, to 0.
-    ///
-    /// Where there is none, nothing happens. It asks nothing and takes no memory, and the time of a look-up without its
-    /// questions. It is the second half of a hit of comemo's `memoize`.
+    /// Sets the age of the entry under a key whose path has exactly these answers to 0. Does not allocate.
     pub fn touch(&mut self, key: &M::Key, answers: &[M::Answer])
         ensures { TouchesAt M.Answer.eq M.Key.eq key.now answers.now self.old self.new }
     {
@@ -382,10 +358,9 @@ impl<M: Memo> CacheData<M> {
         );
     }
 
-    /// Drops the entries whose age is the bound or more; the others grow one older.
+    /// Drops the entries whose age is at least the bound; the others' ages grow by one. `evict(0)` drops all.
     ///
-    /// So `evict(0)` drops all. Each age is compared before one is added, so the sum always fits. It takes no memory, and
-    /// the time of `CallTree::retain`, which is linear in the entries. comemo's `CacheData::evict`, which adds first.
+    /// Linear in the entries. Does not allocate.
     pub fn evict(&mut self, max_age: usize)
         ensures { Evicts max_age self.old self.new }
     {
@@ -398,21 +373,22 @@ impl<M: Memo> CacheData<M> {
                 if kept.age >= max_age {
                     return false;
                 }
+                // Never overflows: the age is below the bound.
                 kept.age += 1;
                 true
             },
         );
     }
 
-    /// Tells a proof what every value keeps: where the function names the calls that it asks, each path is causal and
-    /// complete. It does nothing when it runs.
+    /// Makes known to a proof that paths are causal and complete, if the function names its calls. Does nothing at run
+    /// time.
     pub fn is_settled(&self)
         ensures { All (λ e. IsNamedRun ⟦<M as Meant>⟧.meaning e.key e.path) self.now }
     {
         self.tree.is_parted();
     }
 
-    /// What the type of the tree keeps, told to a proof.
+    /// Makes the tree's invariant known to a proof.
     pub(crate) fn is_tree(&self)
         ensures { IsTree M.Call.eq M.Answer.eq M.Key.eq self.now }
     {

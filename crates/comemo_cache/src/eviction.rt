@@ -1,5 +1,5 @@
-//! One eviction for several caches: what a function needs of caches is evicted by one call, and what evicts a shared
-//! cache can be kept in a list.
+//! One eviction for several caches: those that a function needs, or those in a list. Evictions take time linear in all
+//! entries, and don't allocate.
 ghost use Rattle.std.specs.Prelude.{◌≡◌, ℕ};
 ghost use Rattle.comemo_cache.specs.Cache.{Evicts};
 
@@ -8,22 +8,18 @@ use crate::shared::Cache;
 use std::alloc::Global;
 use std::sync::{Arc, Wait};
 
-/// Caches that one call evicts: a cache, none, and pairs and triples of such. So what a function needs (`Function::Needs`)
-/// is evicted by one call, at the end of a round.
-///
-/// comemo's `evict`, which evicts all caches of the program; here it is those that one has.
+/// Caches that one call evicts: a cache, none, or pairs and triples of such. So one call evicts all that a function
+/// needs (`Function::Needs`).
 pub trait Caches {
-    /// What an eviction by this bound may leave of what was there before.
+    /// What an eviction with this bound may leave.
     ghost evicts: { ℕ → Self → Self → Type 0 };
 
-    /// Evicts each of the caches by one bound: see `CacheData::evict`.
-    ///
-    /// It takes time linear in the entries of all, and no memory. comemo's `evict`.
+    /// Evicts each of the caches with the same bound, as `CacheData::evict`.
     fn evict_all(&mut self, max_age: usize)
         ensures { Self.evicts max_age self.old self.new };
 }
 
-/// Nothing is evicted.
+/// Evicts nothing.
 impl Caches for () {
     ghost use Rattle.std.specs.Prelude.{◌≡◌};
 
@@ -32,7 +28,7 @@ impl Caches for () {
     fn evict_all(&mut self, _max_age: usize) {}
 }
 
-/// A cache is evicted.
+/// Evicts the cache.
 impl<M: Memo> Caches for CacheData<M> {
     ghost use Rattle.comemo_cache.specs.Cache.{Evicts};
 
@@ -43,7 +39,7 @@ impl<M: Memo> Caches for CacheData<M> {
     }
 }
 
-/// Both are evicted.
+/// Evicts both.
 impl<A: Caches, B: Caches> Caches for (A, B) {
     ghost evicts = { λ bound old new. A.evicts bound old.0 new.0 × B.evicts bound old.1 new.1 };
 
@@ -53,7 +49,7 @@ impl<A: Caches, B: Caches> Caches for (A, B) {
     }
 }
 
-/// All three are evicted.
+/// Evicts all three.
 impl<A: Caches, B: Caches, C: Caches> Caches for (A, B, C) {
     ghost evicts = { λ bound old new. A.evicts bound old.0 new.0
         × B.evicts bound old.1 new.1 × C.evicts bound old.2 new.2 };
@@ -65,15 +61,13 @@ impl<A: Caches, B: Caches, C: Caches> Caches for (A, B, C) {
     }
 }
 
-/// What evicts a cache of any function. Boxed, such are kept in one list: see `register_evictor`.
-///
-/// comemo keeps functions that evict in a list of the program's own.
+/// Evicts a cache of any function. Boxed, such values form one list: see `register_evictor`.
 pub trait Evict: Drop {
-    /// Evicts by a bound, as `CacheData::evict` does.
+    /// Evicts with a bound, as `CacheData::evict`.
     fn evict(&self, max_age: usize);
 }
 
-/// Evicts a cache that threads share, by a right to wait for its locks that it holds. This project's own.
+/// Evicts a shared cache, with a right to wait for its locks.
 #[derive(Drop)]
 pub struct Evictor<M: Memo, R: Wait + Drop> {
     cache: Arc<Cache<M>, Global>,
@@ -81,7 +75,7 @@ pub struct Evictor<M: Memo, R: Wait + Drop> {
 }
 
 impl<M: Memo, R: Wait + Drop> Evictor<M, R> {
-    /// What evicts this cache. It takes no memory. This project's own.
+    /// An evictor of this cache.
     pub fn new(cache: Arc<Cache<M>, Global>, rt: R) -> Self {
         Evictor { cache, rt }
     }

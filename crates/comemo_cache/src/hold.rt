@@ -1,4 +1,4 @@
-//! What holds a cache for a call: the cache itself, or a share of one that threads share.
+//! What gives a call access to a cache: the cache itself, or a share of one that threads share.
 ghost use Rattle.std.specs.Prelude.{◌≡◌, [], Option, Some, true, false, IfOk, IfErr, OnOk, OnErr, IfSome, MatchOption, List};
 ghost use Rattle.std.specs.List.{All};
 ghost use Rattle.comemo_base.specs.Lookup.{under};
@@ -16,21 +16,21 @@ use comemo_track::input::Input;
 use comemo_track::track::Call;
 use std::alloc::AllocError;
 
-/// The reads of a run that a holder of a cache keeps, which are a `CallSequence`.
+/// The reads of a run, which are a `CallSequence`.
 ///
-/// The trait stands for this one type, since a method of `Hold` can't name it: the checker doesn't cover a trait's method
-/// that takes a type with a map in it. This project's own.
+/// A trait for this single type, since a method of `Hold` can't name it: the checker doesn't cover a trait's method
+/// whose argument has a map in it.
 pub trait Reads {
     /// What was asked.
     type Call: Call;
 
-    /// What was answered.
+    /// The answers.
     type Answer: Clone + Ord;
 
     // the pairs, in the order in which they were asked
     ghost pairs: { Self → List (Self.Call × Self.Answer) };
 
-    /// The sequence itself. It takes no memory and constant time.
+    /// The sequence itself.
     fn into_sequence(self) -> CallSequence<Self::Call, Self::Answer>
         ensures { result.pairs ≡ pairs self };
 }
@@ -47,16 +47,14 @@ impl<C: Call, R: Clone + Ord> Reads for CallSequence<C, R> {
     }
 }
 
-/// What a call of a memoized function is handed for its cache: a `CacheData`, which is the only holder of its entries,
-/// or a `Shared`, which takes a lock for each of its steps.
+/// Access to the cache of a call: a `CacheData`, owned by the caller, or a `Shared`, which takes a lock in each step.
 ///
-/// A call looks, peeks, touches and stores by it, and does nothing else with it. One that tells its entries tells them
-/// before and after each step, and a contract says what became of them. This project's own.
+/// A call only looks, peeks, touches and stores. If the entries are known, contracts state what each step does to them.
 pub trait Hold<M: Memo> {
-    // the entries, where no one else can change them
+    // the entries, if nothing else can change them
     ghost entries: { Self → Option (Entries M.Key M.Call M.Answer M.Out) };
 
-    /// Looks for an entry, as `CacheData::look` does.
+    /// As `CacheData::look`.
     fn look<In: Input<Call = M::Call, Key = M::Key, Answer = M::Answer>>(
         &mut self,
         key: &M::Key,
@@ -80,7 +78,7 @@ pub trait Hold<M: Memo> {
         ensures settled { IfOk result (λ found. IfSome found (λ f.
             IsNamedRun ⟦<M as Meant>⟧.meaning key.now f.pairs.items)) };
 
-    /// Looks for an entry without its path, as `CacheData::peek` does.
+    /// As `CacheData::peek`.
     fn peek<In: Input<Call = M::Call, Key = M::Key, Answer = M::Answer>>(
         &mut self,
         key: &M::Key,
@@ -95,12 +93,12 @@ pub trait Hold<M: Memo> {
             (invocation key.now (In.answers input.old) true)
             f.output f.writes.items f.age))) };
 
-    /// Sets an entry's age to 0, as `CacheData::touch` does.
+    /// As `CacheData::touch`.
     fn touch(&mut self, key: &M::Key, answers: &[M::Answer])
         ensures { Leads (entries self.old) (entries self.new)
             (TouchesAt M.Answer.eq M.Key.eq key.now answers.now) };
 
-    /// Keeps the output of a run, as `CacheData::store` does.
+    /// As `CacheData::store`.
     fn store<Q: Reads<Call = M::Call, Answer = M::Answer>>(
         &mut self,
         key: M::Key,

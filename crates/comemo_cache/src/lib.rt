@@ -1,9 +1,9 @@
-//! Caches: what is kept of memoized functions, and the steps that a call takes with it.
+//! Caches: what is stored of memoized functions, and the steps of a call.
 //!
-//! A `CacheData` keeps entries: an output under a key, with what its run asked and was answered. A call looks for an entry
-//! that agrees with its tracked arguments, touches what it hits, and stores what it ran; an eviction drops what wasn't hit
-//! for long. A `Cache` is one for many threads. `Hold` is what a call is handed of either. The crate `comemo` has the
-//! calls, and hands on all that this one has.
+//! A `CacheData` holds entries: an output under a key, with the calls of its run and their answers. A call looks for an
+//! entry that agrees with its tracked arguments, touches it on a hit, and otherwise stores its run. An eviction drops
+//! what wasn't hit for long. Threads share a `Cache`. `Hold` gives a call access to either. The crate `comemo` has the
+//! calls, and passes on all of this one.
 #![tactic(auto)]
 
 pub mod cache;

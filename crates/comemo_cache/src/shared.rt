@@ -1,4 +1,5 @@
-//! One cache for many threads: a lock around a cache, and what holds it for a call.
+//! One cache for many threads: locks around the entries, and the access that calls have. Only storing and look-ups
+//! allocate.
 ghost use Rattle.std.specs.Prelude.{◌≡◌, [], Option, None, Some, true, false, IfErr, IfSome, OnOk, OnErr};
 ghost use Rattle.std.specs.Option.{unwrap_or};
 ghost use Rattle.std.specs.Sync.RwLock.{write_guard_value};
@@ -23,13 +24,13 @@ use std::marker::{Model, PhantomData};
 use std::sync::atomic::{AtomicU64, Ordering};
 use std::sync::{Arc, RwLock, RwLockWriteGuard, Wait};
 
-/// How many lanes a part has.
+/// The number of lanes in a part.
 const LANES: usize = 4;
 
-/// How many parts a cache has. The first six bits of a hash say which of them is a key's.
+/// The number of parts of a cache. The first six bits of a key's hash choose its part.
 const PARTS: usize = 64;
 
-/// A way to the entries of a part, or to none while the part never had one.
+/// A reference to the entries of a part, or to none if the part never had one.
 #[derive(Drop)]
 struct Way<M: Memo> {
     data: Option<Arc<CacheData<M>>>,
@@ -52,18 +53,19 @@ impl<M: Memo> Model for Way<M> {
 }
 
 impl<M: Memo> Way<M> {
-    /// A way to none. It takes no memory.
+    /// A reference to none.
     fn new() -> Self
         ensures { result ≡ None }
     {
         Way { data: None }
     }
 
-    /// Another way to where this one leads, or to none.
+    /// Another reference to the same entries, or to none.
     fn another(&self) -> Self
         ensures { IfSome result (λ es. self.now ≡ Some es) }
     {
         match &self.data {
+            // A clone fails if the count is full. Look-ups in that lane then find nothing, which is safe.
             Some(data) => Way {
                 data: data.clone().ok(),
             },
@@ -71,7 +73,7 @@ impl<M: Memo> Way<M> {
         }
     }
 
-    /// Has the way lead to entries, which are none yet, where it led nowhere.
+    /// Makes an empty list of entries if there is none.
     fn begin(&mut self, alloc: Global) -> Result<(), AllocError>
         ensures begun { OnOk result (self.new ≡ Some (unwrap_or self.old [])) }
         ensures err { OnErr result (self.new ≡ self.old) }
@@ -82,7 +84,7 @@ impl<M: Memo> Way<M> {
         Ok(())
     }
 
-    /// Keeps the output of a run among the entries, as `CacheData::store` does, where there is no other way to them.
+    /// Stores a run, as `CacheData::store`. Fails if there is another reference to the entries.
     fn store(
         &mut self,
         key: M::Key,
@@ -108,12 +110,13 @@ impl<M: Memo> Way<M> {
             return Err(InsertError::Memory);
         };
         let Some(entries) = Arc::get_mut(data) else {
+            // Not reached after `close`, which leaves one reference.
             return Err(InsertError::Memory);
         };
         entries.store(key, reads, output, writes)
     }
 
-    /// Sets an entry's age to 0, as `CacheData::touch` does, where there is no other way to the entries.
+    /// Sets an entry's age to 0, as `CacheData::touch`, unless there is another reference to the entries.
     fn touch(&mut self, key: &M::Key, answers: &[M::Answer])
         ensures { ChangesBehind (TouchesAt M.Answer.eq M.Key.eq key.now answers.now)
             self.old self.new }
@@ -126,7 +129,7 @@ impl<M: Memo> Way<M> {
         }
     }
 
-    /// Drops old entries, as `CacheData::evict` does, where there is no other way to them.
+    /// Drops old entries, as `CacheData::evict`, unless there is another reference to them.
     fn evict(&mut self, max_age: usize)
         ensures { ChangesBehind (Evicts max_age) self.old self.new }
     {
@@ -139,19 +142,19 @@ impl<M: Memo> Way<M> {
     }
 }
 
-/// A lane of a part: a lock, and behind it a way to the part's entries.
+/// A lane of a part: a lock, and behind it a reference to the part's entries.
 ///
-/// A look-up takes the lock of its own lane alone, to read. So look-ups in several lanes write to no word in common, and
-/// none of them waits until another processor hands over the words of a lock.
+/// A look-up locks only its own lane, for reading. So look-ups in different lanes write no memory in common, and don't
+/// wait for each other's processors.
 #[derive(Drop)]
 struct Lane<M: Memo> {
     way: RwLock<Way<M>>,
-    // So many that a lane is 128 bytes long, as many as processors fetch at once: what is done to one lane disturbs no other.
+    // Padding to 128 bytes, which processors fetch at once, so that lanes don't disturb each other.
     apart: [u64; 10],
 }
 
 impl<M: Memo> Lane<M> {
-    /// A lane of a part without entries. It takes no memory.
+    /// A lane of a part without entries.
     fn new() -> Self {
         Lane {
             way: RwLock::new(Way::new()),
@@ -159,13 +162,13 @@ impl<M: Memo> Lane<M> {
         }
     }
 
-    /// Those of one part.
+    /// The lanes of one part.
     fn part(_: PhantomData<Self>) -> [Self; LANES] {
         [Lane::new(), Lane::new(), Lane::new(), Lane::new()]
     }
 }
 
-/// All lanes of a part, held to write: no look-up is on its way then.
+/// All lanes of a part, locked for writing: no look-up is under way.
 #[derive(Drop)]
 struct Alone<'a, M: Memo> {
     first: RwLockWriteGuard<'a, Way<M>>,
@@ -175,7 +178,7 @@ struct Alone<'a, M: Memo> {
 }
 
 impl<'a, M: Memo> Alone<'a, M> {
-    /// Takes the locks of a part's lanes, in their order, so that no two who do so wait for each other.
+    /// Locks a part's lanes in their order, so that no two callers wait for each other.
     fn new<R: Wait>(rt: &R, part: &'a [Lane<M>; LANES]) -> Self {
         Alone {
             first: part[0].way.write(rt),
@@ -187,7 +190,7 @@ impl<'a, M: Memo> Alone<'a, M> {
 }
 
 impl<M: Memo> Alone<'_, M> {
-    /// Leaves the first lane as the only one that leads to the entries, so that they can be changed.
+    /// Leaves the first lane's reference as the only one, so that the entries can be changed.
     fn close(&mut self)
         ensures first { write_guard_value self.new.first ≡ write_guard_value self.old.first }
         ensures second { write_guard_value self.new.second ≡ None }
@@ -199,7 +202,7 @@ impl<M: Memo> Alone<'_, M> {
         *self.fourth = Way::new();
     }
 
-    /// Has all lanes lead to where the first one leads.
+    /// Makes all lanes refer to the first lane's entries.
     fn open(&mut self)
         ensures first { write_guard_value self.new.first ≡ write_guard_value self.old.first }
         ensures second { IfSome (write_guard_value self.new.second)
@@ -217,25 +220,22 @@ impl<M: Memo> Alone<'_, M> {
 
 /// A cache that threads share, by reference or by `Arc`.
 ///
-/// It has 64 parts, and all entries under a key are in one of them. So calls under keys of different parts do not wait for
-/// one another. Each part has four lanes, each behind a lock of its own: a look-up takes one, a step that changes the part
-/// takes them all. So look-ups in different lanes do not disturb one another either. Each entry that a thread puts into it is
-/// right for its function, as its type keeps, so each that another thread finds is. It takes 32 KiB where it stands.
-/// comemo's `Cache`, which is a static of the program and makes its own lock, one for all entries.
+/// It has 64 parts, and all entries under a key are in one of them: calls in different parts don't wait for each other.
+/// Each part has four lanes, each with its own lock. A look-up takes one of them, a change takes them all: look-ups in
+/// different lanes don't disturb each other. Its type ensures that entries are right, whichever thread stored them. It
+/// takes 32 KiB in place.
 #[derive(Drop)]
 pub struct Cache<M: Memo> {
     alloc: Global,
     parts: [[Lane<M>; LANES]; PARTS],
-    // How many shares were made, so that they take the lanes by turns.
+    // The number of shares made, which distributes them over the lanes.
     shares: AtomicU64,
 }
 
 impl<M: Memo> Cache<M> {
-    /// An empty cache. It takes no memory.
-    ///
-    /// comemo's `Cache::new`.
+    /// An empty cache. Does not allocate.
     pub fn new(alloc: Global) -> Self {
-        // The borrow checker covers a closure that gives lanes only where it holds something of their type.
+        // The checker only covers a closure that returns lanes if it holds something of their type.
         let of: PhantomData<Lane<M>> = PhantomData;
         Cache {
             alloc,
@@ -244,10 +244,9 @@ impl<M: Memo> Cache<M> {
         }
     }
 
-    /// What a call is handed for its cache: it takes the locks of its key's part for each of its steps, by the right to
-    /// wait that it is handed here. It takes neither memory nor a lock, and one may be made for each thread and each call.
+    /// Access for calls of one thread: each step locks its key's part, with this right to wait.
     ///
-    /// A thread does best to keep one: it is told its lane here, by a count that all threads share. This project's own.
+    /// Keep one for each thread: a new one counts in memory that all threads share.
     pub fn hold<'a, R: Wait>(&'a self, rt: &'a R) -> Shared<'a, M, R> {
         Shared {
             cache: self,
@@ -256,16 +255,14 @@ impl<M: Memo> Cache<M> {
         }
     }
 
-    /// Drops old entries, as `CacheData::evict` does. It is one step: there is a moment at which it holds the locks of all
-    /// parts for writing, so each step of a call comes before it or after it, whichever the part. It takes no memory.
-    ///
-    /// comemo's `Cache::evict`.
+    /// Drops old entries, as `CacheData::evict`. It is one step: it holds all locks at one moment, so each step of a
+    /// call comes before or after it, in every part.
     pub fn evict<R: Wait>(&self, rt: &R, max_age: usize) {
         evict_parts(rt, &self.parts, max_age);
     }
 
-    /// The lanes of the part that has the entries under a key. The key is hashed as a map does it, once more than the map
-    /// does; a map folds away the bits that tell the part.
+    /// The part that has the entries under a key. The key is hashed here and again by the part's map, which ignores the
+    /// bits that choose the part.
     fn part(&self, key: &M::Key) -> &[Lane<M>; LANES] {
         let mut hasher = FoldHasher::default();
         key.hash(&mut hasher);
@@ -273,10 +270,10 @@ impl<M: Memo> Cache<M> {
     }
 }
 
-/// Drops old entries of these parts, under the locks of all of them, which are taken from the first one on.
+/// Drops old entries of these parts, and locks them all in order first.
 ///
-/// A call takes the locks of one part alone, and evictions take them in one order, so none of them waits for another in a
-/// circle. A part is evicted after the locks of all that follow it were taken, and let go at once.
+/// A call locks one part only and evictions lock in one order, so there is no deadlock. A part is evicted after all
+/// later parts were locked, and then unlocked.
 fn evict_parts<M: Memo, R: Wait>(rt: &R, parts: &[[Lane<M>; LANES]], max_age: usize) {
     let Some((part, rest)) = parts.split_first() else {
         return;
@@ -288,15 +285,14 @@ fn evict_parts<M: Memo, R: Wait>(rt: &R, parts: &[[Lane<M>; LANES]], max_age: us
     alone.open();
 }
 
-/// A share of a cache, for calls of one thread. It keeps no guard of the lock: each step takes it, works on the cache that
-/// the guard lends, and lets go. A look-up shares the lock with other look-ups; a touch and a store have it alone.
+/// A share of a cache, for the calls of one thread. Each step takes the lock and releases it. Look-ups share the lock;
+/// a touch and a store hold it exclusively.
 ///
-/// It tells no entries, since other threads may change them between two steps. This project's own: in comemo the call
-/// takes the lock itself.
+/// Its entries aren't known, since other threads may change them between two steps.
 #[derive(Drop)]
 pub struct Shared<'a, M: Memo, R: Wait> {
     cache: &'a Cache<M>,
-    // Its number, by which its look-ups take one of the lanes.
+    // Its number, which chooses the lane of its look-ups.
     share: usize,
     rt: &'a R,
 }
@@ -364,6 +360,7 @@ impl<M: Memo, R: Wait> Hold<M> for Shared<'_, M, R> {
         let reads = reads.into_sequence();
         let mut alone = Alone::new(self.rt, self.cache.part(&key));
         alone.close();
+        // On error the part has no entries, so there is nothing for the lanes to refer to.
         alone.first.begin(self.cache.alloc)?;
         let stored = alone.first.store(key, reads, output, writes);
         alone.open();

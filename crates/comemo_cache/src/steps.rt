@@ -1,4 +1,4 @@
-//! The steps of a cache, each by itself: lists of them with what each answers.
+//! The steps of a cache, one by one: lists of steps, and the result of each.
 ghost use Rattle.std.specs.Prelude.{◌≡◌, IfOk, OnErr, refl};
 ghost use Rattle.std.proofs.Common.{◌∙◌, ap};
 ghost use Rattle.std.specs.List.{All};
@@ -11,18 +11,16 @@ use comemo_base::{CallSequence, InsertError};
 use comemo_track::input::Input;
 use std::alloc::{AllocError, Global};
 
-/// A step of a cache, with all that it is handed.
-///
-/// This project's own, as `replay` is.
+/// A step of a cache, with its arguments.
 #[derive(Drop)]
 pub enum Step<M: Memo> {
     /// Looks for an entry.
     Look {
         /// The key.
         key: M::Key,
-        /// What is answered to calls: of the pairs of one call the first.
+        /// The answers to calls: of the pairs of one call the first.
         answers: Vec<(M::Call, M::Answer)>,
-        /// What is answered to every other call.
+        /// The answer to every other call.
         other: M::Answer,
     },
     /// Touches an entry.
@@ -32,46 +30,44 @@ pub enum Step<M: Memo> {
         /// The answers of its path, in order.
         answers: Vec<M::Answer>,
     },
-    /// Stores what a run came to.
+    /// Stores a run.
     Store {
         /// The key.
         key: M::Key,
-        /// What the run asked: of the pairs of one call the first.
+        /// The run's calls and answers: of the pairs of one call the first.
         pairs: Vec<(M::Call, M::Answer)>,
         /// The output.
         output: M::Out,
-        /// The writes that the run did, in order.
+        /// The run's writes, in order.
         writes: Vec<M::Call>,
     },
-    /// Drops the entries whose age is the bound or more; the others grow one older.
+    /// Drops the entries whose age is at least the bound; the others' ages grow by one.
     Evict {
         /// The bound.
         max_age: usize,
     },
 }
 
-/// What a step answers.
-///
-/// This project's own.
+/// The result of a step.
 #[derive(Drop)]
 pub enum StepReply<M: Memo> {
     /// A look-up found this entry.
     Found(Found<M>),
-    /// A look-up found none.
+    /// A look-up found nothing.
     NotFound,
-    /// The run was stored: one more entry.
+    /// The run was stored as a new entry.
     Stored,
-    /// It was not, since a stored path has all its pairs among those of the run.
+    /// The run wasn't stored: a stored path has all its pairs among those of the run.
     AlreadyExists,
-    /// It was not, since a stored path goes on with a call that the run lacks.
+    /// The run wasn't stored: a stored path goes on with a call that the run lacks.
     MissingCall,
-    /// There was no memory for the step, which changed nothing.
+    /// Out of memory; the step changed nothing.
     Memory,
     /// A touch or an eviction was done.
     Done,
 }
 
-/// An input that answers by a list: the key and the answers of a `Step::Look`.
+/// An input that answers from a list: the key and the answers of a `Step::Look`.
 #[derive(Drop)]
 struct Listed<'a, M: Memo> {
     key: &'a M::Key,
@@ -117,18 +113,16 @@ impl<'a, M: Memo> Input for Listed<'a, M> {
     }
 
     fn call_mut(&mut self, _call: &M::Call) -> Result<(), AllocError> {
+        // A look-up never writes.
         Ok(())
     }
 }
 
 impl<M: Memo> CacheData<M> {
-    /// Does steps, one after the other, and gives what each answers.
+    /// Does steps in turn, and returns the result of each, to compare a cache with a list.
     ///
-    /// What is stored has to be right for all answers that agree with its pairs, which are reads, as `store` asks it. A
-    /// step that finds no memory answers `Memory` and changes nothing, and the next one goes on. An error says that there
-    /// was no memory for the list of replies; then no step was done. It takes the steps apart, and clones nothing but
-    /// what is found and, for a look-up, its answers; each question of a look-up is looked for in the whole list of its
-    /// answers. It is there to compare a cache with a list. This project's own.
+    /// Fails, before the first step, if the list of results can't be allocated. A step that runs out of memory changes
+    /// nothing, and the next one goes on.
     pub fn replay(
         &mut self,
         alloc: Global,
@@ -146,7 +140,7 @@ impl<M: Memo> CacheData<M> {
         Ok(replies)
     }
 
-    /// Does one step, and gives what it answers.
+    /// Does one step.
     fn take_step(&mut self, alloc: Global, step: Step<M>) -> StepReply<M>
         requires { IsStep ⟦<M as Meant>⟧.meaning step }
         ensures { Takes ⟦<M as Meant>⟧.meaning step self.old result self.new }

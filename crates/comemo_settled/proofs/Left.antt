@@ -1,4 +1,4 @@
--- Lemmas on what is left of a tree's entries after each value was shown to a test.
+-- Lemmas on a tree's entries after each value was shown to a test.
 use Rattle.std.proofs.Common.{Bool, List, [], ◌∷◌, inl, inr, refl, sym, subst, IsTrue}
 use Rattle.std.proofs.lemmas.Bool.{cases_Bool}
 use Rattle.std.proofs.lemmas.List.Elements.{All-cons, All-head, All-tail}

@@ -21,7 +21,7 @@ module _ {K C R T P : Type 0} where
   InsertsRun eq same asks (Insert key s value) = IsRun eq same (asks key) s.pairs
   InsertsRun eq same asks (Retain keep) = Unit {0}
 
--- the reply is not want of memory
+-- the reply is not out of memory
 abbrev pub FoundRoom : TreeReply → Type 0
 FoundRoom Inserted = Unit {0}
 FoundRoom AlreadyExists = Unit {0}
@@ -34,16 +34,15 @@ module _ {K C R T P : Type 0} (eq : C → C → Bool) (same : R → R → Bool) 
   InsertsSet key ps (Insert k s value) = IsTrue (eqk k key) × HasSamePairs eq same s.pairs ps
   InsertsSet key ps (Retain keep) = ⊥
 
-  -- where all steps were inserts that found room, the sets stored afterwards are those stored before and those inserted, in
-  -- whatever order they came
+  -- if no insertion ran out of memory, the sets stored afterwards are those stored before and those inserted, in any order
   abbrev pub StoresAllSets : List (TreeOp K C R T P) → List TreeReply → List (Stored K C R T) → List (Stored K C R T) → Type 0
   StoresAllSets ops replies old new =
       All IsInsert ops → All FoundRoom replies → (key : K) (ps : List (C × R)) → HasSet eq same (under eqk new key) ps ↔ (HasSet eq same (under eqk old key) ps ⊎ Any (InsertsSet key ps) ops)
 
-  -- Of tests that keep values:
+  -- For tests that retain values:
   module _ (keeps : P → T → Bool → T → Type 0) where
-    -- one step with its reply: an insertion adds the set, or the set is there and nothing changes; want of memory changes
-    -- nothing; a retention keeps what its test keeps
+    -- one step with its reply: an insertion adds the set, or the set exists and nothing changes; out of memory, nothing
+    -- changes; a retention keeps what its test keeps
     abbrev pub IsStep : TreeOp K C R T P → TreeReply → List (Stored K C R T) → List (Stored K C R T) → Type 0
     IsStep (Insert key s value) Inserted old new = AddsSet eq same eqk key s.pairs value old new
     IsStep (Insert key s value) AlreadyExists old new = HasSet eq same (under eqk old key) s.pairs × (new ≡ old)
@@ -61,13 +60,13 @@ module _ {K C R T P : Type 0} (eq : C → C → Bool) (same : R → R → Bool) 
     AreSteps (op ∷ ops) [] old new = ⊥
     AreSteps (op ∷ ops) (r ∷ rs) old new = (between : List (Stored K C R T)) × IsStep op r old between × AreSteps ops rs between new
 
-    -- the value passes the tests of all steps, whatever each leaves of it
+    -- the value passes the tests of all steps, whatever each changes in it
     abbrev pub StaysThrough : List (TreeOp K C R T P) → T → Type 0
     StaysThrough [] value = Unit {0}
     StaysThrough (Insert key s other ∷ ops) value = StaysThrough ops value
     StaysThrough (Retain keep ∷ ops) value = (stays : Bool) (left : T) → keeps keep value stays left → IsTrue stays × StaysThrough ops left
 
-    -- a set whose value passes the tests of all steps is there afterwards
+    -- a set whose value passes the tests of all steps is stored afterwards
     abbrev pub KeepsSets : List (TreeOp K C R T P) → List (Stored K C R T) → List (Stored K C R T) → Type 0
     KeepsSets ops old new =
         (key : K) (ps : List (C × R)) → Any (λ e. HasSamePairs eq same e.path ps × StaysThrough ops e.value) (under eqk old key) → HasSet eq same (under eqk new key) ps

@@ -1,8 +1,8 @@
-//! A call tree for functions that may ask their calls in another order each time.
+//! A call tree for functions that may ask their calls in a different order each time.
 //!
-//! Many functions ask what their key and the answers so far determine, but not always in one order: their branches run in
-//! parallel, or over a hash map. In a plain call tree a run that asks in another order can be lost. [`Settled`] takes
-//! runs of such a function alone, and loses none.
+//! What many functions ask is determined by their key and the answers so far, but not the order: branches run in
+//! parallel, or over a hash map. A plain call tree can lose a run that asks in another order. [`Settled`] takes the
+//! runs of such a function only, and loses none.
 #![tactic(auto)]
 
 pub mod settled;

@@ -1,4 +1,4 @@
-//! A call tree all of whose paths are what runs of one function ask.
+//! A call tree whose paths are all runs of one function. Its operations cost what those of [`CallTree`] do.
 ghost use Rattle.std.specs.Prelude.{◌≡◌, [], List, IfOk, IfErr, OnOk, OnErr, IsOk, option_copied};
 ghost use Rattle.std.specs.List.{All};
 ghost use Rattle.std.specs.Fn.{AlwaysReturns};
@@ -18,31 +18,30 @@ use std::alloc::{AllocError, Global};
 use std::hash::Hash;
 use std::marker::{Model, PhantomData};
 
-/// Which calls a function asks under a key and given answers: a definition alone, which no program computes.
-///
-/// It says nothing of their order. This project's own.
+/// Which calls a function asks under a key and given answers, in any order. It is a definition for contracts; no
+/// program computes it.
 pub trait Asks {
-    /// What the function is called with.
+    /// The function's argument.
     type Key: Clone + Eq + Hash + Drop;
 
     /// What it may ask.
     type Call: Eq + Hash + Drop;
 
-    /// What it may be answered.
+    /// What the answers are.
     type Answer: Ord + Drop;
 
     /// Whether a call is asked under a key and the answers to all calls.
     ghost asks: { Self.Key → (Self.Call → Self.Answer) → Self.Call → Type 0 };
 
-    /// It tells no equal keys and no equal calls apart, and a clone of a key is equal to it.
+    /// Equal keys and equal calls are treated alike, and a clone of a key is equal to it.
     ghost laws: { AsksLaws Self.Key.eq Self.Call.eq Self.Key.is_clone asks };
 }
 
-/// A call tree for the runs of a function that asks what its key and the answers so far determine, in whatever order.
+/// A call tree for the runs of a function that asks what its key and the answers so far determine, in any order.
 ///
-/// Each path is causal and complete for the calls that `A` names: each of its calls is asked under all answers that agree
-/// with the pairs before it, and under all that agree with the whole path exactly its calls are asked. Contracts see the
-/// tree as its list of entries, as those of [`CallTree`] do. This project's own.
+/// Each path is causal and complete for the calls that `A` names: each of its calls is asked under all answers that
+/// agree with the pairs before it, and under all that agree with the whole path exactly its calls are asked. Contracts
+/// see the tree as its list of entries, as those of [`CallTree`] do.
 #[derive(Drop)]
 pub struct Settled<A: Asks, T> {
     tree: CallTree<A::Key, A::Call, A::Answer, T>,
@@ -65,7 +64,7 @@ impl<A: Asks, T> Model for Settled<A, T> {
 }
 
 impl<A: Asks, T> Settled<A, T> {
-    /// An empty tree. It takes no memory.
+    /// An empty tree. Does not allocate.
     pub fn new(alloc: Global) -> Self
         ensures { result ≡ [] }
     {
@@ -75,8 +74,7 @@ impl<A: Asks, T> Settled<A, T> {
         }
     }
 
-    /// Tells a proof what every value keeps: each path is a run of the function, and no key has two paths with the same
-    /// pairs. It does nothing when it runs.
+    /// Makes the tree's invariant known to a proof. Does nothing at run time.
     pub fn is_settled(&self)
         ensures settled { IsSettled A.Call.eq A.Answer.eq A.asks self.now }
         ensures once { HasEachSetOnce A.Call.eq A.Answer.eq A.Key.eq self.now }
@@ -84,11 +82,7 @@ impl<A: Asks, T> Settled<A, T> {
         self.tree.is_parted();
     }
 
-    /// The value of the path under a key whose answers the oracle gives, or `None` where there is none.
-    ///
-    /// A set of pairs that is stored is found under all answers that agree with it, whichever order its path has. It asks
-    /// the calls along one stored path and no others, and takes as long as [`CallTree::get`]; the oracle may refuse an answer as
-    /// there.
+    /// As [`CallTree::get`]. A set of pairs is found whichever order its path has.
     pub fn get<O: FnMut(&A::Call) -> Result<A::Answer, AllocError>>(
         &self,
         key: &A::Key,
@@ -122,7 +116,7 @@ impl<A: Asks, T> Settled<A, T> {
         self.tree.get(key, oracle)
     }
 
-    /// How many inner nodes, leaves, edges and keys the tree has, as [`CallTree::shape`] counts them.
+    /// How many inner nodes, leaves, edges and keys the tree has, as [`CallTree::shape`].
     pub fn shape(&self) -> (usize, usize, usize, usize)
         ensures { IsShape A.Call.eq A.Answer.eq A.Key.eq self.now result }
     {
@@ -131,11 +125,10 @@ impl<A: Asks, T> Settled<A, T> {
 }
 
 impl<A: Asks, T: Drop> Settled<A, T> {
-    /// Stores a value under a key and a sequence, which is a run of the function.
+    /// Stores a value under a key and the pairs of a run of the function.
     ///
-    /// `AlreadyExists` comes exactly where a stored path under the key has the very pairs of the sequence, in whatever order,
-    /// and `Memory` where a request for memory was refused, or where the path would be longer than a `usize` can say; then
-    /// nothing changes, and what was handed in is dropped. `MissingCall` never comes. It costs what [`CallTree::insert`] does.
+    /// `AlreadyExists` means that the same pairs are stored, in any order; `MissingCall` never occurs. On error all
+    /// arguments are dropped.
     pub fn insert(
         &mut self,
         key: A::Key,
@@ -158,9 +151,7 @@ impl<A: Asks, T: Drop> Settled<A, T> {
         self.tree.insert(key, sequence, value)
     }
 
-    /// Shows each value to a test, which may change it, and drops the entries that it answers false of.
-    ///
-    /// It takes no memory, and as long as [`CallTree::retain`].
+    /// Shows each value to a test, which may change it, and drops the entries for which it returns false.
     pub fn retain<F: Fn(&mut T) -> bool>(&mut self, f: F)
         requires { F.IsAlwaysCallable f }
         ensures settled { IsSettled A.Call.eq A.Answer.eq A.asks self.new }
@@ -178,6 +169,7 @@ impl<A: Asks, T: Drop> Settled<A, T> {
             TreeOp::Insert(key, sequence, value) => match self.insert(key, sequence, value) {
                 Ok(()) => TreeReply::Inserted,
                 Err(InsertError::AlreadyExists) => TreeReply::AlreadyExists,
+                // A run of the function lacks no stored call.
                 Err(InsertError::MissingCall) => unreachable!(),
                 Err(InsertError::Memory) => TreeReply::Memory,
             },
@@ -192,10 +184,10 @@ impl<A: Asks, T: Drop> Settled<A, T> {
         }
     }
 
-    /// Does the steps in turn, and answers a reply for each.
+    /// Does steps in turn, and returns a reply for each.
     ///
-    /// `AllocError` comes only where the list of replies found no room, before the first step. A step that finds no memory
-    /// answers `Memory` and changes nothing, and the next ones are still done. Each step costs what `insert` or `retain` does.
+    /// Fails, before the first step, if the list of replies can't be allocated. A step that runs out of memory changes
+    /// nothing, and the next ones are still done.
     pub fn run<P: Keep<T> + Drop>(
         &mut self,
         alloc: Global,

@@ -1,4 +1,4 @@
--- For the authors of functions of two arguments: calls and answers of joined inputs are told apart by their parts.
+-- For authors of functions of two arguments: calls and answers of joined inputs are told apart by their parts.
 use Rattle.std.proofs.Common.{◌≡◌, Bool, true, false, sym, ◌∙◌}
 use Rattle.std.specs.Cmp.{IsEquivalence}
 use Rattle.comemo_base.specs.Answers.{Respects}

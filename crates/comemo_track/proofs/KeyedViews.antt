@@ -1,5 +1,5 @@
--- For the authors of functions of a key that isn't tracked and a view, joined: what a recording says of the view. The key's
--- own part has one call, with one answer, so nothing has to be said of it.
+-- For authors of functions of an untracked key and a view: what a recording of both states about the view. The key's own part
+-- has one call, with one answer, so nothing needs to be stated about it.
 use Rattle.std.proofs.Common.{◌≡◌, Bool, true, List, IsTrue, refl, subst}
 use Rattle.std.specs.Bool.{⊤}
 use Rattle.std.specs.Cmp.{IsEquivalence}

@@ -1,4 +1,4 @@
--- What a run was told, as its recording keeps it. Nothing here speaks of a crate's own calls or functions.
+-- What a run learnt, as recorded. Independent of any crate's own calls or functions.
 use Rattle.std.proofs.Common.{◌≡◌, Bool, true, false, cond, List, [], ◌∷◌, ◌++◌, IsTrue, sym, subst, inl, inr}
 use Rattle.std.proofs.lemmas.Bool.{cases_Bool}
 use Rattle.std.specs.Cmp.{IsEquivalence}

@@ -1,4 +1,4 @@
--- What is asked through a map.
+-- Asking through a map.
 use Rattle.std.proofs.Common.{◌≡◌, Bool, List, ◌∙◌}
 use Rattle.comemo_track.specs.Mapped.{Through}
 use Rattle.comemo_track.specs.Sending.{Asks}

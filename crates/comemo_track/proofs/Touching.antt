@@ -1,4 +1,4 @@
--- Which reads are touched by writes.
+-- Which reads writes touch.
 use Rattle.std.proofs.Common.{◌≡◌, Bool, true, false, ◌||◌, List, [], ◌∷◌, ◌++◌, refl, ap, ◌∙◌}
 use Rattle.std.proofs.lemmas.List.Folds.{list_any-append}
 use Rattle.comemo_track.specs.Writing.{touched, touched_by}

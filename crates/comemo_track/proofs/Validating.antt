@@ -1,4 +1,4 @@
--- Recorded pairs, gone over one by one.
+-- Validating recorded pairs one by one.
 use Rattle.std.proofs.Common.{◌≡◌, ◌<◌, ◌+◌, ℕ, Bool, List, [], ◌∷◌, ◌++◌, length, take, drop, get_or, IsTrue, Option, Some, Result, Ok, Err, OnErr, sym, ap, ◌∙◌}
 use Rattle.std.proofs.lemmas.List.{take-append-drop, drop_more}
 use Rattle.std.proofs.lemmas.List.Elements.{All-head, All-tail, filter_map-append}

@@ -1,5 +1,4 @@
--- The laws of a sink that sends each call on through a map, which the trait asks. They say nothing that a reader must
--- believe.
+-- Proofs of the laws that the trait demands of a sink that sends calls on through a map. A reader needn't trust them.
 use Rattle.std.proofs.Common.{◌≡◌, Bool, ◌⊎◌, List, [], ◌∷◌, ◌++◌, map, IsTrue, refl, sym, ap, subst, ◌∙◌, inl, inr}
 use Rattle.std.proofs.lemmas.List.{map-append}
 use Rattle.std.proofs.lemmas.Bool.{cases_Bool}
@@ -7,7 +6,7 @@ use Rattle.comemo_base.specs.Sequence.{held}
 use Rattle.comemo_track.specs.Mapped.{mapped_pairs, MapsTook, MapsSpoils, MapsLates}
 use Rattle.comemo_track.specs.declared.mapped.MappedSink.{MappedSink}
 
--- a call is held among pairs exactly where its image is among theirs
+-- a call is held among pairs exactly if its image is held among theirs
 held-mapped : {C D R Q : Type 0} (eq : C → C → Bool) (like : D → D → Bool) (f : C → D) (g : R → Q) → ((x y : C) → like (f x) (f y) ≡ eq x y) → (P : List (C × R)) (call : C) → held like (mapped_pairs f g P) (f call) ≡ held eq P call
 held-mapped eq like f g apart [] call = refl
 held-mapped eq like f g apart (p ∷ P) call =

@@ -20,24 +20,24 @@ module _ {X Y : Type 0} where
   abbrev pub second_answer : Y → MultiAnswer X Y
   second_answer a = answer.B a
 
-  -- what holds of the part's call
+  -- a value of the part's call
   abbrev pub by_part : {Z : Type 0} → (X → Z) → (Y → Z) → MultiCall X Y → Z
   by_part f g (call.A c) = f c
   by_part f g (call.B c) = g c
 
-  -- a write touches a read of its part where the part says so, and none of the other part
+  -- a write touches a read of its part if the part says so, and no read of the other part
   abbrev pub part_touches : (X → X → Bool) → (Y → Y → Bool) → MultiCall X Y → MultiCall X Y → Bool
   part_touches f g (call.A c) (call.A d) = f c d
   part_touches f g (call.A c) (call.B d) = false
   part_touches f g (call.B c) (call.A d) = false
   part_touches f g (call.B c) (call.B d) = g c d
 
-  -- the first of a call of the first part, the second of one of the second
+  -- the first property for a call of the first part, the second for a call of the second
   abbrev pub OnCall : (X → Type 0) → (Y → Type 0) → MultiCall X Y → Type 0
   OnCall P Q (call.A c) = P c
   OnCall P Q (call.B c) = Q c
 
-  -- each call has the answer that its part gives
+  -- each call has its part's answer
   abbrev pub part_answers : {P Q : Type 0} → (X → P) → (Y → Q) → MultiCall X Y → MultiAnswer P Q
   part_answers m n (call.A c) = answer.A (m c)
   part_answers m n (call.B c) = answer.B (n c)
@@ -54,7 +54,7 @@ module _ {X Y : Type 0} where
   seconds (call.A c ∷ cs) = seconds cs
   seconds (call.B c ∷ cs) = c ∷ seconds cs
 
-  -- for the definition of a function of two arguments: what holds of the answers of each part, where each call is answered by
+  -- for the definition of a function of two arguments: a property of the answers of each part, where each call is answered by
   -- its part
   abbrev pub OnParts : {P Q : Type 0} → (MultiCall X Y → MultiAnswer P Q) → ((X → P) → (Y → Q) → Type 0) → Type 0
   OnParts {P} {Q} answers holds = (m : X → P) (n : Y → Q) → ((c : X) → answers (call.A c) ≡ answer.A (m c)) → ((c : Y) → answers (call.B c) ≡ answer.B (n c)) → holds m n

@@ -6,8 +6,8 @@ use Rattle.comemo_base.specs.Answers.{Agrees}
 use Rattle.comemo_base.specs.Sequence.{Sequence, was_seen, held, absorbed}
 use Rattle.comemo_track.specs.Writing.{touched}
 
--- reads with their answers, writes, whether nothing was lost, whether a read came after a write that touches it, and how many
--- writes more have room
+-- reads with their answers; writes; whether nothing was lost; whether a read came after a write that touches it; and the room
+-- for more writes
 pub record Recording (C R : Type 0) : Type 0 where
   pub pairs : List (C × R)
   pub writes : List C
@@ -22,30 +22,30 @@ pub record Took {C R : Type 0} (eq touches : C → C → Bool) (s t : Recording 
   pub whole : t.whole ≡ s.whole
   pub late : t.late ≡ (s.late || touched touches s.writes P)
 
--- t is s as it was, but spoiled
+-- t is s, marked incomplete
 pub record Spoiled {C R : Type 0} (s t : Recording C R) : Type 0 where
   pub pairs : t.pairs ≡ s.pairs
   pub writes : t.writes ≡ s.writes
   pub whole : t.whole ≡ false
   pub late : t.late ≡ s.late
 
--- t is s as it was, but late
+-- t is s, marked late
 pub record MarkedLate {C R : Type 0} (s t : Recording C R) : Type 0 where
   pub pairs : t.pairs ≡ s.pairs
   pub writes : t.writes ≡ s.writes
   pub whole : t.whole ≡ s.whole
   pub late : t.late ≡ true
 
--- the answers agree with a front of the pairs that isn't the whole
+-- the answers agree with a proper prefix of the pairs
 abbrev pub AgreesBefore : {C R : Type 0} → (R → R → Bool) → (C → R) → List (C × R) → Type 0
 AgreesBefore {C} {R} same m pairs = (front : List (C × R)) × (next : C × R) × (rest : List (C × R)) × (pairs ≡ front ++ next ∷ rest) × Agrees same m front
 
--- a recording is coded as the tuple of its fields, by which a proof tells two apart
+-- a recording is coded as the tuple of its fields, which a proof needs to tell two apart
 abbrev pub recording_code : {C R : Type 0} → Coded C → Coded R → Coded (Recording C R)
 recording_code {C} {R} c r =
     code_by (List (C × R) × (List C × (Bool × (Bool × ℕ)))) (coded× (coded_list (coded× c r)) (coded× (coded_list c) (coded× coded_bool (coded× coded_bool coded_ℕ)))) (λ s. (s.pairs, (s.writes, (s.whole, (s.late, s.room))))) (λ p. record { pairs = p.0; writes = p.1.0; whole = p.1.1.0; late = p.1.1.1.0; room = p.1.1.1.1 }) (λ _. refl)
 
--- how a `Constraint` keeps it: the calls seen are those of the pairs, all of them reads, and the writes are writes
+-- the invariant of a `Constraint`: the calls seen are those of the pairs, all of them reads, and the writes are writes
 pub record IsRecording {C R : Type 0} (eq : C → C → Bool) (w : C → Bool) (reads : Sequence C R) (writes : List C) : Type 0 where
   pub seen : (call : C) → was_seen eq reads call ≡ held eq reads.pairs call
   pub all_reads : All (λ p. w p.0 ≡ false) reads.pairs

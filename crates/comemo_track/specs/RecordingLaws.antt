@@ -1,4 +1,4 @@
--- The laws of a recording as a sink, which the trait asks. They say nothing that a reader must believe.
+-- Proofs of the laws that the trait demands of a recording as a sink. A reader needn't trust them.
 use Rattle.std.proofs.Common.{◌≡◌, Bool, true, false, cond, ◌||◌, ◌⊎◌, List, [], ◌∷◌, ◌++◌, IsTrue, refl, sym, ap, ◌∙◌, inl, inr, append_assoc, append-nil}
 use Rattle.std.proofs.lemmas.Bool.{cases_Bool}
 use Rattle.std.proofs.lemmas.List.Folds.{list_any-append}
@@ -40,7 +40,7 @@ module _ {C R : Type 0} (eq : C → C → Bool) where
   cond-held false ps q qs call h =
       elim (or_cases (held eq ps call) (eq call q.0) (sym (held-push eq ps q.0 q.1 call) ∙ h)) [ inl a ↦ inl a | inr a ↦ inr (held-head q qs call a) ]
 
-  -- what is held was held before, or is among what was taken
+  -- what is held was held before, or was taken
   pub absorbed-held : (ps qs : List (C × R)) (call : C) → held eq (absorbed eq ps qs) call ≡ true → (held eq ps call ≡ true) ⊎ (held eq qs call ≡ true)
   absorbed-held ps [] call h = inl h
   absorbed-held ps (q ∷ qs) call h =
@@ -53,7 +53,7 @@ module _ {C R : Type 0} (eq touches : C → C → Bool) where
   pub took_nothing : (s : Recording C R) → Took eq touches s s [] []
   took_nothing s = record { pairs = refl; writes = sym (append-nil s.writes); whole = refl; late = sym (or_none s.late) }
 
-  -- what is taken after reads alone is taken with them
+  -- what is taken after reads only joins them
   pub took_both : (s t u : Recording C R) (P Q : List (C × R)) (W : List C) → Took eq touches s t P [] → Took eq touches t u Q W → Took eq touches s u (P ++ Q) W
   took_both s t u P Q W a b =
       let same : t.writes ≡ s.writes = a.writes ∙ append-nil s.writes in
@@ -69,7 +69,7 @@ module _ {C R : Type 0} (eq touches : C → C → Bool) where
             ∙ ap (λ x. s.late || x) (sym (list_any-append (λ p. touched_by touches s.writes p.0) P Q));
       }
 
-  -- writes that are taken afterwards are taken with what was taken before
+  -- writes taken later join what was taken before
   pub took_more : (s t u : Recording C R) (P : List (C × R)) (V W : List C) → Took eq touches s t P V → Took eq touches t u [] W → Took eq touches s u P (V ++ W)
   took_more s t u P V W a b = record {
     pairs = b.pairs ∙ a.pairs;

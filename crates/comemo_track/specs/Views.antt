@@ -1,4 +1,4 @@
--- What a view that writes, or that has a sink, is, and how a view prints.
+-- The state of a view that writes or has a sink, and how views print.
 use Rattle.std.specs.Prelude.{ℕ, List, codes}
 use Rattle.std.specs.Borrow.{MutBor}
 use Rattle.comemo_track.specs.declared.track.TrackedWith.{TrackedWith}

@@ -11,12 +11,12 @@ touched_by touches W call = list_any (λ c. touches c call) W
 abbrev pub touched : {C R : Type 0} → (C → C → Bool) → List C → List (C × R) → Bool
 touched touches W P = list_any (λ p. touched_by touches W p.0) P
 
--- no read has another answer, but for those that are touched
+-- only touched reads may have other answers
 abbrev pub SameReads : {C R : Type 0} → (C → Bool) → (C → Bool) → (R → R → Bool) → (C → R) → (C → R) → Type 0
 SameReads {C} w reached same m n = (call : C) → w call ≡ false → reached call ≡ false → IsTrue (same (m call) (n call))
 
 module _ {S C R : Type 0} (wrote : S → C → S → Type 0) (w : C → Bool) (touches : C → C → Bool) (same : R → R → Bool) (answers : S → C → R) where
-  -- t is s after this write, which changed the answer of no read that it does not touch
+  -- t is s after this write, which changed no answer of a read that it doesn't touch
   pub record Writes (s : S) (call : C) (t : S) : Type 0 where
     pub did : wrote s call t
     pub reads : SameReads w (touches call) same (answers s) (answers t)
@@ -26,6 +26,6 @@ module _ {S C R : Type 0} (wrote : S → C → S → Type 0) (w : C → Bool) (t
   Done s t [] = t ≡ s
   Done s t (call ∷ calls) = (mid : S) × Writes s call mid × Done mid t calls
 
--- what was lent as s is t, in the same place, after this write on it
+-- the value borrowed as s became t, in the same place, by this write
 abbrev pub WroteAt : {S C : Type 0} → (S → C → S → Type 0) → MutBor S → C → MutBor S → Type 0
 WroteAt wrote s call t = wrote s.now call t.now × (t.ghost_name ≡ s.ghost_name)

@@ -1,4 +1,4 @@
-//! A view that keeps what it was answered.
+//! A view that caches the answers it got. Calls are looked up in constant expected time.
 ghost use Rattle.std.specs.Prelude.{◌≡◌, [], List, true, false, IsTrue, IfOk, IfSome, OnOk, OnErr, refl};
 ghost use Rattle.std.specs.Option.{option_copied};
 ghost use Rattle.std.specs.Map.{lookup};
@@ -16,20 +16,18 @@ use std::fmt;
 use std::fmt::Debug;
 use std::marker::Model;
 
-/// A view of a tracked value, which reads, and keeps what it was answered: what it knows it answers itself, and the
-/// value isn't asked again.
+/// A read-only view of a tracked value that caches answers: the value isn't asked again for what the view knows.
 ///
-/// Contracts see it as the value and the pairs that it knows, of which each is the value's answer to a read. It is for
-/// a value whose answers are dear to give: a look-up in its table hashes the call and clones the answer. It has room for
-/// one pair, and keeps the others in a `HashMap`, which takes memory with the second question; where there is none for a
-/// pair, it goes without. It has to be let go before its value changes. comemo's `Tracked` with its accelerator, which
-/// keeps hashes of answers and is shared by the copies of a view.
+/// Contracts see the value and the pairs that the view knows, each the value's answer to a read. Use it for a value
+/// whose answers are expensive: each look-up hashes the call and clones the answer. The first pair needs no allocation;
+/// the others go to a `HashMap`, and a pair that finds no memory isn't cached. The view must be dropped before the
+/// value changes.
 #[derive(Drop)]
 pub struct Accelerated<'a, T: Track> {
     pub(crate) value: &'a T,
-    // What the value was asked first, and answered.
+    // The first call asked, with its answer.
     pub(crate) first: Option<(T::Call, T::Answer)>,
-    // What it was asked after that, and answered.
+    // The other calls asked, with their answers.
     pub(crate) table: HashMap<T::Call, T::Answer>,
 }
 
@@ -50,10 +48,7 @@ impl<'a, T: Track> Model for Accelerated<'a, T> {
 }
 
 impl<'a, T: Track> Tracked<'a, T> {
-    /// A view of the same value that keeps what it is answered, and knows nothing yet. It takes no memory, and constant
-    /// time.
-    ///
-    /// comemo's `Tracked` has an accelerator from the start.
+    /// A caching view of the same value, which knows nothing yet. Does not allocate.
     pub fn accelerated(&self, alloc: Global) -> Accelerated<'a, T>
         ensures value { result.value ≡ self.now }
         ensures none { result.known ≡ [] }
@@ -69,11 +64,8 @@ impl<'a, T: Track> Tracked<'a, T> {
 impl<'a, T: Track> Accelerated<'a, T> {
     /// Asks a read, and sends the call with its answer to a sink.
     ///
-    /// What it knows it clones out of its table. Else, and where there is no memory for that clone, it asks the value
-    /// once, and keeps clones of call and answer, if there is memory for them. It clones the answer for the sink. An
-    /// error says that there was no memory for the answer, its clone for the sink or the sink; then the sink is as it
-    /// was. It takes constant expected time beside what the value takes. It stands in the place of the methods that
-    /// comemo's macro `track` writes.
+    /// Fails if the value has to be asked and fails, or if a clone of the answer or the sink does; the sink is then
+    /// unchanged. A cached answer that can't be cloned is asked again.
     pub fn ask<S: Sink<Call = T::Call, Answer = T::Answer>>(
         &mut self,
         call: T::Call,
@@ -92,21 +84,19 @@ impl<'a, T: Track> Accelerated<'a, T> {
         Ok(answer)
     }
 
-    /// What it knows of a call: the answer that it keeps, which is the value's, or `None`.
-    ///
-    /// The value isn't asked. It takes no memory, and constant expected time. This project's own.
+    /// The cached answer to a call, if there is one. The value isn't asked.
     pub fn known(&self, call: &T::Call) -> Option<&T::Answer>
         ensures known { option_copied result ≡ lookup (T.Call.eq call.now) self.now.known }
         ensures read { IfSome result (λ _. T.Call.is_write call.now ≡ false) }
         ensures right { IfSome result
             (λ answer. IsTrue (T.Answer.eq (T.answers self.now.value call.now) answer.now)) }
     {
-        // A proof knows that what is kept is true where a field is used.
+        // A use of the field makes the invariant known to the proof: what is cached is the value's answer.
         let _ = &self.value;
         self.kept(call)
     }
 
-    /// What it keeps of a call, in the first pair or in the table.
+    /// The cached answer to a call, in the first pair or in the table.
     fn kept(&self, call: &T::Call) -> Option<&T::Answer>
         ensures { option_copied result ≡ lookup (T.Call.eq call.now) self.now.known }
     {
@@ -118,7 +108,7 @@ impl<'a, T: Track> Accelerated<'a, T> {
         self.table.get(call)
     }
 
-    /// The answer to a read, with nothing sent: out of what it keeps, or of the value, and then kept.
+    /// The answer to a read, from the cache or else from the value, then cached. Sends nothing.
     fn answer(&mut self, call: &T::Call) -> Result<T::Answer, AllocError>
         requires { T.Call.is_write call.now ≡ false }
         ensures ok { IfOk result
@@ -132,13 +122,12 @@ impl<'a, T: Track> Accelerated<'a, T> {
             }
         }
         let answer = self.value.ask(call)?;
-        // Where there is no room for it, the value is asked again another time.
+        // If it can't be cached, the value is asked again next time.
         let _ = self.keep(call, &answer);
         Ok(answer)
     }
 
-    /// Keeps what the value answered to a read. An error says that there was no memory for that, and then nothing
-    /// changes.
+    /// Caches the value's answer to a read. On error nothing changes.
     fn keep(&mut self, call: &T::Call, answer: &T::Answer) -> Result<(), AllocError>
         requires read { T.Call.is_write call.now ≡ false }
         requires right { IsTrue (T.Answer.eq (T.answers self.old.value call.now) answer.now) }
@@ -157,10 +146,8 @@ impl<'a, T: Track> Accelerated<'a, T> {
         Ok(())
     }
 
-    /// Another view of the same value that keeps what it is answered. It knows nothing yet, and what either learns the
-    /// other doesn't. It takes no memory, and constant time.
-    ///
-    /// comemo's `Tracked` is `Copy`, and its copies share their accelerator.
+    /// Another caching view of the same value, which knows nothing yet. The two don't share what they learn. Does not
+    /// allocate.
     pub fn fork(&self, alloc: Global) -> Accelerated<'a, T>
         ensures value { result.value ≡ self.now.value }
         ensures none { result.known ≡ [] }
@@ -168,9 +155,7 @@ impl<'a, T: Track> Accelerated<'a, T> {
         self.view(alloc).accelerated(alloc)
     }
 
-    /// A view of the same value that keeps nothing. It takes no memory today, and constant time.
-    ///
-    /// This project's own.
+    /// A view of the same value without a cache. Does not allocate.
     pub fn view(&self, alloc: Global) -> Tracked<'a, T>
         ensures { result ≡ self.now.value }
     {
@@ -179,11 +164,8 @@ impl<'a, T: Track> Accelerated<'a, T> {
     }
 }
 
-/// A view that keeps what it was answered: an input with no key, whose calls and answers are the value's. A look-up
-/// asks of the value only what the view doesn't know, and the view knows it then. Lent as `&mut`, it is its caller's
-/// again after a look-up. The key takes no memory; an answer is refused where there is no memory for it.
-///
-/// comemo's `Input` for `Tracked`.
+/// A caching view: an input without a key, whose calls and answers are the value's. A look-up asks the value only what
+/// the view doesn't know yet. Passed by `&mut`, the view can be used again after the look-up.
 impl<'a, T: Track> Input for Accelerated<'a, T> {
     type Call = T::Call;
 
@@ -217,13 +199,15 @@ impl<'a, T: Track> Input for Accelerated<'a, T> {
     }
 
     fn call_mut(&mut self, _call: &T::Call) -> Result<(), AllocError> {
+        // A view can't write, so a write has no effect.
         Ok(())
     }
 }
 
-/// What an input behind a reference answers.
+/// The answer of an input behind a reference.
 ///
-/// It stands apart, since the checker follows a loan through two references to a type parameter, and not to a view.
+/// A function of its own, since the checker follows a loan through two references to a type parameter, but not to a
+/// view.
 fn call_behind<I: Input>(input: &mut &mut I, call: &I::Call) -> Result<I::Answer, AllocError>
     requires { I.Call.is_write call.now ≡ false }
     ensures answer { IfOk result
@@ -234,10 +218,10 @@ fn call_behind<I: Input>(input: &mut &mut I, call: &I::Call) -> Result<I::Answer
     (**input).call(call)
 }
 
-/// A reference to such a view: an input like the view itself, for a place where the view can't be moved to.
+/// A reference to a caching view: an input like the view, for a place to which the view can't be moved.
 ///
-/// A proof that hands in a reference to such a reference knows nothing of the view behind it afterwards; one that lends
-/// the view itself does. It takes what the view takes. comemo has `Input` for `Tracked` alone, which is `Copy` there.
+/// A proof that passes a reference to such a reference knows nothing of the view afterwards; one that lends the view
+/// does.
 impl<'a, T: Track> Input for &mut Accelerated<'a, T> {
     type Call = T::Call;
 
@@ -273,11 +257,12 @@ impl<'a, T: Track> Input for &mut Accelerated<'a, T> {
     }
 
     fn call_mut(&mut self, _call: &T::Call) -> Result<(), AllocError> {
+        // A view can't write, so a write has no effect.
         Ok(())
     }
 }
 
-/// It prints as `Tracked(..)`, as the view does that keeps nothing.
+/// Prints `Tracked(..)`, as a view without a cache does.
 impl<'a, T: Track> Debug for Accelerated<'a, T> {
     ghost use Rattle.std.specs.Prelude.{Some};
     ghost use Rattle.comemo_track.specs.Views.{tracked_text};

@@ -1,4 +1,4 @@
-//! Tracked values joined: several as one.
+//! Two tracked values joined as one.
 ghost use Rattle.std.specs.Prelude.{◌≡◌};
 ghost use Rattle.std.proofs.Common.{rules};
 
@@ -6,12 +6,10 @@ use crate::multi::{MultiAnswer, MultiCall};
 use crate::track::{Track, Tracked};
 use std::alloc::{AllocError, Global};
 
-/// Views joined: two tracked values as one.
+/// Views joined: two tracked values as one, which is tracked itself, so that a run can get both by one view.
 ///
-/// Each call and its answer are a part's, as those of `Multi` are. What is joined is tracked itself, so that a run can
-/// be handed it by one view. It takes no memory. A part may be two values itself, but the checker does not cover a run
-/// of a function of such parts yet: more than two are a struct of a user's own, with its calls and its `Track`. This
-/// project's own: comemo's functions take their tracked arguments side by side.
+/// Each call and its answer belong to one part, as with `Multi`. For more than two values write a struct with its own
+/// calls and `Track`: the checker doesn't cover runs of functions whose parts are joined values themselves.
 #[derive(Drop)]
 pub struct Both<'a, A, B> {
     /// A view of the first value.
@@ -20,7 +18,7 @@ pub struct Both<'a, A, B> {
     pub second: Tracked<'a, B>,
 }
 
-/// An answer takes what its part takes, and is refused where its part's is.
+/// The call's part answers; it fails if that does.
 impl<'a, A: Track, B: Track> Track for Both<'a, A, B> {
     type Call = MultiCall<A::Call, B::Call>;
 
@@ -48,16 +46,16 @@ impl<'a, A: Track, B: Track> Track for Both<'a, A, B> {
     }
 }
 
-/// What a view of two values gives: views of the parts, which take no memory today.
+/// Views of the parts.
 impl<'a, 'b, A: Track, B: Track> Tracked<'a, Both<'b, A, B>> {
-    /// A view of the first value. It takes no memory today. This project's own.
+    /// A view of the first value.
     pub fn first(&self, alloc: Global) -> Tracked<'b, A>
         ensures { result ≡ self.now.first }
     {
         self.value.first.fork(alloc)
     }
 
-    /// A view of the second value. It takes no memory today. This project's own.
+    /// A view of the second value.
     pub fn second(&self, alloc: Global) -> Tracked<'b, B>
         ensures { result ≡ self.now.second }
     {

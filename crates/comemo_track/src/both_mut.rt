@@ -1,4 +1,4 @@
-//! Tracked values joined, to be written: two as one.
+//! Two tracked values joined as one that is read and written.
 ghost use Rattle.std.specs.Prelude.{◌≡◌};
 ghost use Rattle.std.proofs.Common.{rules};
 
@@ -6,10 +6,9 @@ use crate::multi::{MultiAnswer, MultiCall};
 use crate::track::Track;
 use std::alloc::AllocError;
 
-/// Tracked values joined: two, lent as one that is read and written.
+/// Two tracked values, borrowed as one that is read and written.
 ///
-/// Each call is a part's, as those of `Both` are; a write changes its part alone. It takes no memory. This project's
-/// own: comemo's functions take their tracked arguments side by side.
+/// Each call belongs to one part, as with `Both`; a write changes its part only.
 #[derive(Drop)]
 pub struct BothMut<'a, A, B> {
     /// The first value.
@@ -18,7 +17,7 @@ pub struct BothMut<'a, A, B> {
     pub second: &'a mut B,
 }
 
-/// An answer takes what its part takes, and is refused where its part's is. So it is with a write.
+/// The call's part answers or is written; it fails if that does.
 impl<'a, A: Track, B: Track> Track for BothMut<'a, A, B> {
     type Call = MultiCall<A::Call, B::Call>;
 
@@ -36,7 +35,7 @@ impl<'a, A: Track, B: Track> Track for BothMut<'a, A, B> {
     ghost clones = { by_answers _ A.clones B.clones
         (λ a b h. Prim.search rules) (λ a b h. Prim.search rules) };
 
-    // a write of a part changes the value of the part alone
+    // a write changes its own part only
     ghost wrote = { λ s call t. OnCall
         (λ c. WroteAt A.wrote s.first c t.first × (t.second ≡ s.second))
         (λ c. WroteAt B.wrote s.second c t.second × (t.first ≡ s.first))

@@ -1,4 +1,4 @@
-//! Recordings: what a run asked, and what it did.
+//! Recordings: what a run asked and wrote.
 ghost use Rattle.std.specs.Prelude.{◌≡◌, ◌↔◌, ◌≤◌, ◌+◌, ◌&&◌, ◌||◌, [], ◌∷◌, ◌++◌, Bool, true, false, length, IsTrue, IsOk, IfOk, OnOk, OnErr, not, is_none};
 ghost use Rattle.std.specs.List.{All};
 ghost use Rattle.comemo_base.specs.Sequence.{held, absorbed};
@@ -15,10 +15,8 @@ use std::marker::Model;
 /// A recording of one run of a memoized function: its reads with their answers, each read once, and its writes in
 /// order.
 ///
-/// It is whole, or spoiled: then something that should have been recorded was not. And it is late, or not: it is once a
-/// read came after a write that touches it. It keeps its reads as a
-/// `CallSequence` and its writes as a `Vec`, and takes what those take. comemo's `Constraint`, owned and lent for
-/// writing, with answers themselves in the place of their hashes.
+/// It is incomplete once something that should be recorded was lost, and late once a read came after a write that
+/// touches it. Neither an incomplete nor a late recording is stored.
 #[derive(Drop)]
 pub struct Constraint<C: Call, R> {
     reads: CallSequence<C, R>,
@@ -47,9 +45,7 @@ impl<C: Call, R> Model for Constraint<C, R> {
 }
 
 impl<C: Call, R> Constraint<C, R> {
-    /// A recording of nothing, which is whole, and not late. It takes no memory and constant time.
-    ///
-    /// comemo's `Constraint::new`.
+    /// An empty recording: complete, and not late. Does not allocate.
     pub fn new(alloc: Global) -> Self
         ensures pairs { result.pairs ≡ [] }
         ensures writes { result.writes ≡ [] }
@@ -64,26 +60,21 @@ impl<C: Call, R> Constraint<C, R> {
         }
     }
 
-    /// Whether nothing that should have been recorded was lost. It takes no memory.
-    ///
-    /// This project's own.
+    /// Whether nothing that should be recorded was lost.
     pub fn is_whole(&self) -> bool
         ensures { result ≡ self.now.whole }
     {
         self.whole
     }
 
-    /// Whether a read came after a write that touches it, or what was absorbed is late. It takes no memory.
-    ///
-    /// This project's own.
+    /// Whether a read came after a write that touches it, here or in an absorbed recording.
     pub fn is_late(&self) -> bool
         ensures { result ≡ self.now.late }
     {
         self.late
     }
 
-    /// Tells a proof what every recording keeps: what has an answer is a read, and its writes are writes. It does nothing
-    /// when it runs. This project's own.
+    /// Makes the recording's invariant known to a proof. Does nothing at run time.
     pub fn has_reads_and_writes(&self)
         ensures reads { All (λ p. C.is_write p.0 ≡ false) self.now.pairs }
         ensures writes { All (λ c. C.is_write c ≡ true) self.now.writes }
@@ -91,8 +82,7 @@ impl<C: Call, R> Constraint<C, R> {
         let _ = &self.reads;
     }
 
-    /// The recorded reads, as a sequence, which is what a cache stores them by, and the recorded writes. It takes no
-    /// memory. This project's own.
+    /// The recorded reads, as the sequence under which a cache stores them, and the recorded writes.
     pub fn into_parts(self) -> (CallSequence<C, R>, Vec<C>)
         ensures pairs { result.0.pairs ≡ self.pairs }
         ensures writes { result.1.items ≡ self.writes }
@@ -110,13 +100,10 @@ impl<C: Call, R> Constraint<C, R> {
 }
 
 impl<C: Call, R: Drop> Constraint<C, R> {
-    /// Adds what another recording holds: its reads whose calls aren't held, in their order, and its writes after the
-    /// own ones. Of a read that is held the own answer stays. Where the other is spoiled this one is spoiled too. It is
-    /// late then if it was, if the other is, or if an own write touches a read of the other.
+    /// Appends another recording: the reads whose calls aren't recorded here, and the writes.
     ///
-    /// Where there is no memory it answers `AllocError`: then reads and writes stay as they were and the recording is
-    /// spoiled, since the other is gone. It takes the room for all calls of the other at once, clones nothing, and
-    /// takes constant expected time for each of them, but that it asks each own write of each read of the other. comemo's `Constraint` has nothing like it.
+    /// The result is incomplete if either is, and late if either is or an own write touches a read of the other: each
+    /// own write is compared with each of those reads. On error this recording is incomplete, and the other is dropped.
     pub fn absorb(&mut self, other: Constraint<C, R>) -> Result<(), AllocError>
         ensures pairs { OnOk result (self.new.pairs ≡ absorbed C.eq self.old.pairs other.pairs) }
         ensures writes { OnOk result (self.new.writes ≡ self.old.writes ++ other.writes) }
@@ -141,7 +128,7 @@ impl<C: Call, R: Drop> Constraint<C, R> {
         Ok(())
     }
 
-    /// Adds reads and writes. An error says that there was no memory for them, and then nothing was added.
+    /// Appends reads and writes. On error nothing is added.
     fn absorb_parts(
         &mut self,
         reads: CallSequence<C, R>,
@@ -156,6 +143,7 @@ impl<C: Call, R: Drop> Constraint<C, R> {
         let late = self.late || touch_some(&self.writes, &reads);
         self.writes.reserve(writes.len())?;
         self.reads.absorb(reads)?;
+        // Room was made above, so this never fails.
         let Ok(()) = self.writes.append(&mut writes) else {
             unreachable!()
         };
@@ -164,7 +152,7 @@ impl<C: Call, R: Drop> Constraint<C, R> {
     }
 }
 
-/// Whether one of these writes touches a read. It asks each of them.
+/// Whether one of these writes touches a read.
 fn touch<C: Call>(writes: &Vec<C>, read: &C) -> bool
     ensures { result ≡ touched_by C.touches writes.now.items read.now }
 {
@@ -176,7 +164,7 @@ fn touch<C: Call>(writes: &Vec<C>, read: &C) -> bool
     false
 }
 
-/// Whether one of these writes touches a read of a sequence. It asks each write of each read.
+/// Whether one of these writes touches a read of a sequence. Compares each write with each read.
 fn touch_some<C: Call, R>(writes: &Vec<C>, reads: &CallSequence<C, R>) -> bool
     ensures { result ≡ touched C.touches writes.now.items reads.now.pairs }
 {
@@ -191,12 +179,9 @@ fn touch_some<C: Call, R>(writes: &Vec<C>, reads: &CallSequence<C, R>) -> bool
 }
 
 impl<C: Call, R: Clone + Ord> Constraint<C, R> {
-    /// Whether a value gives each recorded answer again: it is asked the recorded reads in their order, up to the first
-    /// whose answer differs. A recording of no reads holds of every value, and writes say nothing.
+    /// Whether a value returns each recorded answer again. Asks the reads in order, up to the first that differs.
     ///
-    /// An error comes only where the value refused an answer, and the answers before it agreed. It asks each read once,
-    /// takes the memory of one answer at a time, and changes nothing. comemo's `Constraint::validate`, which can't be
-    /// refused.
+    /// Fails only if the value does, after equal answers. Writes don't matter.
     pub fn validate<T: Track<Call = C, Answer = R>>(&self, value: &T) -> Result<bool, AllocError>
         ensures ok { IfOk result
             (λ valid. IsTrue valid ↔ Agrees R.eq (T.answers value.now) self.now.pairs) }
@@ -213,9 +198,8 @@ impl<C: Call, R: Clone + Ord> Constraint<C, R> {
     }
 }
 
-/// It takes note of a read as `CallSequence::insert` does: it clones a call that is new, in constant expected time, and
-/// where there is no memory nothing changes. The first answer to a call stays. A write is added behind the others. A read
-/// that one of the writes touches makes the recording late, also one that is held; each write is asked that.
+/// Records a read by `CallSequence::insert`, which clones a new call and keeps the first answer. A read that a recorded
+/// write touches makes the recording late, even if it is recorded already; each write is asked that.
 impl<C: Call, R: Clone + Ord> Sink for Constraint<C, R> {
     type Call = C;
 
@@ -266,7 +250,7 @@ impl<C: Call, R: Clone + Ord> Sink for Constraint<C, R> {
                 self.late = late;
                 Ok(new)
             }
-            // Only a write comes without an answer.
+            // Only a write has no answer.
             None => {
                 self.writes.push(call)?;
                 Ok(true)

@@ -1,5 +1,5 @@
-//! Inputs of memoized functions: a key, by which entries are told apart, and calls, whose answers they are looked up
-//! by.
+//! Inputs of memoized functions: a key, which tells entries apart, and calls, by whose answers entries are found. An
+//! input allocates, and fails, where its parts do.
 ghost use Rattle.std.specs.Prelude.{◌≡◌, [], ◌∷◌, ◌++◌, List, true, false, IsTrue, IfOk, OnOk, OnErr, refl};
 ghost use Rattle.std.proofs.Common.{◌∙◌, ap};
 ghost use Rattle.comemo_base.specs.Answers.{Respects};
@@ -14,19 +14,18 @@ use std::alloc::AllocError;
 use std::hash::Hash;
 use std::marker::Model;
 
-/// An input of a memoized function.
+/// An input of a memoized function: a key, which isn't tracked, and tracked values, which answer calls.
 ///
-/// What isn't tracked of it is its key; what is tracked answers calls. A contract knows what was done to an input by
-/// `did s t W`: t is s after the writes W, which change the answer of no read that they don't touch, nor the key. comemo's `Input`, with keys
-/// and answers themselves, which can be refused.
+/// Contracts describe what is done to an input by `did s t W`: t is s after the writes W. These change neither the key
+/// nor the answer of a read that they don't touch.
 pub trait Input {
     /// What the input can be asked.
     type Call: Call;
 
-    /// What entries are told apart by, before any call is asked.
+    /// What tells entries apart before any call is asked.
     type Key: Clone + Eq + Hash;
 
-    /// What a read is answered by: one type for all calls.
+    /// The answer to a read: one type for all calls.
     type Answer: Clone + Ord;
 
     // the key
@@ -38,25 +37,18 @@ pub trait Input {
     // t is s after these writes, in order
     ghost did: { Self → Self → List Self.Call → Type 0 };
 
-    /// The key, cloned. An error says that there was no memory for it.
-    ///
-    /// comemo's `Input::key`, which feeds a hasher.
+    /// A clone of the key. Fails if cloning does.
     fn key(&self) -> Result<Self::Key, AllocError>
         ensures { IfOk result (λ key. IsTrue (Self.Key.eq (key_of self.now) key)) };
 
-    /// The answer to a read. An error says that there was no memory for it. Either way nothing is written to the input.
-    ///
-    /// comemo's `Input::call`, which gives a hash.
+    /// The answer to a read. Writes nothing, even on error.
     fn call(&mut self, call: &Self::Call) -> Result<Self::Answer, AllocError>
         requires { Self.Call.is_write call.now ≡ false }
         ensures answer { IfOk result
             (λ answer. IsTrue (Self.Answer.eq (answers self.old call.now) answer)) }
         ensures same { did self.old self.new [] };
 
-    /// Does a write on the input. An error says that it was refused, and then nothing was done. What can't be written
-    /// to does nothing. It is handed no read.
-    ///
-    /// comemo's `Input::call_mut`, which can't be refused.
+    /// Does a write. On error nothing is written. An input that can't be written to ignores it. Never gets a read.
     fn call_mut(&mut self, call: &Self::Call) -> Result<(), AllocError>
         ensures ok { Self.Call.is_write call.now ≡ true
             → OnOk result (did self.old self.new (call.now ∷ [])) }
@@ -65,34 +57,32 @@ pub trait Input {
     // equal calls have equal answers
     ghost alike: { (s : Self) → Respects Self.Call.eq Self.Answer.eq (answers s) };
 
-    // nothing done is no write
+    // no writes change nothing
     ghost starts: { (s : Self) → did s s [] };
 
-    // what is done in two parts is done
+    // writes in two parts are the writes joined
     ghost joins: { (s t u : Self) (V W : List Self.Call)
         → did s t V → did t u W → did s u (V ++ W) };
 
-    // no write changes the answer of a read that none touches
+    // a read that no write touches keeps its answer
     ghost keeps: { (s t : Self) (W : List Self.Call)
         → did s t W → (call : Self.Call) → Self.Call.is_write call ≡ false
         → touched_by Self.Call.touches W call ≡ false
         → IsTrue (Self.Answer.eq (answers s call) (answers t call)) };
 
-    // nor the key
+    // so does the key
     ghost keeps_key: { (s t : Self) (W : List Self.Call)
         → did s t W → IsTrue (Self.Key.eq (key_of s) (key_of t)) };
 }
 
-/// A key joined with a view: the input of a function of one argument that isn't tracked and one that is. Its calls are
-/// the view's.
+/// A key joined with a view: the input of a function with one untracked and one tracked argument.
 ///
-/// The front door's input. It takes what its parts take. This project's own: with one view no call has to say whose it
-/// is, as a call of `Multi` does.
+/// Its calls are the view's, so unlike a call of `Multi` they don't say which part they are for.
 #[derive(Drop)]
 pub struct Keyed<'a, K: Clone + Eq + Hash, T> {
-    /// What isn't tracked.
+    /// The untracked argument.
     pub key: K,
-    /// A view of what is tracked.
+    /// A view of the tracked argument.
     pub view: Tracked<'a, T>,
     // a clone of a key is equal
     pub ghost clones: { (x y : K) → K.is_clone x y → IsTrue (K.eq x y) },
@@ -131,19 +121,18 @@ impl<'a, K: Clone + Eq + Hash, T: Track> Input for Keyed<'a, K, T> {
     }
 
     fn call_mut(&mut self, _call: &T::Call) -> Result<(), AllocError> {
+        // A view can't write, so a write has no effect.
         Ok(())
     }
 }
 
-/// A key joined with a tracked value that is lent to be written: the input of a function of one argument that isn't
-/// tracked and one that it reads and writes. Its calls are the value's.
-///
-/// The input of the front door of functions that write. It takes what its parts take. This project's own, as `Keyed` is.
+/// A key joined with a borrowed tracked value: the input of a function of an untracked argument, and one that it reads
+/// and writes. Its calls are the value's.
 #[derive(Drop)]
 pub struct KeyedMut<'a, K: Clone + Eq + Hash, T> {
-    /// What isn't tracked.
+    /// The untracked argument.
     pub key: K,
-    /// What is tracked.
+    /// The tracked argument.
     pub value: &'a mut T,
     // a clone of a key is equal
     pub ghost clones: { (x y : K) → K.is_clone x y → IsTrue (K.eq x y) },
@@ -192,10 +181,8 @@ impl<'a, K: Clone + Eq + Hash, T: Track> Input for KeyedMut<'a, K, T> {
     }
 }
 
-/// A view: an input with no key, whose calls and answers are the view's. Lent as `&mut`, it is its caller's again after
-/// a look-up. The key takes no memory; an answer is refused where the value refuses it.
-///
-/// comemo's `Input` for `Tracked`.
+/// A view: an input without a key, whose calls and answers are the view's. Passed by `&mut`, it can be used again after
+/// a look-up.
 impl<'a, T: Track> Input for Tracked<'a, T> {
     type Call = T::Call;
 
@@ -229,14 +216,15 @@ impl<'a, T: Track> Input for Tracked<'a, T> {
     }
 
     fn call_mut(&mut self, _call: &T::Call) -> Result<(), AllocError> {
+        // A view can't write, so a write has no effect.
         Ok(())
     }
 }
 
-/// A reference to a view: an input like the view itself, for a place where the view can't be moved to.
+/// A reference to a view: an input like the view, for a place to which the view can't be moved.
 ///
-/// A proof that hands in a reference to such a reference knows nothing of the view behind it afterwards; one that lends
-/// the view itself does. It takes what the view takes. comemo has `Input` for `Tracked` alone, which is `Copy` there.
+/// A proof that passes a reference to such a reference knows nothing of the view afterwards; one that lends the view
+/// does.
 impl<'a, T: Track> Input for &mut Tracked<'a, T> {
     type Call = T::Call;
 
@@ -270,14 +258,13 @@ impl<'a, T: Track> Input for &mut Tracked<'a, T> {
     }
 
     fn call_mut(&mut self, _call: &T::Call) -> Result<(), AllocError> {
+        // A view can't write, so a write has no effect.
         Ok(())
     }
 }
 
-/// A view that writes: an input with no key, whose calls and answers are the view's, and on which writes are done.
-/// Lent as `&mut`, it is its caller's again after a call. It takes what the value takes.
-///
-/// comemo's `Input` for `TrackedMut`.
+/// A writing view: an input without a key, whose calls and answers are the view's. Passed by `&mut`, it can be used
+/// again after a call.
 impl<'a, T: Track> Input for TrackedMut<'a, T> {
     type Call = T::Call;
 
@@ -320,9 +307,7 @@ impl<'a, T: Track> Input for TrackedMut<'a, T> {
     }
 }
 
-/// A reference to a view that writes: an input like the view itself, for a place where the view can't be moved to.
-///
-/// It takes what the view takes. comemo has `Input` for `&mut TrackedMut` too.
+/// A reference to a writing view: an input like the view, for a place to which the view can't be moved.
 impl<'a, T: Track> Input for &mut TrackedMut<'a, T> {
     type Call = T::Call;
 
@@ -367,12 +352,9 @@ impl<'a, T: Track> Input for &mut TrackedMut<'a, T> {
     }
 }
 
-/// A value that isn't tracked: an input that is a key alone, told from others by its `Eq`. Contracts see it as the
-/// value.
+/// An untracked value: an input that is a key only, told apart by its `Eq`. Contracts see it as the value.
 ///
-/// Its one call is `()`, whose answer tells nothing. To make one, a clone of the value has to be equal to it. It takes
-/// the memory of that clone, and is refused where the clone is. comemo's `Input` for each type that can be hashed,
-/// which keeps the value's hash where this keeps the value.
+/// Its only call is `()`, whose answer carries nothing. A clone of the value must be equal to it.
 #[derive(Drop)]
 pub struct Hashed<T: Clone + Eq + Hash>(pub T);
 
@@ -418,6 +400,7 @@ impl<T: Clone + Eq + Hash> Input for Hashed<T> {
     }
 
     fn call_mut(&mut self, _call: &()) -> Result<(), AllocError> {
+        // Never called: `()` is a read.
         Ok(())
     }
 }

@@ -1,8 +1,8 @@
-//! Tracked values, the views through which they are read, what takes note of the calls, and what is made of both as an
-//! input of a memoized function.
+//! Tracked values, the views that read and write them, the sinks that record the calls, and the inputs that memoized
+//! functions make of these.
 //!
-//! A view sends what it is asked to a recording. The recording holds of each value that gives the same answers, so of a
-//! value that was changed where nobody asked:
+//! A view sends its calls to a recording. The recording stays valid for each value that answers them alike, so also
+//! after a change that no call saw:
 //!
 //! ```rust
 //! use comemo_samples::{Town, TownCall};

@@ -1,4 +1,4 @@
-//! Sinks that send each call on under another name.
+//! Sinks that rename calls and send them on.
 ghost use Rattle.std.specs.Prelude.{◌≡◌, ◌≤◌, ◌+◌, ◌||◌, [], List, false, not, is_none, length, IsTrue, IsOk, IfOk, OnOk, OnErr, map, refl};
 ghost use Rattle.std.proofs.Common.{◌∙◌};
 ghost use Rattle.comemo_track.specs.Mapped.{Through};
@@ -7,69 +7,66 @@ ghost use Rattle.comemo_track.specs.Sending.{Asks, sent_pairs, sent_writes};
 use crate::track::{Call, Sink, Track, Tracked};
 use std::alloc::AllocError;
 
-/// Sends calls to calls and answers to answers.
+/// Renames calls and answers.
 ///
-/// Different calls go to different calls, reads to reads and writes to writes, which touch the same reads, and different
-/// answers to different answers. This project's own; comemo takes a closure for it.
+/// Different calls get different names, and so do different answers. Reads stay reads, and writes stay writes that
+/// touch the same reads.
 pub trait CallMap {
     /// The calls that are sent.
     type From: Call;
 
-    /// The calls that they go to.
+    /// The calls that they become.
     type To: Call;
 
     /// The answers that are sent.
     type FromAnswer: Clone + Ord;
 
-    /// The answers that they go to.
+    /// The answers that they become.
     type ToAnswer: Clone + Ord;
 
-    // where a call goes
+    // what a call becomes
     ghost maps: { Self → Self.From → Self.To };
 
-    // where an answer goes
+    // what an answer becomes
     ghost maps_answer: { Self → Self.FromAnswer → Self.ToAnswer };
 
-    /// Where a call goes. It can't be refused.
+    /// What a call becomes. Never fails.
     fn map(&self, call: Self::From) -> Self::To
         ensures { result ≡ maps self.now call };
 
-    /// Where an answer goes. It can't be refused.
+    /// What an answer becomes. Never fails.
     fn map_answer(&self, answer: Self::FromAnswer) -> Self::ToAnswer
         ensures { result ≡ maps_answer self.now answer };
 
-    // reads go to reads and writes to writes
+    // reads become reads and writes become writes
     ghost same_kind: { (s : Self) (call : Self.From)
         → Self.To.is_write (maps s call) ≡ Self.From.is_write call };
 
-    // a write touches a read exactly where their images do
+    // a write touches a read exactly if their images do
     ghost same_touch: { (s : Self) (x y : Self.From)
         → Self.To.touches (maps s x) (maps s y) ≡ Self.From.touches x y };
 
-    // calls are equal exactly where their images are
+    // calls are equal exactly if their images are
     ghost apart: { (s : Self) (x y : Self.From)
         → Self.To.eq (maps s x) (maps s y) ≡ Self.From.eq x y };
 
-    // answers are equal exactly where their images are
+    // answers are equal exactly if their images are
     ghost answers_apart: { (s : Self) (x y : Self.FromAnswer)
         → Self.ToAnswer.eq (maps_answer s x) (maps_answer s y) ≡ Self.FromAnswer.eq x y };
 }
 
-/// A sink that sends each call and its answer on to another sink, through a map. It takes no memory of its own.
+/// A sink that renames each call and its answer, and sends them to another sink. Fails if that does.
 ///
-/// It refuses what the sink behind it refuses. Once it is dropped, the sink behind it is known to hold what was sent.
-/// comemo's `MappedSink`.
+/// Once it is dropped, the other sink is known to hold what was sent.
 pub struct MappedSink<'a, S, M> {
-    /// The sink behind.
+    /// The sink to which calls are sent.
     pub sink: &'a mut S,
-    /// What each call and its answer go through.
+    /// What renames calls and answers.
     pub map: M,
 }
 
 impl<'a, S, M> MappedSink<'a, S, M> {
-    /// Such a sink before `sink`, by `map`. It takes no memory and constant time.
-    ///
-    /// comemo's `MappedSink::new`.
+    /// A sink that sends to `sink` by `map`. Does not allocate.
     pub fn new(sink: &'a mut S, map: M) -> Self
         ensures same_reference { result.sink.ghost_name ≡ sink.entry.ghost_name }
         ensures value { result.sink.now ≡ sink.old }
@@ -164,11 +161,7 @@ impl<'a, S: Sink<Call = M::To, Answer = M::ToAnswer>, M: CallMap> Sink for Mappe
 }
 
 impl<'a, T: Track> Tracked<'a, T> {
-    /// Asks the value a read, and sends the call with its answer to a sink through a map.
-    ///
-    /// It does what `ask` does with a `MappedSink`. It asks the value once, and clones the answer for the sink. An
-    /// error says that there was no memory for the answer, its clone or the sink; then the sink is as it was. This
-    /// project's own.
+    /// As `ask`, through a map: asks the value a read, and sends the renamed call and answer to a sink.
     pub fn ask_through<
         M: CallMap<From = T::Call, FromAnswer = T::Answer> + Drop,
         S: Sink<Call = M::To, Answer = M::ToAnswer>,

@@ -9,8 +9,6 @@ use std::alloc::AllocError;
 use std::marker::PhantomData;
 
 /// A call of one of two joined inputs.
-///
-/// It takes what the part's call takes. comemo's `MultiCall`, of two parts.
 #[derive(Clone, Drop, Debug, PartialEq, Eq, Hash)]
 pub enum MultiCall<A, B> {
     /// A call of the first part.
@@ -51,8 +49,6 @@ impl<A: Call, B: Call> Call for MultiCall<A, B> {
 }
 
 /// An answer of one of two joined inputs.
-///
-/// It takes what the part's answer takes. comemo has none, since it keeps the hashes of answers.
 #[derive(Clone, Drop, Debug, PartialEq, Eq, PartialOrd, Ord)]
 pub enum MultiAnswer<A, B> {
     /// An answer of the first part.
@@ -61,15 +57,14 @@ pub enum MultiAnswer<A, B> {
     B(B),
 }
 
-/// Inputs joined: a pair, whose parts may be pairs themselves, or nothing at all.
+/// Joined inputs: `()`, or a pair whose parts may be joined inputs themselves.
 ///
-/// The key of a pair is the pair of its parts' keys, and each call and its answer are a part's. comemo's `Multi`, which
-/// takes up to twelve parts side by side; here three are `Multi((first, Multi((second, third))))`. Its field is `()`,
-/// or the pair of the parts.
+/// The key of a pair is the pair of the keys; each call and its answer belong to one part. Three inputs are
+/// `Multi((first, Multi((second, third))))`.
 #[derive(Drop)]
 pub struct Multi<T>(pub T);
 
-/// No arguments: an input whose one call is `()`. It takes no memory and refuses nothing.
+/// No arguments: an input whose only call is `()`. It never fails.
 impl Input for Multi<()> {
     type Call = ();
 
@@ -102,11 +97,12 @@ impl Input for Multi<()> {
     }
 
     fn call_mut(&mut self, _call: &()) -> Result<(), AllocError> {
+        // Never called: `()` is a read.
         Ok(())
     }
 }
 
-/// Two inputs as one. It takes what its parts take: a key is refused where a part's is, an answer where its part's is.
+/// Two inputs as one. It fails if a part does.
 impl<A: Input, B: Input> Input for Multi<(A, B)> {
     type Call = MultiCall<A::Call, B::Call>;
 
@@ -165,9 +161,7 @@ impl<A: Input, B: Input> Input for Multi<(A, B)> {
     }
 }
 
-/// Sends the calls and answers of a first part to those of the pair. It takes no memory.
-///
-/// This project's own.
+/// Maps the calls and answers of the first part to those of the pair.
 #[derive(Drop)]
 pub struct First<A, B, RA, RB> {
     calls: PhantomData<(A, B)>,
@@ -175,7 +169,7 @@ pub struct First<A, B, RA, RB> {
 }
 
 impl<A, B, RA, RB> First<A, B, RA, RB> {
-    /// Such a map. It takes no memory. This project's own.
+    /// A map for the first part.
     pub fn new() -> Self {
         First {
             calls: PhantomData,
@@ -216,9 +210,7 @@ impl<A: Call, B: Call, RA: Clone + Ord, RB: Clone + Ord> CallMap for First<A, B,
     }
 }
 
-/// Sends the calls and answers of a second part to those of the pair. It takes no memory.
-///
-/// This project's own.
+/// Maps the calls and answers of the second part to those of the pair.
 #[derive(Drop)]
 pub struct Second<A, B, RA, RB> {
     calls: PhantomData<(A, B)>,
@@ -226,7 +218,7 @@ pub struct Second<A, B, RA, RB> {
 }
 
 impl<A, B, RA, RB> Second<A, B, RA, RB> {
-    /// Such a map. It takes no memory. This project's own.
+    /// A map for the second part.
     pub fn new() -> Self {
         Second {
             calls: PhantomData,

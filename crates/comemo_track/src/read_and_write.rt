@@ -6,12 +6,9 @@ use crate::multi::{MultiAnswer, MultiCall};
 use crate::track::{Track, Tracked};
 use std::alloc::AllocError;
 
-/// Two tracked values as one: a view of the first, which is read, and a reference to the second, which is read and
-/// written.
+/// Two tracked values as one: a view of the first, and a second that is borrowed to be read and written.
 ///
-/// Each call is a call of one part, as for `BothMut`. The first value may be borrowed elsewhere too, since it is held
-/// by a view. The struct takes no memory of its own. comemo has no such type: its functions take their tracked
-/// arguments side by side.
+/// Each call belongs to one part, as with `BothMut`. The first value may be borrowed elsewhere too.
 #[derive(Drop)]
 pub struct ReadAndWrite<'a, A, B> {
     /// The view of the first value.
@@ -20,8 +17,7 @@ pub struct ReadAndWrite<'a, A, B> {
     pub second: &'a mut B,
 }
 
-/// The part of the call answers it. A read fails if its part fails. A write fails if it is a call of the first value,
-/// or if the second value fails.
+/// The call's part answers or is written, and fails if that does. A write to the first part fails.
 impl<'a, A: Track, B: Track> Track for ReadAndWrite<'a, A, B> {
     type Call = MultiCall<A::Call, B::Call>;
 
@@ -39,7 +35,7 @@ impl<'a, A: Track, B: Track> Track for ReadAndWrite<'a, A, B> {
     ghost clones = { by_answers _ A.clones B.clones
         (λ a b h. Prim.search rules) (λ a b h. Prim.search rules) };
 
-    // a write of the second value changes that value alone, and a write of the first is never done
+    // a write changes the second value only, and a write to the first always fails
     ghost wrote = { λ s call t. OnCall
         (λ _. ⊥)
         (λ c. WroteAt B.wrote s.second c t.second × (t.first ≡ s.first))

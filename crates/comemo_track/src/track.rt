@@ -1,4 +1,5 @@
-//! Tracked values, the calls that they answer, and what takes note of the calls.
+//! Tracked values, their calls, and the sinks that record the calls. Making a view does not allocate today, though it
+//! takes `alloc`. A call allocates what its value and its sink do.
 ghost use Rattle.std.specs.Prelude.{◌≡◌, ◌≤◌, ◌+◌, ◌^◌, ◌||◌, ◌⊎◌, ℕ, [], ◌∷◌, ◌++◌, List, Bool, true, false, not, length, Some, is_none, IsTrue, IsOk, IfOk, OnOk, OnErr, ⊤, refl};
 ghost use Rattle.std.proofs.Common.{◌∙◌, inl};
 ghost use Rattle.comemo_base.specs.Answers.{Respects};
@@ -16,21 +17,19 @@ use std::marker::{Model, PhantomData};
 
 /// A call to a tracked value: a read, which has an answer, or a write, which changes the value.
 ///
-/// Calls are told apart by their `Eq`, and a clone is equal to its original. comemo's `Call`, with `Eq`.
+/// Calls are told apart by their `Eq`; a clone is equal to its original.
 pub trait Call: Clone + Eq + Hash {
     // whether the call is a write
     ghost is_write: { Self → Bool };
 
-    /// Whether the call is a write. comemo's `Call::is_mutable`.
+    /// Whether the call is a write.
     fn is_mutable(&self) -> bool
         ensures { result ≡ is_write self.now };
 
     // whether a write touches a read, whose answer it may change
     ghost touches: { Self → Self → Bool };
 
-    /// Whether a write touches a read: it leaves the answers of all reads that it does not touch.
-    ///
-    /// It matters for a write and a read alone. This project's own: comemo's writes change no read's answer.
+    /// Whether a write may change the answer of a read. Matters for a write and a read only.
     fn touches(&self, read: &Self) -> bool
         ensures { result ≡ touches self.now read.now };
 
@@ -41,7 +40,7 @@ pub trait Call: Clone + Eq + Hash {
     ghost clones: { (x y : Self) → Self.is_clone x y → IsTrue (Self.eq x y) };
 }
 
-/// The one call of what has nothing to ask: a read.
+/// The only call of a value that has nothing to ask: a read.
 impl Call for () {
     ghost use Rattle.std.proofs.Common.{rules};
 
@@ -62,37 +61,36 @@ impl Call for () {
     }
 }
 
-/// What takes note of calls, as a recording does.
+/// What records calls, as a recording does.
 ///
-/// A contract knows a sink by what it took: `took s t P W` says that t is s after it took the pairs P, each a read with
-/// its answer, and then the writes W. comemo's `Sink`, by `&mut self`, and it can be refused memory.
+/// Contracts describe a sink by what it took: `took s t P W` says that t is s after it took the pairs P, each a read
+/// with its answer, and then the writes W.
 pub trait Sink {
-    /// What it takes note of.
+    /// The calls that are recorded.
     type Call: Call;
 
-    /// The answer that comes with a read: one type for all calls.
+    /// The answer to a read: one type for all calls.
     type Answer: Clone + Ord;
 
     // t is s after it took these pairs and these writes
     ghost took: { Self → Self → List (Self.Call × Self.Answer) → List Self.Call → Type 0 };
 
-    // t is s as it was, but spoiled
+    // t is s, marked incomplete
     ghost spoils: { Self → Self → Type 0 };
 
-    // t is s as it was, but late
+    // t is s, marked late
     ghost lates: { Self → Self → Type 0 };
 
     // whether a read is held, so that it is not taken again
     ghost holds: { Self → Self.Call → Bool };
 
-    // how many writes it takes without being refused
+    // how many writes it takes without failing
     ghost room: { Self → ℕ };
 
-    /// Takes note of a call: a read with its answer, or a write with `None`.
+    /// Records a read with its answer, or a write with `None`.
     ///
-    /// It answers false for a read that is held already, which is not taken again, and else true: a write is always added.
-    /// An error says that there was no memory, and changes nothing; the call and its answer are gone then. It never
-    /// comes for a write while there is room. comemo's `Sink::emit`.
+    /// Returns false for a read that is held already, which isn't taken again, and otherwise true. On error nothing
+    /// changes, and the call and its answer are dropped.
     fn emit(&mut self, call: Self::Call, answer: Option<Self::Answer>) -> Result<bool, AllocError>
         requires answered { is_none answer ≡ Self.Call.is_write call }
         ensures ok { OnOk result
@@ -102,27 +100,20 @@ pub trait Sink {
         ensures succeeds { IsTrue (is_none answer) → 1 ≤ room self.old → IsOk result }
         ensures room { room self.old ≤ room self.new + length (sent_writes call answer) };
 
-    /// Makes room for so many writes: emits of them succeed then. An error says that there was no memory for it. It
-    /// changes nothing else.
-    ///
-    /// This project's own.
+    /// Makes room for this many writes, so that emitting them succeeds. Changes nothing else.
     fn reserve(&mut self, writes: usize) -> Result<(), AllocError>
         ensures ok { OnOk result (writes ≤ room self.new) }
         ensures same { took self.old self.new [] [] };
 
-    /// Marks what the sink holds as incomplete, and changes nothing else: a recording that is spoiled is never stored.
-    /// It takes no memory. This project's own.
+    /// Marks the sink as incomplete: the recording is never stored.
     fn spoil(&mut self)
         ensures { spoils self.old self.new };
 
-    /// Marks what the sink holds as late, and changes nothing else: a recording that is late is never stored. It takes no
-    /// memory. This project's own.
+    /// Marks the sink as late: the recording is never stored.
     fn late(&mut self)
         ensures { lates self.old self.new };
 
-    /// Whether the sink is the same whatever it takes, so that a caller need not make clones for it.
-    ///
-    /// A sink that keeps what it takes need not say so. This project's own.
+    /// Whether the sink ignores all that it takes, so that a caller needn't clone for it. False is always right.
     fn keeps_nothing(&self) -> bool
         ensures { IsTrue result
             → (P : List (Self.Call × Self.Answer)) (W : List Self.Call)
@@ -131,15 +122,15 @@ pub trait Sink {
         false
     }
 
-    // nothing taken is nothing done
+    // taking nothing changes nothing
     ghost starts: { (s : Self) → took s s [] [] };
 
-    // what is taken after reads alone is taken with them
+    // what is taken after reads only joins them
     ghost joins: { (s t u : Self)
         (P Q : List (Self.Call × Self.Answer)) (W : List Self.Call)
         → took s t P [] → took t u Q W → took s u (P ++ Q) W };
 
-    // writes that are taken afterwards are taken with what was taken before
+    // writes taken later join what was taken before
     ghost adds: { (s t u : Self)
         (P : List (Self.Call × Self.Answer)) (V W : List Self.Call)
         → took s t P V → took t u [] W → took s u P (V ++ W) };
@@ -149,7 +140,7 @@ pub trait Sink {
         (P : List (Self.Call × Self.Answer)) (W : List Self.Call) (call : Self.Call)
         → took s t P W → IsTrue (holds s call) → IsTrue (holds t call) };
 
-    // of a read that is held it takes no answer
+    // no answer is taken for a read that is held
     ghost held_again: { (s t : Self) (call : Self.Call) (answer other : Self.Answer)
         → IsTrue (holds s call) → took s t ((call, answer) ∷ []) []
         → took s t ((call, other) ∷ []) [] };
@@ -160,27 +151,25 @@ pub trait Sink {
         → took s t P W → IsTrue (holds t call)
         → IsTrue (holds s call) ⊎ IsTrue (held Self.Call.eq P call) };
 
-    // a sink that is spoiled holds what it held
+    // an incomplete sink holds what it held
     ghost spoiled_holds: { (s t : Self) (call : Self.Call)
         → spoils s t → holds t call ≡ holds s call };
 
-    // so does a sink that is marked late
+    // so does a late one
     ghost late_holds: { (s t : Self) (call : Self.Call)
         → lates s t → holds t call ≡ holds s call };
 }
 
-/// What a sink is after something broke off, for contracts to cite, as `⟦<S as Breaking>⟧.breaks_off`.
-///
-/// There is nothing to implement. This project's own.
+/// What a sink is after a failure, for contracts, as `⟦<S as Breaking>⟧.breaks_off`. There is nothing to implement.
 pub trait Breaking: Sink {
-    // t is s after it took a beginning of these pairs, and then was spoiled
+    // t is s after it took a prefix of these pairs, and was then marked incomplete
     ghost breaks_off: { Self → Self → List (Self.Call × Self.Answer) → Type 0 };
 
-    // t is s after it took these pairs and these writes, and then was spoiled
+    // t is s after it took these pairs and writes, and was then marked incomplete
     ghost spoiled_after: { Self → Self
         → List (Self.Call × Self.Answer) → List Self.Call → Type 0 };
 
-    // t is s after it took these pairs and these writes, and where they are late, was marked so
+    // t is s after it took these pairs and writes, and was marked late if they are
     ghost took_as: { Bool → Self → Self
         → List (Self.Call × Self.Answer) → List Self.Call → Type 0 };
 }
@@ -193,9 +182,7 @@ impl<S: Sink> Breaking for S {
     ghost took_as = { TookAs S.took S.lates };
 }
 
-/// A sink by reference: what it is sent goes to the sink that it refers to. It takes no memory of its own.
-///
-/// comemo has this for `&S`.
+/// A sink by reference.
 impl<S: Sink> Sink for &mut S {
     type Call = S::Call;
 
@@ -265,10 +252,7 @@ impl<S: Sink> Sink for &mut S {
     }
 }
 
-/// A sink that keeps nothing, for calls that no memoized function stands around. It takes no memory and refuses
-/// nothing.
-///
-/// comemo takes `()` there.
+/// A sink that ignores all that it takes, for calls outside of any memoized function. Never fails.
 #[derive(Drop)]
 pub struct Top<C, R> {
     calls: PhantomData<C>,
@@ -276,7 +260,7 @@ pub struct Top<C, R> {
 }
 
 impl<C, R> Top<C, R> {
-    /// Such a sink. It takes no memory. This project's own.
+    /// A new such sink.
     pub fn new() -> Self {
         Top {
             calls: PhantomData,
@@ -342,24 +326,19 @@ impl<C: Call, R: Clone + Ord> Sink for Top<C, R> {
 
 /// A value whose calls are tracked.
 ///
-/// An implementation says by `answers` what the value answers to each read; what that map gives for a write is never
-/// read. One that has writes says by `wrote` what each does, and does it in `call_mut`; one that has none says neither.
-/// comemo's `Track`, with one answer type for all calls, and `ask` and `call_mut` in the place of the methods that a
-/// macro makes.
+/// An implementation states by `answers` the answer to each read; its answers to writes don't matter. A type with
+/// writes states by `wrote` what each does, and does it in `call_mut`; a type without writes has neither.
 pub trait Track {
-    /// What can be asked of the value.
+    /// What can be asked or written.
     type Call: Call;
 
-    /// What a read is answered by: one type for all calls.
+    /// The answer to a read: one type for all calls.
     type Answer: Clone + Ord;
 
     // what the value answers
     ghost answers: { Self → Self.Call → Self.Answer };
 
-    /// The answer to a read. An error says that there was no memory for it. The value stays as it is. What it answers to
-    /// a write is left open: it is handed none.
-    ///
-    /// It stands in the place of comemo's `Track::call`, which gives the hash of an answer.
+    /// The answer to a read. Changes nothing, even on error. Never gets a write.
     fn ask(&self, call: &Self::Call) -> Result<Self::Answer, AllocError>
         ensures { Self.Call.is_write call.now ≡ false
             → IfOk result (λ answer. IsTrue (Self.Answer.eq (answers self.now call.now) answer)) };
@@ -367,11 +346,10 @@ pub trait Track {
     // what a write does: the value before it, the write, and the value after it
     ghost wrote: { Self → Self.Call → Self → Type 0 } = { λ _ _ _. ⊤ };
 
-    /// Does a write, which changes the answer of no read that it does not touch. An error says that it was refused, and
-    /// then nothing changes. What it does with a read is left open, but that it changes no such answer either: it is
-    /// handed none.
+    /// Does a write, which may only change the answers of reads that it touches. On error nothing changes. Never gets a
+    /// read.
     ///
-    /// A type without writes does not write this method. comemo's `Track::call_mut`, which can't be refused.
+    /// A type without writes omits this method.
     fn call_mut(&mut self, call: &Self::Call) -> Result<(), AllocError>
         ensures ok { Self.Call.is_write call.now ≡ true
             → OnOk result (wrote self.old call.now self.new) }
@@ -384,9 +362,7 @@ pub trait Track {
         Err(AllocError)
     }
 
-    /// A view of the value, through which its reads are recorded. It takes no memory today, and constant time.
-    ///
-    /// comemo's `track`.
+    /// A view of the value, which records its reads.
     final fn track(&self, alloc: Global) -> Tracked<'_, Self>
     where
         Self: Sized,
@@ -396,10 +372,7 @@ pub trait Track {
         Tracked { value: self }
     }
 
-    /// A view of the value that sends its reads to a sink, which it holds as long as it lives. It takes no memory
-    /// today, and constant time.
-    ///
-    /// comemo's `track_with`, whose result is a `Tracked` too.
+    /// A view of the value that sends its reads to a sink, which it borrows.
     final fn track_with<'a, S: Sink<Call = Self::Call, Answer = Self::Answer>>(
         &'a self,
         alloc: Global,
@@ -415,9 +388,7 @@ pub trait Track {
         TrackedWith { value: self, sink }
     }
 
-    /// A view of the value that writes too. It takes no memory, and constant time.
-    ///
-    /// comemo's `track_mut`.
+    /// A view of the value that reads and writes.
     final fn track_mut(&mut self, alloc: Global) -> TrackedMut<'_, Self>
     where
         Self: Sized,
@@ -428,10 +399,7 @@ pub trait Track {
         TrackedMut { value: self }
     }
 
-    /// A view of the value that writes too, and sends its calls to a sink, which it holds as long as it lives. It takes
-    /// no memory, and constant time.
-    ///
-    /// comemo's `track_mut_with`, whose result is a `TrackedMut` too.
+    /// A view of the value that reads and writes, and sends its calls to a sink, which it borrows.
     final fn track_mut_with<'a, S: Sink<Call = Self::Call, Answer = Self::Answer>>(
         &'a mut self,
         alloc: Global,
@@ -455,11 +423,9 @@ pub trait Track {
     ghost clones: { (x y : Self.Answer) → Self.Answer.is_clone x y → IsTrue (Self.Answer.eq x y) };
 }
 
-/// What writes do to a tracked value, for contracts to cite, as `⟦<T as Written>⟧.did`.
-///
-/// There is nothing to implement. This project's own.
+/// What writes do to a tracked value, for contracts, as `⟦<T as Written>⟧.did`. There is nothing to implement.
 pub trait Written: Track {
-    // t is s after these writes, in order, of which none changed the answer of a read that it does not touch
+    // t is s after these writes, in order; a read that none touches keeps its answer
     ghost did: { Self → Self → List Self.Call → Type 0 };
 }
 
@@ -467,9 +433,7 @@ impl<T: Track> Written for T {
     ghost did = { Done T.wrote T.Call.is_write T.Call.touches T.Answer.eq T.answers };
 }
 
-/// Nothing: what is tracked of a function that asks nothing. It takes no memory and refuses nothing.
-///
-/// This project's own.
+/// Nothing: the tracked value of a function that asks nothing. Never fails.
 impl Track for () {
     type Call = ();
 
@@ -488,9 +452,7 @@ impl Track for () {
     }
 }
 
-/// A view of a tracked value, which reads. Contracts see it as the value.
-///
-/// comemo's `Tracked`. It does not lend its value.
+/// A read-only view of a tracked value. Contracts see it as the value. It doesn't lend the value.
 #[derive(Drop)]
 pub struct Tracked<'a, T> {
     pub(crate) value: &'a T,
@@ -507,9 +469,8 @@ impl<'a, T> Model for Tracked<'a, T> {
 impl<'a, T: Track> Tracked<'a, T> {
     /// Asks the value a read, and sends the call with its answer to a sink.
     ///
-    /// It asks the value once, also where the sink holds the read, and clones the answer for the sink. An error says
-    /// that there was no memory for the answer, its clone or the sink; then the sink is as it was. It stands in the
-    /// place of the methods that comemo's macro `track` writes.
+    /// The value is asked once, even if the sink holds the read. Fails if the answer, its clone or the sink does; the
+    /// sink is then unchanged.
     pub fn ask<S: Sink<Call = T::Call, Answer = T::Answer>>(
         &mut self,
         call: T::Call,
@@ -527,7 +488,7 @@ impl<'a, T: Track> Tracked<'a, T> {
         Ok(answer)
     }
 
-    /// The answer to a read, with nothing sent: what an input that holds the view is asked by a look-up.
+    /// The answer to a read, which isn't recorded: for look-ups.
     pub(crate) fn read(&self, call: &T::Call) -> Result<T::Answer, AllocError>
         ensures { T.Call.is_write call.now ≡ false
             → IfOk result (λ answer. IsTrue (T.Answer.eq (T.answers self.now call.now) answer)) }
@@ -535,9 +496,7 @@ impl<'a, T: Track> Tracked<'a, T> {
         self.value.ask(call)
     }
 
-    /// Another view of the same value. It takes no memory today, and constant time.
-    ///
-    /// comemo's `Tracked` is `Copy`; a branch takes a view of its own.
+    /// Another view of the same value, for instance for a branch.
     pub fn fork(&self, alloc: Global) -> Tracked<'a, T>
         ensures { result ≡ self.now }
     {
@@ -546,7 +505,7 @@ impl<'a, T: Track> Tracked<'a, T> {
     }
 }
 
-/// It prints as `Tracked(..)`, whatever its value is.
+/// Prints `Tracked(..)`, whatever the value is.
 impl<'a, T> Debug for Tracked<'a, T> {
     ghost use Rattle.comemo_track.specs.Views.{tracked_text};
 
@@ -557,10 +516,9 @@ impl<'a, T> Debug for Tracked<'a, T> {
     }
 }
 
-/// A view of a tracked value with the sink that its reads are sent to. Contracts see it as `value_of` and `sink_of`.
+/// A read-only view with the sink that its reads are sent to. Contracts see `value_of` and `sink_of`.
 ///
-/// It does not lend its value, nor its sink, which is its caller's again when the view is gone. It stands in the place
-/// of what comemo's `track_with` gives.
+/// It lends neither; the sink is its caller's again when the view is gone.
 #[derive(Drop)]
 pub struct TrackedWith<'a, T, S> {
     pub(crate) value: &'a T,
@@ -568,10 +526,7 @@ pub struct TrackedWith<'a, T, S> {
 }
 
 impl<'a, T: Track, S: Sink<Call = T::Call, Answer = T::Answer>> TrackedWith<'a, T, S> {
-    /// Asks the value a read, and sends the call with its answer to the view's sink.
-    ///
-    /// It costs what `ask` of `Tracked` costs. An error says that there was no memory for the answer, its clone or the
-    /// sink; then the sink is as it was. It stands in the place of the methods that comemo's macro `track` writes.
+    /// Asks the value a read, and sends the call with its answer to the view's sink, as `Tracked::ask` does.
     pub fn ask(&mut self, call: T::Call) -> Result<T::Answer, AllocError>
         requires { T.Call.is_write call ≡ false }
         ensures ok { IfOk result (λ answer.
@@ -586,7 +541,7 @@ impl<'a, T: Track, S: Sink<Call = T::Call, Answer = T::Answer>> TrackedWith<'a, 
     }
 }
 
-/// It prints as the view without the sink does.
+/// Prints as the view without a sink.
 impl<'a, T, S> Debug for TrackedWith<'a, T, S> {
     ghost use Rattle.comemo_track.specs.Views.{tracked_text};
 

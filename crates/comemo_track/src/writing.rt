@@ -1,4 +1,4 @@
-//! Views that write.
+//! Views that read and write. Making a view does not allocate today. A call allocates what its value and its sink do.
 ghost use Rattle.std.specs.Prelude.{◌≡◌, [], ◌∷◌, true, false, Some, IsTrue, IfOk, OnOk, OnErr};
 ghost use Rattle.comemo_track.specs.Sending.{Asks};
 ghost use Rattle.comemo_track.specs.Views.{value_of, sink_of, place_of, place_in, writing_sink_of};
@@ -8,19 +8,15 @@ use std::alloc::{AllocError, Global};
 use std::fmt;
 use std::fmt::Debug;
 
-/// A view of a tracked value, which reads and writes. Contracts see the value that was lent to it as `place_of`.
-///
-/// comemo's `TrackedMut`. It does not lend its value.
+/// A view of a tracked value that reads and writes. Contracts see the borrowed value as `place_of`. It doesn't lend the
+/// value.
 #[derive(Drop)]
 pub struct TrackedMut<'a, T> {
     pub(crate) value: &'a mut T,
 }
 
 impl<'a, T: Track> TrackedMut<'a, T> {
-    /// Asks the value a read, and sends the call with its answer to a sink.
-    ///
-    /// It does what `ask` of `Tracked` does, and costs the same. An error changes neither the value nor the sink. It
-    /// stands in the place of the methods that comemo's macro `track` writes.
+    /// Asks the value a read, and sends the call with its answer to a sink, as `Tracked::ask` does.
     pub fn ask<S: Sink<Call = T::Call, Answer = T::Answer>>(
         &mut self,
         call: T::Call,
@@ -39,11 +35,9 @@ impl<'a, T: Track> TrackedMut<'a, T> {
         view.ask(call, sink)
     }
 
-    /// Does a write on the value, and sends it to a sink.
+    /// Does a write on the value, and sends it to a sink, which makes room first.
     ///
-    /// After `Ok` it was done and sent; after an error neither, and value and sink are as they were: the value refused
-    /// it, or there was no memory for it in the sink, which makes room first. It stands in the place of the methods
-    /// that comemo's macro `track` writes.
+    /// Fails if the value or the sink does; then neither has changed.
     pub fn write<S: Sink<Call = T::Call, Answer = T::Answer>>(
         &mut self,
         call: T::Call,
@@ -59,13 +53,14 @@ impl<'a, T: Track> TrackedMut<'a, T> {
     {
         sink.reserve(1)?;
         self.value.call_mut(&call)?;
+        // The sink has room, so this never fails.
         let Ok(_) = sink.emit(call, None) else {
             unreachable!()
         };
         Ok(())
     }
 
-    /// The answer to a read, with nothing sent: what an input that holds the view is asked by a look-up.
+    /// The answer to a read, which isn't recorded: for look-ups.
     pub(crate) fn read(&self, call: &T::Call) -> Result<T::Answer, AllocError>
         requires { T.Call.is_write call.now ≡ false }
         ensures { IfOk result
@@ -74,9 +69,7 @@ impl<'a, T: Track> TrackedMut<'a, T> {
         self.value.ask(call)
     }
 
-    /// A view that reads alone, in the place of this one. It takes no memory today, and constant time.
-    ///
-    /// comemo's `TrackedMut::downgrade`.
+    /// Turns this view into a read-only one.
     pub fn downgrade(this: Self, alloc: Global) -> Tracked<'a, T>
         ensures { result ≡ (place_of this.entry).now }
     {
@@ -85,9 +78,7 @@ impl<'a, T: Track> TrackedMut<'a, T> {
         Tracked { value }
     }
 
-    /// A view that reads alone, as long as it lives. It takes no memory today, and constant time.
-    ///
-    /// comemo's `TrackedMut::reborrow`.
+    /// A read-only view that borrows this one.
     pub fn reborrow<'b>(this: &'b Self, alloc: Global) -> Tracked<'b, T>
         ensures { result ≡ (place_of this.now).now }
     {
@@ -103,10 +94,7 @@ impl<'a, T: Track> TrackedMut<'a, T> {
     ghost use Rattle.comemo_track.specs.contracts.writing.TrackedMut.{the_row};
     ghost use mir.Syntax.{named};
 
-    /// Another view of the same value that reads and writes, as long as it lives. It takes no memory, and constant
-    /// time.
-    ///
-    /// comemo's `TrackedMut::reborrow_mut`.
+    /// A writing view that borrows this one.
     pub fn reborrow_mut(this: &mut Self, alloc: Global) -> TrackedMut<'_, T>
         ensures* writes_back { sem 𝓛 (follows (the_row (record { mir = named 1; lft = [] }) T.row) T.row this.entry.ghost_name (place_of result).ghost_name (λ w. record this.old { value = record this.old.value { now = w } })) }
         ensures value { (place_of result).now ≡ (place_of this.old).now }
@@ -118,7 +106,7 @@ impl<'a, T: Track> TrackedMut<'a, T> {
     }
 }
 
-/// It prints as `TrackedMut(..)`, whatever its value is.
+/// Prints `TrackedMut(..)`, whatever the value is.
 impl<'a, T> Debug for TrackedMut<'a, T> {
     ghost use Rattle.comemo_track.specs.Views.{tracked_mut_text};
 
@@ -129,11 +117,9 @@ impl<'a, T> Debug for TrackedMut<'a, T> {
     }
 }
 
-/// A view that reads and writes, with the sink that its calls are sent to. Contracts see what was lent to it as
-/// `place_in` and `writing_sink_of`.
+/// A reading and writing view with the sink that its calls are sent to. Contracts see `place_in` and `writing_sink_of`.
 ///
-/// It does not lend its value, nor its sink, which is its caller's again when the view is gone. It stands in the place
-/// of what comemo's `track_mut_with` gives.
+/// It lends neither value nor sink; the sink is its caller's again when the view is gone.
 #[derive(Drop)]
 pub struct TrackedMutWith<'a, T, S> {
     pub(crate) value: &'a mut T,
@@ -141,10 +127,7 @@ pub struct TrackedMutWith<'a, T, S> {
 }
 
 impl<'a, T: Track, S: Sink<Call = T::Call, Answer = T::Answer>> TrackedMutWith<'a, T, S> {
-    /// Asks the value a read, and sends the call with its answer to the view's sink.
-    ///
-    /// It costs what `ask` of `Tracked` costs. An error changes neither the value nor the sink. It stands in the place
-    /// of the methods that comemo's macro `track` writes.
+    /// Asks the value a read, and sends the call with its answer to the view's sink, as `Tracked::ask` does.
     pub fn ask(&mut self, call: T::Call) -> Result<T::Answer, AllocError>
         requires { T.Call.is_write call ≡ false }
         ensures ok { IfOk result (λ answer.
@@ -162,10 +145,7 @@ impl<'a, T: Track, S: Sink<Call = T::Call, Answer = T::Answer>> TrackedMutWith<'
         view.ask(call, self.sink)
     }
 
-    /// Does a write on the value, and sends it to the view's sink.
-    ///
-    /// After `Ok` it was done and sent; after an error neither, and value and sink are as they were. It does what
-    /// `write` of `TrackedMut` does. It stands in the place of the methods that comemo's macro `track` writes.
+    /// Does a write on the value, and sends it to the view's sink, as `TrackedMut::write` does.
     pub fn write(&mut self, call: T::Call) -> Result<(), AllocError>
         requires { T.Call.is_write call ≡ true }
         ensures did { OnOk result (⟦<T as Written>⟧.did
@@ -180,15 +160,14 @@ impl<'a, T: Track, S: Sink<Call = T::Call, Answer = T::Answer>> TrackedMutWith<'
     {
         self.sink.reserve(1)?;
         self.value.call_mut(&call)?;
+        // The sink has room, so this never fails.
         let Ok(_) = self.sink.emit(call, None) else {
             unreachable!()
         };
         Ok(())
     }
 
-    /// A view that reads alone, in the place of this one, with its sink. It takes no memory today, and constant time.
-    ///
-    /// comemo's `TrackedMut::downgrade`.
+    /// Turns this view into a read-only one with the same sink.
     pub fn downgrade(this: Self, alloc: Global) -> TrackedWith<'a, T, S>
         ensures value { value_of result ≡ (place_in this.entry).now }
         ensures sink { (sink_of result).now ≡ (writing_sink_of this.entry).now }
@@ -200,7 +179,7 @@ impl<'a, T: Track, S: Sink<Call = T::Call, Answer = T::Answer>> TrackedMutWith<'
     }
 }
 
-/// It prints as the writing view without the sink does.
+/// Prints as the view without a sink.
 impl<'a, T, S> Debug for TrackedMutWith<'a, T, S> {
     ghost use Rattle.comemo_track.specs.Views.{tracked_mut_text};
 

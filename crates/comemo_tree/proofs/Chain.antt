@@ -1,4 +1,4 @@
--- A chain of nodes for the pairs that are left of a path, and its leaf.
+-- A chain of nodes for the rest of a path, and its leaf.
 use Rattle.std.proofs.Common.{◌≡◌, ◌⊎◌, ◌<◌, ◌+◌, ◌^◌, ◌∙◌, ℕ, Bool, List, [], ◌∷◌, ◌++◌, length, map, Option, Some, None, Result, Ok, Err, true, false, IsOk, OnErr, IfSome, refl, sym, ap, subst, inl, inr, arith, append_assoc}
 use Rattle.std.specs.Cmp.{IsEquivalence}
 use Rattle.std.specs.HashMap.{HashMap}

@@ -1,4 +1,4 @@
--- Lemmas on a tree of which one leaf's value was changed.
+-- Lemmas on a tree in which one leaf's value was changed.
 use Rattle.std.proofs.Common.{◌≡◌, ◌∙◌, ◌<◌, ◌+◌, ℕ, Bool, List, ◌∷◌, ◌++◌, length, set, take, drop, map, suc, Option, Some, None, sym, ap, subst, refl, IsTrue, inl, inr, arith}
 use Rattle.std.proofs.lemmas.Bool.{cases_eq}
 use Rattle.std.proofs.lemmas.List.{set-get_or, set_split, length-take-le}

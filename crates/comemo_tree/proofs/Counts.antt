@@ -1,4 +1,4 @@
--- Lemmas on counting things of which some are the same.
+-- Lemmas on counting distinct things.
 use Rattle.std.proofs.Common.{◌≡◌, ◌≤◌, ℕ, suc, List, [], ◌∷◌, ◌++◌, length, get_or, map, ap, subst, refl, inl, inr, arith, length-append}
 use Rattle.std.specs.List.{All, AllPairs, AllZip, Any}
 use Rattle.std.proofs.lemmas.List.Elements.{All-cons, All-head, All-tail, All-map}

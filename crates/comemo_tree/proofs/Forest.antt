@@ -1,4 +1,4 @@
--- Lemmas on how nodes lead to each other, and on the entries of the leaves.
+-- Lemmas on how nodes are linked, and on the entries of the leaves.
 use Rattle.std.proofs.Common.{◌≡◌, ◌≢◌, ◌<◌, ◌≤◌, ◌+◌, ◌-◌, ℕ, zero, suc, Bool, List, [], ◌∷◌, ◌++◌, length, map, Option, Some, None, refl, sym, ap, subst, ◌∙◌, inl, inr, arith, IsTrue, append_assoc, append-nil, Contains, sum_by, length-append, get_or}
 use Rattle.std.specs.Cmp.{IsEquivalence}
 use Rattle.std.specs.List.{All, Any, slice_get, IsDistinct}

@@ -1,4 +1,4 @@
--- Lemmas on the nodes of a tree and the fronts that lead to them.
+-- Lemmas on the nodes of a tree and the prefixes that lead to them.
 use Rattle.std.proofs.Common.{◌≡◌, ◌≢◌, ◌∙◌, ◌<◌, ◌+◌, ℕ, suc, Bool, List, [], ◌∷◌, ◌++◌, length, get_or, map, take, drop, Option, Some, None, sym, ap, subst, refl, IsTrue, arith, length-append, length-drop}
 use Rattle.std.proofs.lemmas.List.{take-append-drop, length-map, append-nil}
 use Rattle.std.proofs.lemmas.List.Elements.{All-map, All-append}

@@ -1,4 +1,4 @@
--- From what was added to the nodes to what an insertion's clauses say.
+-- From the nodes that were added to the clauses of an insertion.
 use Rattle.std.proofs.Common.{◌≡◌, ◌∙◌, ℕ, Bool, true, false, not, is_some, List, [], ◌∷◌, ◌++◌, length, Some, None, Result, Ok, Err, IfErr, refl, sym, ap, subst, inl, inr, arith, IsTrue, append_assoc, length-append}
 use Rattle.std.specs.Prelude.{option_map, IsErrAnd}
 use Rattle.std.specs.Cmp.{IsEquivalence}

@@ -1,4 +1,4 @@
--- What a pruning keeps: a tree stands where some of its leaves go, and with them what no leaf lies below.
+-- What a pruning preserves: the nodes still form a tree after leaves are dropped, with all nodes that have no leaf below.
 use Rattle.std.proofs.Common.{◌≡◌, ◌≢◌, ◌⊎◌, ◌+◌, ℕ, zero, suc, Bool, true, false, cond, List, [], ◌∷◌, length, map, Option, Some, None, refl, sym, ap, subst, ◌∙◌, inl, inr, arith, is_some, filter, Contains, IsPermutation}
 use Rattle.std.proofs.lemmas.Bool.{cases_Bool}
 use Rattle.std.proofs.lemmas.Map.Made.{IsDistinct-keys_filter}

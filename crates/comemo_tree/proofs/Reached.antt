@@ -1,4 +1,4 @@
--- Lemmas on the leaf that a list of answers leads to.
+-- Lemmas on the leaf to which a list of answers leads.
 use Rattle.std.proofs.Common.{◌≡◌, ◌∙◌, ◌<◌, ◌+◌, ℕ, Bool, List, [], ◌∷◌, ◌++◌, length, get_or, take, drop, Some, None, sym, ap, subst, refl, IsTrue}
 use Rattle.std.proofs.lemmas.List.{take-append-drop, drop_more}
 use Rattle.std.proofs.lemmas.List.Elements.{All-weaker}

@@ -1,4 +1,4 @@
--- Slabs with the same values, and maps that find the same, make the same tree.
+-- Slabs with the same values, and maps with the same look-ups, form the same tree.
 use Rattle.std.proofs.Common.{◌≡◌, ◌∙◌, ℕ, Bool, List, Option, refl, sym, ap, subst}
 use Rattle.std.specs.Prelude.{option_map}
 use Rattle.std.specs.HashMap.{HashMap, get}

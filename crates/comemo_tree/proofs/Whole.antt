@@ -1,4 +1,4 @@
--- Where no leaf went there is nothing to prune: the tree stands as it is.
+-- If no leaf is dropped there is nothing to prune: the tree is unchanged.
 use Rattle.std.proofs.Common.{◌≡◌, ◌≤◌, ℕ, zero, suc, Bool, true, false, cond, List, [], ◌∷◌, get_or, Option, Some, None, refl, sym, ap, subst, ◌∙◌, arith, is_some, filter, length}
 use Rattle.std.proofs.lemmas.List.Sorted.{IsPermutation-refl}
 use Rattle.std.proofs.lemmas.List.Sums.{length-filter}

@@ -1,4 +1,4 @@
--- How the nodes of a tree lie to each other, and the entries that they hold. No public clause speaks of this.
+-- How the nodes of a tree are linked, and their entries. No public contract uses this.
 use Rattle.std.specs.Prelude.{◌≡◌, ◌≢◌, ℕ, zero, suc, Bool, false, cond, List, [], ◌∷◌, ◌++◌, map, Option, Some, None, IsTrue, option_map}
 use Rattle.std.specs.Option.{option_to_list}
 use Rattle.std.specs.List.{slice_get, insert, IsDistinct}
@@ -34,7 +34,7 @@ module _ {C R : Type 0} (inner : slab.Slab (InnerNode C R)) where
   abbrev pub last_pair : InnerNode C R → Node → List (C × R)
   last_pair above node = option_to_list (option_map (λ answer. (above.call, answer)) (answer_to node above.children))
 
-  -- where the way to a node begins, and its pairs, where those of the node above it are known
+  -- where the way to a node begins, and its pairs, given those of its parent
   abbrev pub extended : (Option ℕ → Node × List (C × R)) → Node → Option (InnerNode C R) → Node × List (C × R)
   extended above node None = (node, [])
   extended above node (Some n) = ((above n.parent).0, (above n.parent).1 ++ last_pair n node)
@@ -67,7 +67,7 @@ module _ {K C R T : Type 0} (inner : slab.Slab (InnerNode C R)) where
   abbrev pub contents : slab.Slab (LeafNode K T) → List (Stored K C R T)
   contents leaves = map entry_of (slab.entries leaves)
 
-  -- the node is there, with that parent and depth
+  -- the node exists, with that parent and depth
   abbrev pub IsAt : slab.Slab (LeafNode K T) → Node → Option ℕ → ℕ → Type 0
   IsAt leaves (Inner at) parent depth = (node : InnerNode C R) × (slab.get inner at ≡ Some node) × (node.parent ≡ parent) × (node.depth ≡ depth)
   IsAt leaves (Leaf at) parent depth = (leaf : LeafNode K T) × (slab.get leaves at ≡ Some leaf) × (leaf.parent ≡ parent) × (leaf.depth ≡ depth)
@@ -77,14 +77,14 @@ abbrev pub IsEnd : Option ℕ → Node → Type 0
 IsEnd tip (Inner at) = tip ≡ Some at
 IsEnd tip (Leaf at) = Unit {0}
 
--- Each child knows its parent; each leaf is where its path leads from the start of its key; below each inner node lies a
--- leaf, or the tip: a node that has no child yet while a path is added.
+-- Each child knows its parent; each leaf is where its path leads from the start of its key; below each inner node is a leaf, or
+-- the tip: a node that has no child yet while a path is added.
 pub record IsForest {K C R T S : Type 0} (eq : C → C → Bool) (same : R → R → Bool) (eqk : K → K → Bool) (tip : Option ℕ) (inner : slab.Slab (InnerNode C R)) (leaves : slab.Slab (LeafNode K T)) (starts : HashMap K Start S) : Type 0 where
   -- no two answers of a node are equal
   pub answers : (at : ℕ) (node : InnerNode C R) → slab.get inner at ≡ Some node → IsDistinct same (keys_of node.children)
-  -- a child is there, one below its parent, and the answer is the first that names it
+  -- a child exists, one below its parent, and the answer is the first that leads to it
   pub child : (at : ℕ) (node : InnerNode C R) (answer : R) (next : Node) → slab.get inner at ≡ Some node → Points node.children answer next → IsAt inner leaves next (Some at) (suc node.depth) × (answer_to next node.children ≡ Some answer)
-  -- the first node of a key is there, below none
+  -- the first node of a key exists, and has no parent
   pub start : (key : K) (first : Node) → first_of eqk starts key ≡ Some first → IsAt inner leaves first None 0
   -- keys with the same first node are equal
   pub apart : (k l : K) (first : Node) → first_of eqk starts k ≡ Some first → first_of eqk starts l ≡ Some first → IsTrue (eqk k l)
@@ -97,7 +97,7 @@ pub record IsForest {K C R T S : Type 0} (eq : C → C → Bool) (same : R → R
   -- no pruning is under way
   pub unmarked : (at : ℕ) (node : InnerNode C R) → slab.get inner at ≡ Some node → node.kept ≡ false
 
--- one inner node was added below the node `parent`, under an answer that led nowhere
+-- one inner node was added below the node `parent`, under an answer that had no child
 pub record AddsInner {C R : Type 0} (same : R → R → Bool) (old new : slab.Slab (InnerNode C R)) (parent : ℕ) (answer : R) (call : C) (id : ℕ) : Type 0 where
   pub above : InnerNode C R
   pub above' : InnerNode C R
@@ -119,7 +119,7 @@ pub record AddsInner {C R : Type 0} (same : R → R → Bool) (old new : slab.Sl
   pub unmarked : fresh.kept ≡ false
   pub others : (x : ℕ) → x ≢ parent → x ≢ id → slab.get new x ≡ slab.get old x
 
--- one leaf was added below the node `parent`, under an answer that led nowhere
+-- one leaf was added below the node `parent`, under an answer that had no child
 pub record AddsLeaf {K C R T : Type 0} (old new : slab.Slab (InnerNode C R)) (leaves leaves' : slab.Slab (LeafNode K T)) (parent : ℕ) (answer : R) (key : K) (value : T) : Type 0 where
   pub above : InnerNode C R
   pub above' : InnerNode C R
@@ -141,8 +141,8 @@ pub record AddsLeaf {K C R T : Type 0} (old new : slab.Slab (InnerNode C R)) (le
   pub fresh_depth : fresh.depth ≡ suc above.depth
   pub others : (x : ℕ) → x ≢ parent → slab.get new x ≡ slab.get old x
 
--- the path of a sequence parts from the stored ones at the inner node `at`, which the answer leads nowhere from, and the
--- rest of the pairs are left
+-- the path of a sequence diverges from the stored ones at the inner node `at`, where the answer has no child, and the rest of
+-- the pairs remain
 pub record Forks {K C R T S : Type 0} (eq : C → C → Bool) (same : R → R → Bool) (eqk : K → K → Bool) (inner : slab.Slab (InnerNode C R)) (leaves : slab.Slab (LeafNode K T)) (starts : HashMap K Start S) (key : K) (s : List (C × R)) (at : ℕ) (answer : R) (left : List (C × R)) : Type 0 where
   pub node : InnerNode C R
   pub is : slab.get inner at ≡ Some node

@@ -1,10 +1,10 @@
--- How many fronts the paths of a tree have.
+-- How many prefixes the paths of a tree have.
 use Rattle.std.specs.Prelude.{◌≡◌, ◌≢◌, ◌<◌, ◌-◌, ◌^◌, ℕ, min, Bool, List, [], length, IsTrue}
 use Rattle.std.specs.List.{All, AllPairs, Any}
 use Rattle.comemo_base.specs.Tree.{Stored, IsFront, IsSamePath}
 
--- so many things have the property, where those that are the same count once: some list of that length has only such
--- things, no two of them the same, and of each such thing one that is the same
+-- n things have the property, counted up to sameness: some list of length n has only such things, no two of them the same, and
+-- one that is the same as each such thing
 pub record Counts {X : Type 0} (P : X → Type 0) (same_as : X → X → Type 0) (n : ℕ) : Type 0 where
   pub things : List X
   pub apart : AllPairs (λ x y. ¬ same_as x y) things
@@ -13,7 +13,7 @@ pub record Counts {X : Type 0} (P : X → Type 0) (same_as : X → X → Type 0)
   pub many : length things ≡ n
 
 module _ {K C R : Type 0} (eq : C → C → Bool) (same : R → R → Bool) (eqk : K → K → Bool) where
-  -- fronts are counted for each key: the keys are equal, and so are the pairs
+  -- prefixes are counted for each key: the keys are equal, and so are the pairs
   abbrev pub IsSameUnder : K × List (C × R) → K × List (C × R) → Type 0
   IsSameUnder f g = IsTrue (eqk f.0 g.0) × IsSamePath eq same f.1 g.1
 
@@ -22,16 +22,15 @@ module _ {K C R : Type 0} (eq : C → C → Bool) (same : R → R → Bool) (eqk
     abbrev pub IsStoredKey : K → Type 0
     IsStoredKey key = Any (λ e. IsTrue (eqk e.key key)) es
 
-    -- the pairs are a front of a path under the key
+    -- the pairs are a prefix of a path under the key
     abbrev pub IsFrontUnder : K × List (C × R) → Type 0
     IsFrontUnder f = Any (λ e. IsTrue (eqk e.key f.0) × IsFront eq same f.1 e.path) es
 
-    -- they are a proper one: the path has more pairs
+    -- a proper prefix: the path has more pairs
     abbrev pub IsProperFrontUnder : K × List (C × R) → Type 0
     IsProperFrontUnder f = Any (λ e. IsTrue (eqk e.key f.0) × IsFront eq same f.1 e.path × (length f.1 < length e.path)) es
 
-    -- the numbers of proper fronts, of paths, of fronts that have a pair and of keys; the third is the greatest `usize`
-    -- where there are more of them
+    -- the numbers of proper prefixes, of paths, of nonempty prefixes and of keys; the third is at most the greatest `usize`
     pub record IsShape (shape : ℕ × ℕ × ℕ × ℕ) : Type 0 where
       pub inner : Counts IsProperFrontUnder IsSameUnder shape.0
       pub leaves : length es ≡ shape.1

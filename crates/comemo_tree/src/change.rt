@@ -12,9 +12,7 @@ use slab::Slab;
 use std::collections::HashMap;
 use std::hash::Hash;
 
-/// The leaf of the path under a key that has just these answers in order, or `None` where there is none.
-///
-/// It asks for no memory, and takes for each answer the time of one step of a look-up.
+/// The leaf under a key whose path has exactly these answers, in order. Does not allocate.
 pub(crate) fn leaf_by_answers<K: Eq + Hash, C: Eq + Hash, R: Ord, T>(
     inner: &Slab<InnerNode<C, R>>,
     leaves: &Slab<LeafNode<K, T>>,

@@ -1,4 +1,4 @@
-//! Where the answers to a node's call lead.
+//! Which node each answer to a node's call leads to. Only `insert` allocates.
 ghost use Rattle.std.specs.Prelude.{◌≡◌, ◌≤◌, ℕ, [], length, IsOk, OnOk, OnErr, None};
 ghost use Rattle.std.specs.Map.{lookup};
 ghost use Rattle.std.specs.List.{insert};
@@ -12,19 +12,19 @@ use std::cmp::Ordering;
 use std::collections::BTreeMap;
 use std::marker::Model;
 
-/// Which node: an inner one or a leaf, by its key in its slab.
+/// An inner node or a leaf, by its key in its slab.
 #[derive(Clone, Copy, Debug, PartialEq, Eq)]
 pub enum Node {
-    /// It asks a call.
+    /// A node that asks a call.
     Inner(usize),
-    /// It holds a value.
+    /// A node that holds a value.
     Leaf(usize),
 }
 
-/// The nodes that a node's answers lead to, in rising order of answers.
+/// The children of a node, in rising order of the answers that lead to them.
 ///
-/// Contracts see the list of answers with their nodes. The pair of the least answer lies in the node itself, and the
-/// others in an ordered map, which takes no memory while it is empty: so a node with one child takes none of its own.
+/// Contracts see the list of answers with their nodes. The least answer's pair lies in the node itself, and the others
+/// in an ordered map, which doesn't allocate while it is empty. So a node with one child needs no memory of its own.
 #[derive(Debug, Drop)]
 pub struct Children<R: Ord> {
     first: Option<(R, Node)>,
@@ -53,7 +53,7 @@ impl<R: Ord> Model for Children<R> {
 }
 
 impl<R: Ord> Children<R> {
-    /// None. It takes no memory.
+    /// An empty set of children.
     pub fn new(alloc: Global) -> Self
         ensures { result ≡ [] }
     {
@@ -65,9 +65,7 @@ impl<R: Ord> Children<R> {
 }
 
 impl<R: Ord> Children<R> {
-    /// The node that an answer leads to.
-    ///
-    /// It compares the answer with the first, and looks it up among the others where it is greater.
+    /// The node that an answer leads to. Compares with the first answer, then searches the map.
     pub fn get(&self, answer: &R) -> Option<Node>
         ensures { result ≡ lookup (R.eq answer.now) self.now }
     {
@@ -81,9 +79,7 @@ impl<R: Ord> Children<R> {
         }
     }
 
-    /// Adds a node under an answer that leads nowhere yet. The first takes no memory.
-    ///
-    /// It takes as long as `get`. Where there is no memory for the pair it answers `AllocError`, and nothing changes.
+    /// Adds a node under an answer that has none. The first child does not allocate. On error nothing changes.
     pub fn insert(&mut self, answer: R, node: Node) -> Result<(), AllocError>
     where
         R: Drop,
@@ -98,10 +94,12 @@ impl<R: Ord> Children<R> {
             self.first = Some((answer, node));
             return Ok(());
         };
+        // A new least answer takes the node's own place, and the former one goes to the map.
         if answer.cmp(first).is_lt() {
             let (former, at) = self.first.replace((answer, node)).unwrap();
             return match self.more.insert(former, at) {
                 Ok(_) => Ok(()),
+                // The former pair comes back with the error, and to its place.
                 Err(refused) => {
                     self.first = Some(refused.value);
                     Err(AllocError)
@@ -114,7 +112,7 @@ impl<R: Ord> Children<R> {
 }
 
 impl<R: Ord> Children<R> {
-    /// Drops the answers that lead to nodes which are not there.
+    /// Drops the answers whose nodes are gone.
     pub(crate) fn retain<K, C, T>(
         &mut self,
         inner: &Slab<InnerNode<C, R>>,
@@ -131,13 +129,14 @@ impl<R: Ord> Children<R> {
                 ensures same { node.new ≡ node.old }
             { is_there(inner, leaves, *node) },
         );
+        // The least of the map's answers takes the free place, as the invariant demands.
         if self.first.is_none() {
             self.first = self.more.pop_first();
         }
     }
 }
 
-/// A pair, if its node is there.
+/// The pair, if its node still exists.
 fn linked_pair<K, C, R: Ord + Drop, T>(
     pair: Option<(R, Node)>,
     inner: &Slab<InnerNode<C, R>>,

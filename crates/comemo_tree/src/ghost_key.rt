@@ -1,11 +1,11 @@
-//! A key as clauses see it.
+//! A key that only contracts read.
 ghost use Rattle.std.specs.Prelude.{◌≡◌};
 ghost use base.Fml.{ftrue};
 
 use std::marker::{Model, PhantomData, Send, Sync};
 
-/// A key that clauses alone read: it has no bytes, and owns nothing. Unlike the kit's `Snapshot`, a lock that holds it can be
-/// shared by threads.
+/// A key without bytes, which only contracts read. Unlike the kit's `Snapshot`, a lock that holds it can be shared by
+/// threads.
 pub struct GhostKey<K> {
     marker: PhantomData<K>,
     pub ghost value: { K },
@@ -20,6 +20,7 @@ impl<K> GhostKey<K> {
     pub(crate) fn of(key: &K) -> GhostKey<K>
         ensures { result.value ≡ key.now }
     {
+        // Only the contract uses it.
         let _ = key;
         GhostKey {
             marker: PhantomData,
@@ -27,7 +28,7 @@ impl<K> GhostKey<K> {
     }
 }
 
-// It owns nothing, so any thread may have it, and all may share it.
+// It owns nothing, so any thread may own or share it.
 unsafe impl<K> Send for GhostKey<K> {}
 
 unsafe impl<K> Sync for GhostKey<K> {}

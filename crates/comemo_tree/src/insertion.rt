@@ -1,4 +1,5 @@
-//! How a path is added to the nodes of a tree.
+//! How a path is added to the nodes of a tree. Memory is allocated before anything changes; only the first link may
+//! allocate later, and it is the first change. So an error changes no value.
 ghost use Rattle.std.specs.Prelude.{◌≡◌, ◌++◌, ◌∷◌, ◌+◌, ◌<◌, ◌^◌, [], length, None, Some, IfSome, IfNone, IsOk, IfOk, OnOk, OnErr, List};
 ghost use Rattle.std.specs.HashMap as map;
 ghost use Rattle.slab.specs.Slab.{get, HasRoomFor};
@@ -17,7 +18,7 @@ use std::collections::hash_map::Entry;
 use std::hash::Hash;
 use std::snapshot::Snapshot;
 
-/// How many pairs a sequence has left. It looks at each of the sequence's slots.
+/// How many pairs a sequence has left. Linear in its slots.
 fn left<C: Eq + Hash, R>(sequence: &CallSequence<C, R>) -> usize
     ensures { result ≡ length sequence.now.pairs }
 {
@@ -30,11 +31,10 @@ fn left<C: Eq + Hash, R>(sequence: &CallSequence<C, R>) -> usize
     count
 }
 
-/// Adds the path that goes on from an inner node with an answer and then with the pairs of a sequence, and its leaf.
+/// Adds the rest of a path below an inner node: an answer, then the pairs of a sequence, then the leaf.
 ///
-/// There is room for its nodes, and each new one takes its first child without memory. So only the first link can be
-/// refused: then it answers `AllocError`, and nothing changes. It takes constant time for each pair, and the first link as
-/// long as `Children::insert`. Only the contract speaks of `starts`.
+/// There is room for its nodes, and a new node takes its first child without allocating. So only the first link can
+/// fail. `starts` is only for the contract.
 fn grow<K: Eq + Hash + Drop, C: Eq + Hash + Drop, R: Ord + Drop, T: Drop>(
     alloc: Global,
     inner: &mut Slab<InnerNode<C, R>>,
@@ -69,10 +69,9 @@ fn grow<K: Eq + Hash + Drop, C: Eq + Hash + Drop, R: Ord + Drop, T: Drop>(
     attach_leaf(inner, leaves, at, leads, key, value)
 }
 
-/// Makes room for a path that goes on from an inner node, and adds it with its leaf, as `grow` does.
+/// Makes room for the rest of a path below an inner node, and adds it by `grow`.
 ///
-/// Where there is no memory, or a `usize` can't say how deep the leaf would lie, it answers `AllocError`, and no value
-/// changes.
+/// Also fails if the leaf's depth doesn't fit in a `usize`.
 pub(crate) fn insert_below<K: Eq + Hash + Drop, C: Eq + Hash + Drop, R: Ord + Drop, T: Drop>(
     alloc: Global,
     inner: &mut Slab<InnerNode<C, R>>,
@@ -104,9 +103,7 @@ pub(crate) fn insert_below<K: Eq + Hash + Drop, C: Eq + Hash + Drop, R: Ord + Dr
     )
 }
 
-/// The first node of a key; where it has none, the key begins with this node from now on.
-///
-/// The key is hashed once. Where there is no memory it answers `AllocError`, and nothing changes.
+/// The first node of a key; a new key is stored with this node. The key is hashed once.
 fn first_or_put<K: Eq + Hash>(
     starts: &mut HashMap<K, Start>,
     key: K,
@@ -132,7 +129,7 @@ where
     }
 }
 
-/// The node that the first path of a key begins with: the next inner one, or the next leaf where it has no pairs.
+/// The node that a key's first path begins with: the next inner one, or the next leaf if the path is empty.
 fn next_first<K, C: Eq + Hash, R: Ord, T>(
     inner: &Slab<InnerNode<C, R>>,
     leaves: &Slab<LeafNode<K, T>>,
@@ -147,10 +144,8 @@ fn next_first<K, C: Eq + Hash, R: Ord, T>(
     }
 }
 
-/// Makes room for a path of a key, the pairs of a sequence, and says with which node the key begins; where it has none, it
-/// begins from now on with the node that is to come next.
-///
-/// All memory is taken before the key is put: where there is none it answers `AllocError`, and no value changes.
+/// Makes room for the pairs of a sequence, and returns a key's first node. A new key is stored with the node that comes
+/// next.
 pub(crate) fn begin_key<K: Eq + Hash, C: Eq + Hash + Drop, R: Ord + Drop, T: Drop>(
     inner: &mut Slab<InnerNode<C, R>>,
     leaves: &mut Slab<LeafNode<K, T>>,
@@ -180,8 +175,10 @@ where
     first_or_put(starts, key, Start { first })
 }
 
-/// Adds the first path of a key, the pairs of a sequence, with its leaf. There is room for its nodes, and the key begins with
-/// the first of them. Only the contract speaks of `starts` and of what it was `before`.
+/// Adds a key's first path, the pairs of a sequence, and its leaf. There is room for the nodes, and the key is stored
+/// already.
+///
+/// `starts` and `before` are only for the contract.
 pub(crate) fn plant<K: Eq + Hash, C: Eq + Hash + Drop, R: Ord + Drop, T: Drop>(
     alloc: Global,
     inner: &mut Slab<InnerNode<C, R>>,
@@ -204,6 +201,7 @@ where
     ensures { Grown C.eq R.eq K.eq inner.old leaves.old inner.new leaves.new starts.now
         key.value sequence.pairs value }
 {
+    // Only the contract uses it.
     let _ = before;
     sequence.has_distinct_calls();
     let Some((call, answer)) = sequence.next() else {
@@ -222,6 +220,7 @@ where
         depth: 0,
         kept: false,
     });
+    // The first child of a new node does not allocate, so this never fails.
     let Ok(()) = grow(
         alloc, inner, leaves, starts, id, answer, key, sequence, value,
     ) else {

@@ -1,8 +1,7 @@
-//! The call tree on slabs: the map from keys and paths of calls to values that memoized outputs are found in, under the
-//! contracts of the plain tree of `comemo_base`. A look-up follows one path, however many entries there are.
+//! The call tree on slabs: the map from keys and paths of calls to values in which memoized outputs are found. It has
+//! the contracts of the plain tree of `comemo_base`. A look-up follows one path, however many entries there are.
 //!
-//! A value is stored under a key and the calls that a run asked. It is found again by their answers, until a test drops
-//! it:
+//! A value is stored under a key and the calls that a run asked. It is found by their answers until a test drops it:
 //!
 //! ```rust
 //! use comemo_base::CallSequence;

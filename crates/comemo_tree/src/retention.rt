@@ -1,8 +1,8 @@
-//! What a tree keeps of its nodes where some of its leaves go.
+//! Which nodes of a tree remain when some of its leaves are dropped.
 //!
-//! The leaves go first. Then each inner node above a leaf that stays is marked, up from the leaf to the first that is
-//! marked already; those that are not marked go, and the links to what went. So it takes no memory, and time linear in
-//! the nodes that there is room for, but that to take a child from among many may cost the logarithm of their number.
+//! The leaves go first. Then each inner node above a remaining leaf is marked, from the leaf up to the first that is
+//! marked already. Unmarked nodes and the links to dropped ones go last. Nothing here allocates. The time is linear in
+//! the nodes that there is room for; removing a child from among many costs at most the logarithm of their number.
 ghost use Rattle.std.specs.Prelude.{◌≡◌, filter, option_map};
 ghost use Rattle.std.specs.HashMap as map;
 ghost use Rattle.slab.specs.Slab.{get};
@@ -17,7 +17,7 @@ use std::collections::HashMap;
 use std::hash::Hash;
 use std::mem;
 
-/// Shows the value of each leaf to a test, which may change it, and drops the leaves that it answers false of.
+/// Shows each leaf's value to a test, which may change it, and drops the leaves for which it returns false.
 pub(crate) fn retain_leaves<K: Drop, T: Drop, F: Fn(&mut T) -> bool>(
     leaves: &mut Slab<LeafNode<K, T>>,
     f: F,
@@ -33,7 +33,7 @@ pub(crate) fn retain_leaves<K: Drop, T: Drop, F: Fn(&mut T) -> bool>(
     );
 }
 
-/// Drops the inner nodes that no leaf lies below, and the links to nodes that are not there.
+/// Drops the inner nodes without a leaf below, and the links to dropped nodes.
 pub(crate) fn prune<K, C: Drop, R: Ord + Drop, T>(
     alloc: Global,
     inner: &mut Slab<InnerNode<C, R>>,
@@ -47,7 +47,7 @@ pub(crate) fn prune<K, C: Drop, R: Ord + Drop, T>(
     unlink(alloc, inner, leaves);
 }
 
-/// Drops the keys whose first node is not there.
+/// Drops the keys whose first node is gone.
 pub(crate) fn retain_starts<K: Eq + Hash + Drop, C, R: Ord, T>(
     starts: &mut HashMap<K, Start>,
     inner: &Slab<InnerNode<C, R>>,
@@ -77,6 +77,7 @@ fn mark_above<K, C, R: Ord, T>(inner: &mut Slab<InnerNode<C, R>>, leaves: &Slab<
         let mut up = leaf.parent;
         'up: while let Some(at) = up {
             let node = &mut inner[at];
+            // The nodes above a marked one are marked too.
             if node.kept {
                 break;
             }
@@ -86,7 +87,7 @@ fn mark_above<K, C, R: Ord, T>(inner: &mut Slab<InnerNode<C, R>>, leaves: &Slab<
     }
 }
 
-/// Drops the inner nodes that are not marked, and takes the marks off the others.
+/// Drops the unmarked inner nodes, and clears the marks of the others.
 fn drop_unmarked<C: Drop, R: Ord + Drop>(inner: &mut Slab<InnerNode<C, R>>)
     ensures { (at : _) → get inner.new at ≡ kept_only (get inner.old at) }
 {
@@ -98,7 +99,7 @@ fn drop_unmarked<C: Drop, R: Ord + Drop>(inner: &mut Slab<InnerNode<C, R>>)
     );
 }
 
-/// Drops the links to nodes that are not there.
+/// Drops the links to dropped nodes.
 fn unlink<K, C, R: Ord + Drop, T>(
     alloc: Global,
     inner: &mut Slab<InnerNode<C, R>>,
@@ -111,6 +112,8 @@ fn unlink<K, C, R: Ord + Drop, T>(
         if !inner.contains(at) {
             continue;
         }
+        // `children.retain` reads the whole slab, so no borrow of the node may be open: the children are taken out, and
+        // the node is indexed again to put them back.
         let node = &mut inner[at];
         let mut children = mem::replace(&mut node.children, Children::new(alloc));
         children.retain(inner, leaves);
@@ -119,7 +122,7 @@ fn unlink<K, C, R: Ord + Drop, T>(
     }
 }
 
-/// Whether a node is there.
+/// Whether a node exists.
 pub(crate) fn is_there<K, C, R: Ord, T>(
     inner: &Slab<InnerNode<C, R>>,
     leaves: &Slab<LeafNode<K, T>>,

@@ -10,7 +10,7 @@ use std::hash::Hash;
 
 /// How many inner nodes, leaves, edges and keys there are. Each node but a key's first has one edge above it.
 ///
-/// It takes constant time. More edges than a `usize` holds are the greatest one.
+/// Constant time. The number of edges saturates.
 pub(crate) fn shape_of<K: Eq + Hash, C: Eq + Hash, R: Ord, T>(
     inner: &Slab<InnerNode<C, R>>,
     leaves: &Slab<LeafNode<K, T>>,

@@ -1,8 +1,8 @@
-//! The call tree: a map from a key and a path of calls with their answers to a value, which is looked up by asking an
-//! oracle the calls along one path.
+//! The call tree: a map from a key and a path of calls with their answers to a value.
 //!
-//! Inner nodes, which ask a call, and leaves, which hold a value, lie in two slabs. Each knows the node above it, and an
-//! inner node has its children in rising order of the answers that lead to them.
+//! Inner nodes, which ask a call, and leaves, which hold a value, lie in two slabs. Each node knows its parent, and an
+//! inner node has its children in rising order of answers. One step of a look-up is a search in an ordered map of a
+//! node's answers; the key is found in constant expected time. Only `insert` and `find` allocate.
 ghost use Rattle.std.specs.Prelude.{◌≡◌, ◌≤◌, ◌<◌, ◌+◌, ◌^◌, ◌⊎◌, [], false, length, IsTrue, Some, None, IfSome, IfOk, IfErr, OnOk, OnErr, IsOk, option_copied, option_map};
 ghost use Rattle.std.specs.List.{All, AllZip};
 ghost use Rattle.std.specs.Map.{lookup};
@@ -39,31 +39,31 @@ use std::snapshot::Snapshot;
 pub(crate) struct InnerNode<C, R: Ord> {
     /// The call.
     pub(crate) call: C,
-    /// Where its answers lead.
+    /// The children, by answer.
     pub(crate) children: Children<R>,
-    /// The node whose child it is, or `None` at the first of a key.
+    /// Its parent, or `None` for a key's first node.
     pub(crate) parent: Option<usize>,
     /// How many nodes lie above it.
     pub(crate) depth: usize,
-    /// Whether a pruning keeps it. False outside of one.
+    /// The mark of a pruning; false outside of one.
     pub(crate) kept: bool,
 }
 
 /// A node that holds a value.
 #[derive(Drop)]
 pub(crate) struct LeafNode<K, T> {
-    /// The key of its path, as clauses see it. It has no bytes: only the map of the keys keeps one, once for all paths
-    /// under it.
+    /// The key of its path, for contracts. It has no bytes: the map of keys holds the only copy, for all paths under
+    /// it.
     pub(crate) key: GhostKey<K>,
     /// The value.
     pub(crate) value: T,
-    /// The node whose child it is, or `None` where its key has no call.
+    /// Its parent, or `None` if the path is empty.
     pub(crate) parent: Option<usize>,
     /// How many nodes lie above it.
     pub(crate) depth: usize,
 }
 
-/// It prints all but its key, of which it has no bytes.
+/// Prints all but its key, of which it has no bytes.
 impl<K, T: Debug> Debug for LeafNode<K, T> {
     ghost debug_output = { λ _. None };
 
@@ -76,18 +76,17 @@ impl<K, T: Debug> Debug for LeafNode<K, T> {
     }
 }
 
-/// Where the paths of a key begin.
+/// Where a key's paths begin.
 #[derive(Debug, Drop)]
 pub(crate) struct Start {
-    /// The first node: it asks the first call, or is the one leaf of a key without calls.
+    /// The first node: it asks the first call, or is the only leaf of a key without calls.
     pub(crate) first: Node,
 }
 
 /// A map from a key and a path to a value. A path is a list of calls with their answers, each call once.
 ///
-/// Contracts see it as a list of entries, of whose order no clause speaks. Any two paths under one key part: after an
-/// equal front they go on with the same call and different answers. So at most one path under a key agrees with given
-/// answers. comemo's `CallTree`, with keys and answers themselves in the place of their hashes.
+/// Contracts see it as a list of entries, whose order doesn't matter. Two paths under one key diverge: after an equal
+/// prefix they have the same call with different answers. So at most one path under a key agrees with given answers.
 #[derive(Debug, Drop)]
 pub struct CallTree<K: Eq + Hash, C: Eq + Hash, R: Ord, T> {
     inner: Slab<InnerNode<C, R>>,
@@ -112,9 +111,7 @@ impl<K: Eq + Hash, C: Eq + Hash, R: Ord, T> Model for CallTree<K, C, R, T> {
 }
 
 impl<K: Eq + Hash, C: Eq + Hash, R: Ord, T> CallTree<K, C, R, T> {
-    /// An empty tree. It takes no memory.
-    ///
-    /// comemo's `CallTree::new`.
+    /// An empty tree.
     pub fn new(alloc: Global) -> Self
         ensures { result ≡ [] }
     {
@@ -126,29 +123,24 @@ impl<K: Eq + Hash, C: Eq + Hash, R: Ord, T> CallTree<K, C, R, T> {
         }
     }
 
-    /// Tells a proof that any two paths under equal keys part, and that the calls of each path are distinct, which every
-    /// tree keeps. It does nothing when it runs.
+    /// Makes the tree's invariant known to a proof. Does nothing at run time.
     pub fn is_parted(&self)
         ensures { IsTree C.eq R.eq K.eq self.now }
     {
         let _ = &self.starts;
     }
 
-    /// How many entries the tree has. It takes constant time. This project's own.
+    /// How many entries the tree has.
     pub fn len(&self) -> usize
         ensures { result ≡ length self.now }
     {
         self.leaves.len()
     }
 
-    /// The value of the path under a key whose answers the oracle gives, or `None` where there is none.
+    /// Looks up the value under a key whose path has the oracle's answers.
     ///
-    /// It asks the calls along one stored path, each once and in order, until the path ends or no stored path goes on
-    /// with the answer that was given; with no path under the key, or an empty one, it asks nothing. So the oracle needs to
-    /// answer stored calls alone. It is lent, so its state afterwards is known. An oracle that refuses an answer ends the
-    /// look-up with its error; nothing else does, and the tree takes no memory of its own. Beside the oracle's work it
-    /// takes constant expected time for the key, and for each call that is asked a search in an ordered map, of the answers
-    /// that are stored to it there, however many entries the tree has. comemo's `CallTree::get`.
+    /// It asks the calls of one stored path, each once and in order; the oracle only needs to answer those. Fails only
+    /// if the oracle does.
     pub fn get<O: FnMut(&C) -> Result<R, AllocError>>(
         &self,
         key: &K,
@@ -165,7 +157,7 @@ impl<K: Eq + Hash, C: Eq + Hash, R: Ord, T> CallTree<K, C, R, T> {
             oracle.old e oracle.new) }
         ensures answered { AlwaysReturns O.FnMut (λ a r. IsOk r) oracle.old → IsOk result }
 
-        // For a caller that knows what its oracle answers from, all that matters.
+        // For a caller that only knows which answers its oracle has.
         ensures agreeing { (m : C → R)
             → Respects C.eq R.eq m
             → AnswersAs O.FnMut R.eq m oracle.old
@@ -191,11 +183,7 @@ impl<K: Eq + Hash, C: Eq + Hash, R: Ord, T> CallTree<K, C, R, T> {
         }
     }
 
-    /// As `get`, with the path that was found, cloned, before its value.
-    ///
-    /// It asks as `get` does, and takes as long, and the time to clone the calls of a path that is found; answers are
-    /// not cloned, since the oracle's own are given. Beside an oracle that refused, an error comes where a path was found
-    /// and there was no memory for its clone. This project's own.
+    /// As `get`, with the path: clones of its calls, and the oracle's own answers. Also fails if cloning the path does.
     pub fn find<O: FnMut(&C) -> Result<R, AllocError>>(
         &self,
         key: &K,
@@ -220,7 +208,7 @@ impl<K: Eq + Hash, C: Eq + Hash, R: Ord, T> CallTree<K, C, R, T> {
             × LooksUp O.FnMut C.eq R.eq (under K.eq self.now key.now)
             oracle.old oracle.new (Some value)) }
 
-        // For a caller that knows what its oracle answers from, all that matters.
+        // For a caller that only knows which answers its oracle has.
         ensures agreeing { (m : C → R)
             → Respects C.eq R.eq m
             → AnswersAs O.FnMut R.eq m oracle.old
@@ -232,8 +220,8 @@ impl<K: Eq + Hash, C: Eq + Hash, R: Ord, T> CallTree<K, C, R, T> {
             return Ok(None);
         };
         let mut at = start.first;
-        // The pairs on the way. Where there is no memory for them the look-up goes on without, since `None` is still an
-        // answer, and only a path that is found may be refused.
+        // The pairs on the way. If they don't fit in memory the look-up goes on without them: it may still end in
+        // `None`, and only a found path needs them.
         let mut trail = new_trail(self.alloc, at);
         let mut lost = false;
         'down: loop {
@@ -258,16 +246,11 @@ impl<K: Eq + Hash, C: Eq + Hash, R: Ord, T> CallTree<K, C, R, T> {
         }
     }
 
-    /// Adds the value under the key, and under the path that the sequence's pairs make.
+    /// Stores a value under a key and the path that a sequence takes in the tree.
     ///
-    /// The path follows stored ones as long as the sequence has their pairs, wherever these stand in it, and then has
-    /// the pairs that are left in the sequence's order. Every error leaves the tree as it was: `AlreadyExists` and
-    /// `MissingCall` come exactly where [`InsertError`] says so, and `Memory` where a request for memory was refused, or
-    /// where the path would be longer than a `usize` can say. The key, the sequence and the value are dropped then.
-    ///
-    /// A key that has no path yet goes to the map, and is the one copy for all paths under it. It takes a step of a look-up
-    /// for each pair of the path that is stored already, one step more where the new path leaves the stored ones, constant time
-    /// for each pair that is left, and one pass over the sequence's slots. comemo's `CallTree::insert`.
+    /// The path follows stored paths while the sequence has their pairs, in any position; then it has the remaining
+    /// pairs in the sequence's order. On error the key, the sequence and the value are dropped. A key is stored once
+    /// for all paths under it.
     pub fn insert(
         &mut self,
         key: K,
@@ -333,10 +316,9 @@ impl<K: Eq + Hash, C: Eq + Hash, R: Ord, T> CallTree<K, C, R, T> {
 }
 
 impl<K: Eq + Hash + Drop, C: Eq + Hash + Drop, R: Ord + Drop, T: Drop> CallTree<K, C, R, T> {
-    /// Shows each value to a test, which may change it, and drops the entries that it answers false of.
+    /// Shows each value to a test, which may change it, and drops the entries for which it returns false.
     ///
-    /// It takes no memory, and time linear in the nodes that the tree has room for, or in the leaves where none goes; a
-    /// child that goes from among many costs the logarithm of their number at most. comemo's `CallTree::retain`.
+    /// Linear in the nodes that the tree has room for, or in the leaves if none is dropped.
     pub fn retain<F: Fn(&mut T) -> bool>(&mut self, f: F)
         requires { F.IsAlwaysCallable f }
         ensures { Retains (ReturnsAtMut F.Fn f) self.old self.new }
@@ -352,11 +334,8 @@ impl<K: Eq + Hash + Drop, C: Eq + Hash + Drop, R: Ord + Drop, T: Drop> CallTree<
 }
 
 impl<K: Eq + Hash, C: Eq + Hash, R: Ord, T> CallTree<K, C, R, T> {
-    /// Changes the value of the path under a key that has just these answers in order, and says whether there is one.
-    ///
-    /// The function is called once, on that value, or not at all. Nothing else changes. It asks nothing, refuses nothing
-    /// and takes no memory. Beside the function's work it takes constant expected time for the key, and for each answer
-    /// a search in the ordered map of those that are stored at its place. This project's own.
+    /// Changes the value under a key whose path has exactly these answers, and returns whether there is one. Asks
+    /// nothing.
     pub fn change<F: Fn(&mut T)>(&mut self, key: &K, answers: &[R], f: F) -> bool
         requires { F.IsAlwaysCallable f }
         ensures changed { IsTrue result → Changes R.eq K.eq (LeavesAt F.Fn f)
@@ -372,12 +351,10 @@ impl<K: Eq + Hash, C: Eq + Hash, R: Ord, T> CallTree<K, C, R, T> {
         true
     }
 
-    /// How many inner nodes, leaves, edges and keys the tree has, in this order.
+    /// How many inner nodes, leaves, edges and keys the tree has. Constant time.
     ///
-    /// The inner nodes are the different proper fronts of the stored paths, the empty one among them, and the leaves
-    /// the paths; the edges are the different fronts that are not empty. Fronts are counted for each key. Where there
-    /// are more edges than a `usize` holds, their number is the greatest `usize`. It refuses nothing, and takes
-    /// constant time. This project's own.
+    /// Inner nodes are the distinct proper prefixes of the paths under each key; edges are the distinct nonempty
+    /// prefixes. The number of edges saturates.
     pub fn shape(&self) -> (usize, usize, usize, usize)
         ensures { IsShape C.eq R.eq K.eq self.now result }
     {
@@ -385,11 +362,11 @@ impl<K: Eq + Hash, C: Eq + Hash, R: Ord, T> CallTree<K, C, R, T> {
     }
 }
 
-/// For how many pairs a trail has room from its first node on, so that most paths are found with one request for memory.
+/// For how many pairs a trail has room at first, so that most look-ups allocate once.
 const TRAIL_ROOM: usize = 16;
 
-/// An empty list for the pairs on the way down from a node. It has room for some of them where the node asks a call, unless
-/// there is no memory for so many: then it grows by the pairs that come.
+/// An empty trail from a node. It has room for some pairs if the node asks a call and memory allows; else it grows with
+/// each pair.
 fn new_trail<'a, C, R: Drop>(alloc: Global, first: Node) -> Vec<(&'a C, R)>
     ensures { result.items ≡ [] }
 {
@@ -399,8 +376,7 @@ fn new_trail<'a, C, R: Drop>(alloc: Global, first: Node) -> Vec<(&'a C, R)>
     }
 }
 
-/// The pairs of a trail, with their calls cloned. It answers `AllocError` where there is no memory for the list or for a
-/// clone.
+/// The pairs of a trail, with their calls cloned.
 fn cloned<C: Clone, R: Drop>(alloc: Global, trail: Vec<(&C, R)>) -> Result<Vec<(C, R)>, AllocError>
     ensures { IfOk result (λ path. AllZip (λ p q. C.is_clone p.0.now q.0
         × (p.1 ≡ q.1)) trail.entry.items path.items) }
@@ -412,10 +388,8 @@ fn cloned<C: Clone, R: Drop>(alloc: Global, trail: Vec<(&C, R)>) -> Result<Vec<(
     Ok(path)
 }
 
-/// Adds an inner node without children below another, and gives its key in the slab.
-///
-/// It takes as long as [`Children::insert`]. Where there is no memory for the child it answers `AllocError`, and nothing
-/// changes; a first child takes none.
+/// Adds an inner node without children below another, and returns its key in the slab. A first child does not allocate;
+/// on error nothing changes.
 pub(crate) fn attach_inner<C, R: Ord + Drop>(
     alloc: Global,
     inner: &mut Slab<InnerNode<C, R>>,
@@ -435,6 +409,7 @@ where
     ensures len { OnOk result (slab_len inner.new ≡ slab_len inner.old + 1) }
     ensures err { OnErr result (inner.new ≡ inner.old) }
 {
+    // The key that the node will get. The link comes first, since only it can fail.
     let id = inner.vacant_key();
     let node = &mut inner[above];
     let depth = node.depth + 1;
@@ -449,10 +424,7 @@ where
     Ok(inner.insert_reserved(added))
 }
 
-/// Adds a leaf below an inner node.
-///
-/// It takes as long as [`Children::insert`]. Where there is no memory for the child it answers `AllocError`, and nothing
-/// changes; a first child takes none.
+/// Adds a leaf below an inner node. A first child does not allocate; on error nothing changes.
 pub(crate) fn attach_leaf<K, C, R: Ord + Drop, T>(
     inner: &mut Slab<InnerNode<C, R>>,
     leaves: &mut Slab<LeafNode<K, T>>,
@@ -473,6 +445,7 @@ where
     ensures first { IfSome (get inner.old above) (λ n. n.children ≡ [] → IsOk result) }
     ensures err { OnErr result ((inner.new ≡ inner.old) × (leaves.new ≡ leaves.old)) }
 {
+    // The key that the leaf will get. The link comes first, since only it can fail.
     let id = leaves.vacant_key();
     let node = &mut inner[above];
     let depth = node.depth + 1;
@@ -486,11 +459,9 @@ where
     Ok(())
 }
 
-/// The node at which the path of a sequence parts from the stored ones, and the answer that leads on from it. The pairs
-/// of the front are taken out of the sequence.
+/// The node where a sequence's path diverges from the stored ones, and the answer that leads on from it.
 ///
-/// It asks for no memory, and takes for each of those pairs the time of one step of a look-up. `AlreadyExists` and
-/// `MissingCall` come where [`InsertError`] says so.
+/// The pairs before it are taken out of the sequence.
 fn walk<K: Eq + Hash, C: Eq + Hash + Drop, R: Ord + Drop, T>(
     inner: &Slab<InnerNode<C, R>>,
     leaves: &Slab<LeafNode<K, T>>,

@@ -1,4 +1,4 @@
-//! How the workloads of evictions are done. Each fills a cache, and then reads the clock around one eviction.
+//! The workloads of evictions. Each fills a cache, and times one eviction.
 
 use crate::stopwatch::{Seen, Stopwatch};
 use crate::sums::{SumKey, SumMemo, sum};
@@ -7,13 +7,13 @@ use comemo_samples::Cells;
 use std::alloc::Global;
 use std::rt::Clock;
 
-/// Of how many cells the sums are.
+/// How many cells a sum adds.
 const CELLS: u32 = 16;
 
-/// How the entries of a cache lie.
+/// How a cache's entries are laid out.
 #[derive(Clone, Copy, Drop, Debug, PartialEq, Eq)]
 pub enum Layout {
-    /// Each under a key of its own, by so many calls.
+    /// Each under its own key, with this many calls.
     Keys { calls: u32 },
     /// All under one key, by the answers to one call.
     OneKey,
@@ -24,14 +24,14 @@ pub enum Layout {
 pub enum Left {
     /// All entries, each one older.
     All,
-    /// The entries that were hit since the eviction before, which are half of them.
+    /// The half of the entries that were hit since the last eviction.
     Half,
     /// None.
     Nothing,
 }
 
 impl Left {
-    /// The age at which entries go.
+    /// The eviction's bound.
     fn max_age(self) -> usize {
         match self {
             Left::All => usize::MAX,
@@ -41,7 +41,7 @@ impl Left {
     }
 }
 
-/// Calls for the sum with a number, which lies as the layout says.
+/// Calls for the sum with this number, in this layout.
 fn call(
     alloc: Global,
     cache: &mut CacheData<SumMemo>,
@@ -59,7 +59,7 @@ fn call(
     sum(alloc, cache, SumKey { start, count }, &cells.track(alloc))
 }
 
-/// Evicts from a cache of so many sums. The sum is the number of those that are left.
+/// Evicts from a cache of sums. The result is the number of entries left.
 pub fn evict<R: Clock>(
     rt: &R,
     alloc: Global,

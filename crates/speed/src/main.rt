@@ -1,8 +1,7 @@
 //! The program `speed`: how long the library's operations take.
 //!
-//! With no word after its name it times all workloads; with `sums` it prints what they compute, without times. It ends
-//! with status 0, with 1 where there was no memory or its output could not be written, and with 2 where it knows no such
-//! word.
+//! Without arguments it times all workloads; with `sums` it prints what they compute, without times. The exit status is
+//! 0; 1 if it runs out of memory or its output can't be written; or 2 with any other argument.
 #![tactic(auto)]
 
 mod evictions;
@@ -22,18 +21,18 @@ use std::io::{ErrorKind, Write};
 use std::process::ExitCode;
 use std::{env, io};
 
-/// What is asked of the program.
+/// The program's task.
 #[derive(Clone, Copy, Debug, PartialEq, Eq)]
 enum Request {
     /// The times of all workloads.
     Times,
-    /// Their sums alone.
+    /// Only their sums.
     Sums,
-    /// Nothing that it knows.
+    /// An unknown argument.
     Unknown,
 }
 
-/// What the words after the program's name ask for.
+/// The task that the arguments ask for.
 fn request_of<R: Env + Alloc>(rt: &R) -> Result<Request, AllocError> {
     let words = match env::args(rt) {
         Ok(words) => words,

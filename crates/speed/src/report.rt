@@ -1,4 +1,4 @@
-//! The lines that are printed.
+//! The printed lines.
 
 use crate::runs::run;
 use crate::workload::{WORKLOADS, Workload};
@@ -16,7 +16,7 @@ const REPETITIONS: u32 = 9;
 /// Why the program ended early.
 #[derive(Clone, Copy, Debug, PartialEq, Eq)]
 pub enum Failure {
-    /// A request for memory was refused.
+    /// Out of memory.
     Memory,
     /// The output could not be written.
     Output,
@@ -41,7 +41,7 @@ struct Each {
 }
 
 impl Each {
-    /// The time of one where so many operations took so many nanoseconds.
+    /// The time of one of these operations, which took this many nanoseconds together.
     fn of(nanoseconds: u64, operations: u64) -> Each {
         Each {
             picoseconds: nanoseconds.saturating_mul(1_000) / operations.max(1),
@@ -49,7 +49,7 @@ impl Each {
     }
 }
 
-/// It prints as nanoseconds with one digit behind the point.
+/// Prints nanoseconds with one decimal.
 impl fmt::Display for Each {
     fn fmt<W: fmt::Write>(&self, f: &mut fmt::Formatter<W>) -> fmt::Result {
         let whole = self.picoseconds / 1_000;
@@ -58,9 +58,7 @@ impl fmt::Display for Each {
     }
 }
 
-/// Writes the name and the sum of each workload, after a few operations.
-///
-/// A failure ends it; then the lines of the workloads before are written.
+/// Writes the name and the sum of each workload, after a few operations. On error the earlier lines are written.
 pub fn write_sums<R: Clock + Threads + Wait + Sync, W: Write>(
     rt: &R,
     alloc: Global,
@@ -75,9 +73,8 @@ pub fn write_sums<R: Clock + Threads + Wait + Sync, W: Write>(
 
 /// Writes the name, the times and the sum of each workload.
 ///
-/// The times are those of one operation, in nanoseconds: the median, the least and the greatest of some repetitions,
-/// after one that isn't counted. Where a clock could not be read there are none. A failure ends it; then the lines of
-/// the workloads before are written.
+/// The times are the median, least and greatest of one operation, in nanoseconds, after a warm-up; there are none if a
+/// clock can't be read. On error the earlier lines are written.
 pub fn write_times<R: Clock + Threads + Wait + Sync, W: Write>(
     rt: &R,
     alloc: Global,
@@ -102,7 +99,7 @@ pub fn write_times<R: Clock + Threads + Wait + Sync, W: Write>(
     Ok(())
 }
 
-/// Writes the line of a workload; `times` are sorted.
+/// Writes a workload's line; `times` are sorted.
 fn write_line<W: Write>(
     alloc: Global,
     writer: &mut W,

@@ -1,5 +1,4 @@
-//! How the workloads are done. Each makes what it works on, then reads the clock, does its operations, and reads it
-//! again.
+//! How the workloads are done. Each prepares its data, then times its operations.
 
 use crate::evictions::evict;
 use crate::scripts::evaluate_many;
@@ -15,13 +14,12 @@ use std::rt::Clock;
 use std::sync::Wait;
 use std::thread::Threads;
 
-/// How many cells there are.
+/// The number of cells.
 const CELLS: u32 = 128;
 
-/// Does so many operations of a workload, with a cache and values of its own, which are let go at its end.
+/// Does a workload's operations, with a new cache and new values. Fails if one of them runs out of memory.
 ///
-/// A fault says that there was no memory for one of them, or for what they work on. The time is that of all operations
-/// together; the sum depends on the workload and their number alone.
+/// The time is that of all operations together.
 pub fn run<R: Clock + Threads + Wait + Sync>(
     rt: &R,
     alloc: Global,
@@ -49,7 +47,7 @@ pub fn run<R: Clock + Threads + Wait + Sync>(
     }
 }
 
-/// Hits one kept sum, by one view.
+/// Hits one cached sum through one view.
 fn hit_same_view<R: Clock>(
     rt: &R,
     alloc: Global,
@@ -69,7 +67,7 @@ fn hit_same_view<R: Clock>(
     Ok(watch.seen(rt, all))
 }
 
-/// Hits one kept sum, by a view of its own each time.
+/// Hits one cached sum, each time through a new view.
 fn hit_new_view<R: Clock>(
     rt: &R,
     alloc: Global,
@@ -88,7 +86,7 @@ fn hit_new_view<R: Clock>(
     Ok(watch.seen(rt, all))
 }
 
-/// Adds so many of the first cells to 0, 1, 2 and so on, each under a key of its own, and gives the sum of all.
+/// Adds the first cells to 0, 1, 2 and so on, each under its own key, and returns the total.
 fn sums_of_keys(
     alloc: Global,
     cache: &mut CacheData<SumMemo>,
@@ -103,7 +101,7 @@ fn sums_of_keys(
     Ok(all)
 }
 
-/// Misses under new keys, into a cache that was filled so once and emptied, and has its room from that.
+/// Misses under new keys. The cache was filled and emptied before, so it has room.
 fn miss_new_keys<R: Clock>(
     rt: &R,
     alloc: Global,
@@ -120,7 +118,7 @@ fn miss_new_keys<R: Clock>(
     Ok(watch.seen(rt, all))
 }
 
-/// Adds ten cells to 1, where the last of them holds 0, 1, 2 and so on, and gives the sum of all.
+/// Adds ten cells to 1, the last of which holds 0, 1, 2 and so on, and returns the total.
 fn sums_of_last(
     alloc: Global,
     cache: &mut CacheData<SumMemo>,
@@ -137,8 +135,7 @@ fn sums_of_last(
     Ok(all)
 }
 
-/// Misses under one key by the last of ten cells, into a cache that was filled so once and emptied, and has its room from
-/// that.
+/// Misses under one key by the last of ten cells. The cache was filled and emptied before, so it has room.
 fn miss_last_differs<R: Clock>(rt: &R, alloc: Global, operations: u64) -> Result<Seen, Fault> {
     let mut cells = Cells::new(alloc, CELLS)?;
     let mut cache: CacheData<SumMemo> = CacheData::new(alloc);
@@ -149,12 +146,12 @@ fn miss_last_differs<R: Clock>(rt: &R, alloc: Global, operations: u64) -> Result
     Ok(watch.seen(rt, all))
 }
 
-/// The step's number of so many, in a scattered order.
+/// The step's number below a bound, in a scattered order.
 fn scattered(step: u64, numbers: u64) -> u64 {
     step.wrapping_mul(7919).wrapping_add(13) % numbers.max(1)
 }
 
-/// Keeps sums of one cell, which holds 0, 1, 2 and so on, and hits them.
+/// Hits among sums of one cell, which held 0, 1, 2 and so on.
 fn hit_among<R: Clock>(
     rt: &R,
     alloc: Global,
@@ -177,7 +174,7 @@ fn hit_among<R: Clock>(
     Ok(watch.seen(rt, all))
 }
 
-/// Keeps sums of one cell, each under a key of its own, and hits them.
+/// Hits among sums of one cell, each under its own key.
 fn hit_among_keys<R: Clock>(
     rt: &R,
     alloc: Global,

@@ -10,11 +10,11 @@ use std::rt::Clock;
 /// How many files the scripts read.
 const FILES: u64 = 16;
 
-/// How often each of the scripts is evaluated.
+/// How often each script is evaluated.
 const PASSES: u32 = 2;
 
-/// Carries out a command, and gives the fold of all that was printed so far: of each byte, 31 times the fold before, and
-/// the byte, in 64 bits. An error says that there was no memory for the command or for what it prints.
+/// Carries out a command, and returns the fold of all that was printed so far: for each byte, 31 times the fold, plus
+/// the byte, in 64 bits.
 fn carry_out(
     alloc: Global,
     state: &mut State,
@@ -33,8 +33,8 @@ fn carry_out(
     Ok(fold)
 }
 
-/// Evaluates so many scripts in a session that begins with nothing, each once before all were evaluated and once after.
-/// Each adds one of a few files. It gives the fold of what is printed.
+/// Evaluates scripts in a new session, all once and then all again, and returns the fold of what is printed. Each adds
+/// one of a few files.
 fn play(alloc: Global, scripts: u64) -> Result<u64, AllocError> {
     let mut state = State::new(alloc);
     let mut fold = 0;
@@ -59,10 +59,9 @@ fn play(alloc: Global, scripts: u64) -> Result<u64, AllocError> {
     Ok(fold)
 }
 
-/// Evaluates many scripts, each of which is an operation.
+/// Times many scripts, each an operation.
 ///
-/// What is timed is the whole session: that each command is made, carried out and answered, that the answer's line is
-/// made and folded, and that the session is let go.
+/// The time is that of the whole session: commands, answers, the fold, and dropping the session.
 pub fn evaluate_many<R: Clock>(rt: &R, alloc: Global, scripts: u64) -> Result<Seen, Fault> {
     let watch = Stopwatch::start(rt);
     let fold = play(alloc, scripts)?;

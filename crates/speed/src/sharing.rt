@@ -1,4 +1,4 @@
-//! How the workloads of threads are done: each thread has a view and a share of one cache all the while.
+//! The workloads of threads: each thread has its own view, and its own share of one cache.
 
 use crate::stopwatch::{Seen, Stopwatch};
 use crate::sums::{SumKey, SumMemo, sum};
@@ -9,25 +9,25 @@ use std::rt::Clock;
 use std::sync::Wait;
 use std::thread::{Threads, map_indices};
 
-/// Under how many keys sums are kept before.
+/// How many keys have cached sums at first.
 const KEYS: u64 = 16;
 
-/// Of how many cells the sums are at most.
+/// How many cells a sum adds at most.
 const CELLS: u32 = 16;
 
-/// Which sums the threads take.
+/// Which sums the threads compute.
 #[derive(Clone, Copy, Drop, Debug, PartialEq, Eq)]
 pub struct Share {
-    /// Of how many cells each sum is.
+    /// How many cells a sum adds.
     count: u32,
-    /// How many each thread takes.
+    /// How many sums each thread computes.
     each: u64,
-    /// Whether each tenth sum is under a new key.
+    /// Whether every tenth sum is under a new key.
     misses: bool,
 }
 
 impl Share {
-    /// The share of each of so many threads that take so many sums together.
+    /// Each thread's share of this many sums.
     pub fn of(threads: u32, count: u32, sums: u64, misses: bool) -> Share {
         let each = sums / u64::from(threads.max(1));
         Share {
@@ -37,7 +37,8 @@ impl Share {
         }
     }
 
-    /// What a thread's sum at this step begins with: one of the keys by turns, or a number that no other sum begins with.
+    /// What a thread's sum at this step starts with: one of the keys in turn, or a number that no other sum starts
+    /// with.
     fn start(self, thread: u64, step: u64) -> u64 {
         if self.misses && step % 10 == 9 {
             return KEYS
@@ -48,7 +49,7 @@ impl Share {
     }
 }
 
-/// The sums that one thread takes, added up.
+/// The total of one thread's sums.
 fn add_up<R: Wait>(
     rt: &R,
     alloc: Global,
@@ -68,7 +69,7 @@ fn add_up<R: Wait>(
     Ok(all)
 }
 
-/// Keeps the sums that are hit.
+/// Caches the sums that are hit.
 fn keep_sums<R: Wait>(
     rt: &R,
     alloc: Global,
@@ -83,7 +84,7 @@ fn keep_sums<R: Wait>(
     Ok(())
 }
 
-/// The sums that so many threads take, added up.
+/// The total of all threads' sums.
 fn add_up_all<R: Threads + Wait + Sync>(
     rt: &R,
     alloc: Global,
@@ -105,8 +106,8 @@ fn add_up_all<R: Threads + Wait + Sync>(
     Ok(all)
 }
 
-/// Takes sums by so many threads through one cache. Where some miss, the cache was filled so once and emptied, and has its
-/// room from that.
+/// Computes sums on several threads through one cache. If some miss, the cache was filled and emptied before, so it has
+/// room.
 pub fn take_sums<R: Clock + Threads + Wait + Sync>(
     rt: &R,
     alloc: Global,

@@ -6,18 +6,18 @@ use comemo::{Fault, Function, Hold, MemoOf, Recorder, Tracked, called};
 use comemo_samples::{Cells, Get};
 use std::alloc::Global;
 
-/// What a sum begins with, and how many cells it adds.
+/// What a sum starts with, and how many cells it adds.
 #[derive(Clone, Copy, Drop, Debug, PartialEq, Eq, Hash)]
 pub struct SumKey {
-    /// What the sum begins with.
+    /// What the sum starts with.
     pub start: u64,
     /// How many cells it adds, from place 0 on.
     pub count: u32,
 }
 
-/// The sum of a number and the first cells, which wraps at 64 bits: a memoized function.
+/// The memoized sum of a number and the first cells, which wraps at 64 bits.
 ///
-/// It is there for its time, so its meaning admits every output. What it gives is in the program's stored output.
+/// It is only there to be timed, so its meaning allows every output. The program's stored output has its results.
 pub struct SumOfCells;
 
 impl Function for SumOfCells {
@@ -42,13 +42,11 @@ impl Function for SumOfCells {
     }
 }
 
-/// What the cache of `sum` is the cache of.
+/// The function of a cache for `sum`.
 pub type SumMemo = MemoOf<SumOfCells>;
 
-/// The sum of a number and the first cells, which wraps at 64 bits, kept under the number and the count.
-///
-/// An error says that there was no memory. A run asks so many cells, each by one call; a hit asks them too, along one
-/// stored path.
+/// The sum of a number and the first cells, wrapping at 64 bits, memoized under the number and the count. Both a run
+/// and a hit ask each of these cells.
 pub fn sum<H: Hold<SumMemo>>(
     alloc: Global,
     cache: &mut H,

@@ -1,4 +1,4 @@
-//! How the workloads of a long text are done: its length is kept under the text itself, or under a number of it.
+//! The workloads of a long text: its length is cached under the text, or under its hash.
 ghost use Rattle.std.specs.Prelude.{⊤};
 ghost use Rattle.std.proofs.Common.{rules};
 
@@ -8,13 +8,13 @@ use std::alloc::{AllocError, Global};
 use std::hash::Hash;
 use std::rt::Clock;
 
-/// How many bytes the text has: a mebibyte.
+/// The length of the text in bytes: a mebibyte.
 const TEXT_BYTES: usize = 1_048_576;
 
-/// What the text is made of.
+/// The text repeats this.
 const PIECE: &str = "abcdefghijklmnop";
 
-/// A length that is kept under its text. It is there for its time, so its definition admits every output.
+/// A length cached under its text. It is only there to be timed, so its definition allows every output.
 struct ByText;
 
 impl Memo for ByText {
@@ -31,7 +31,7 @@ impl Memo for ByText {
     ghost laws = { Prim.search rules };
 }
 
-/// A length that is kept under a number of its text. Its definition is as that of `ByText`.
+/// A length cached under its text's hash. Its definition is as that of `ByText`.
 struct ByNumber;
 
 impl Memo for ByNumber {
@@ -48,7 +48,7 @@ impl Memo for ByNumber {
     ghost laws = { Prim.search rules };
 }
 
-/// The text. An error says that there was no memory for it.
+/// The text.
 fn text(alloc: Global) -> Result<String, AllocError> {
     let mut text = String::new(alloc);
     for _ in 0..TEXT_BYTES / PIECE.len() {
@@ -57,7 +57,7 @@ fn text(alloc: Global) -> Result<String, AllocError> {
     Ok(text)
 }
 
-/// The length of a text, kept under the text. Each call, a hit too, copies the text.
+/// The length of a text, cached under the text. Each call, even a hit, copies the text.
 fn length_of(
     alloc: Global,
     cache: &mut CacheData<ByText>,
@@ -74,7 +74,7 @@ fn length_of(
     }
 }
 
-/// The length of the text, kept under a number of it.
+/// The length of the text, cached under a hash of it.
 fn length_by(alloc: Global, cache: &mut CacheData<ByNumber>, number: u128) -> Result<u64, Fault> {
     let mut sink = Top::new();
     match begin(alloc, cache, &mut Hashed(number), &mut sink, true) {
@@ -87,7 +87,7 @@ fn length_by(alloc: Global, cache: &mut CacheData<ByNumber>, number: u128) -> Re
     }
 }
 
-/// Hits the length of the text by the text, which is lent each time.
+/// Hits by the text, which is borrowed each time.
 pub fn text_itself<R: Clock>(rt: &R, alloc: Global, operations: u64) -> Result<Seen, Fault> {
     let mut key = Hashed(text(alloc)?);
     let mut cache = CacheData::new(alloc);
@@ -100,12 +100,12 @@ pub fn text_itself<R: Clock>(rt: &R, alloc: Global, operations: u64) -> Result<S
     Ok(watch.seen(rt, all))
 }
 
-/// Hits the length of the text by its number, which is computed each time.
+/// Hits by the text's hash, which is computed each time.
 pub fn text_by_number<R: Clock>(rt: &R, alloc: Global, operations: u64) -> Result<Seen, Fault> {
     hit_by_number(rt, alloc, &text(alloc)?, operations)
 }
 
-/// Hits the length of the text by the number that it keeps.
+/// Hits by the text's stored hash.
 pub fn text_by_kept_number<R: Clock>(
     rt: &R,
     alloc: Global,
@@ -114,7 +114,7 @@ pub fn text_by_kept_number<R: Clock>(
     hit_by_number(rt, alloc, &Prehashed::new(text(alloc)?), operations)
 }
 
-/// Hits the length of the text by the number of an item, which is asked for each time.
+/// Hits by an item's hash, which is asked for each time.
 fn hit_by_number<R: Clock, T: Hash>(
     rt: &R,
     alloc: Global,

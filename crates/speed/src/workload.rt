@@ -1,4 +1,4 @@
-//! The workloads: what each is called, and how often it is done.
+//! The workloads: their names, and how often they are done.
 
 use crate::evictions::{Layout, Left};
 use std::alloc::{AllocError, Global};
@@ -6,35 +6,36 @@ use std::alloc::{AllocError, Global};
 /// A kind of work, whose operations are timed.
 #[derive(Clone, Copy, Drop, Debug, PartialEq, Eq)]
 pub enum Workload {
-    /// A kept sum of so many cells, by one view for all.
+    /// A cached sum of this many cells, through one view.
     HitSameView { calls: u32 },
-    /// A kept sum of so many cells, by a view of its own each.
+    /// A cached sum of this many cells, each time through a new view.
     HitNewView { calls: u32 },
-    /// Sums of so many cells, each under a key of its own, into a cache that is empty at first, and has its room.
+    /// Sums of this many cells, each under its own key. The cache is empty at first, but has room.
     MissNewKeys { calls: u32 },
-    /// Sums of ten cells under one key, of which the last cell differs each time, into such a cache.
+    /// Sums of ten cells under one key, where the last cell differs each time. The cache is empty at first, but has
+    /// room.
     MissLastDiffers,
-    /// Kept sums of one cell, among so many under one key.
+    /// Cached sums of one cell, among this many under one key.
     HitAmong { entries: u64 },
-    /// Kept sums of one cell, each under a key of its own, among so many.
+    /// Cached sums of one cell, each under its own key, among this many.
     HitAmongKeys { keys: u64 },
-    /// Kept sums of so many cells, by so many threads through one cache.
+    /// Cached sums of this many cells, by several threads through one cache.
     HitShared { by: u32, calls: u32 },
-    /// Sums of one cell by so many threads through one cache, of which each tenth is a miss.
+    /// Sums of one cell by several threads through one cache, where every tenth misses.
     MixShared { by: u32 },
-    /// An eviction from a cache whose entries lie so, which leaves so many.
+    /// An eviction from a cache with this layout, which leaves these entries.
     Evict(Layout, Left),
-    /// The kept length of a text, under the text.
+    /// The cached length of a text, under the text.
     TextItself,
-    /// The kept length of a text, under its number, which is computed each time.
+    /// The cached length of a text, under its hash, which is computed each time.
     TextByNumber,
-    /// The kept length of a text, under the number that it keeps.
+    /// The cached length of a text, under its stored hash.
     TextByKeptNumber,
     /// Different scripts of the program `calc`.
     ManyScripts,
 }
 
-/// All workloads, in the order in which they are done.
+/// All workloads, in order.
 pub const WORKLOADS: &[Workload] = &[
     Workload::HitSameView { calls: 0 },
     Workload::HitNewView { calls: 0 },
@@ -77,11 +78,11 @@ pub const WORKLOADS: &[Workload] = &[
     Workload::ManyScripts,
 ];
 
-/// Among how many entries hits are done where the sum alone is wanted.
+/// How many entries there are when only the sum is wanted.
 const BRIEF_ENTRIES: u64 = 5_000;
 
 impl Workload {
-    /// What it is called, as its line says. An error says that there was no memory for the text.
+    /// The workload's name in its line.
     pub fn name(self, alloc: Global) -> Result<String, AllocError> {
         match self {
             Workload::HitSameView { calls } => format!(in alloc; "hit {calls} calls, same view"),
@@ -129,8 +130,8 @@ impl Workload {
         }
     }
 
-    /// The workload as it is done where the sum alone is wanted: among fewer entries, which take long to make in a program
-    /// that isn't optimized.
+    /// The workload for when only the sum is wanted: with fewer entries, which take long to make in an unoptimized
+    /// program.
     pub fn brief(self) -> Workload {
         match self {
             Workload::HitAmong { entries } => Workload::HitAmong {
@@ -143,7 +144,7 @@ impl Workload {
         }
     }
 
-    /// How many operations are done where the sum alone is wanted.
+    /// How many operations are done when only the sum is wanted.
     pub fn few(self) -> u64 {
         match self {
             Workload::TextItself | Workload::TextByNumber => 2,
@@ -153,7 +154,7 @@ impl Workload {
     }
 }
 
-/// What an eviction is called.
+/// An eviction's name.
 fn evict_name(alloc: Global, layout: Layout, left: Left) -> Result<String, AllocError> {
     let kept = match left {
         Left::All => "all",

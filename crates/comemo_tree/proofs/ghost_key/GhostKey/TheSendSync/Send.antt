@@ -1,4 +1,4 @@
--- A key that clauses alone read owns nothing, so it may go to any thread.
+-- A key that only contracts read owns nothing, so it may move to any thread.
 use denote.RattleType.{RattleType}
 use denote.Param.Send.{IsSend}
 use Rattle.comemo_tree.specs.contracts.ghost_key.GhostKey.{the_row}

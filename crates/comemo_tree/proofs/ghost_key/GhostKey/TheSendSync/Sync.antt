@@ -1,4 +1,4 @@
--- A key that clauses alone read owns nothing, so any thread may share it.
+-- A key that only contracts read owns nothing, so any thread may share it.
 use denote.RattleType.{RattleType}
 use denote.Param.Send.{IsSend, IsSync, part_keyless}
 use Rattle.comemo_tree.specs.contracts.ghost_key.GhostKey.{the_row}
