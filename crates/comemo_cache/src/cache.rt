@@ -70,7 +70,7 @@ impl<M: Memo> Meant for M {
 
 /// What a run gave, as the cache keeps it.
 #[derive(Drop)]
-struct KeptRun<M: Memo> {
+pub(crate) struct KeptRun<M: Memo> {
     output: M::Out,
     writes: Vec<M::Call>,
     age: usize,
@@ -94,7 +94,7 @@ impl<M: Memo> Model for KeptRun<M> {
 /// calls and answers. It drops entries in `evict` alone. comemo's `CacheData`.
 #[derive(Drop)]
 pub struct CacheData<M: Memo> {
-    tree: CallTree<M::Key, M::Call, M::Answer, KeptRun<M>>,
+    pub(crate) tree: CallTree<M::Key, M::Call, M::Answer, KeptRun<M>>,
 }
 
 impl<M: Memo> Model for CacheData<M> {
