@@ -10,7 +10,7 @@ ghost use Rattle.comemo.specs.Storing.{Stores};
 ghost use Rattle.comemo.specs.Held.{Held, Leads, Stays};
 
 use comemo::{
-    CacheData, Call, Found, Hold, Input, InsertError, Meant, Memo, Peeked, Reads, Shared,
+    CacheData, Call, Explanation, Found, Hold, Input, InsertError, Meant, Memo, Peeked, Reads, Shared,
 };
 use std::alloc::{AllocError, Global};
 use std::sync::Wait;
@@ -56,6 +56,19 @@ impl<M: Memo, R: Wait> Hold<M> for Dead<'_, M, R> {
             return fresh.peek(key, input);
         }
         self.held.peek(key, input)
+    }
+
+    fn explain<In: Input<Call = M::Call, Key = M::Key, Answer = M::Answer>>(
+        &mut self,
+        alloc: Global,
+        key: &M::Key,
+        input: &mut In,
+    ) -> Result<Explanation<M::Call, M::Answer>, AllocError> {
+        if self.dead == Step::Look {
+            let fresh: CacheData<M> = CacheData::new(self.alloc);
+            return fresh.explain(alloc, key, input);
+        }
+        self.held.explain(alloc, key, input)
     }
 
     fn touch(&mut self, key: &M::Key, answers: &[M::Answer]) {

@@ -9,8 +9,8 @@ ghost use Rattle.comemo.specs.Cache.{Entries, Stands};
 ghost use Rattle.comemo.specs.Storing.{Stores};
 ghost use Rattle.comemo.specs.Held.{Held, Leads, Stays};
 
-use comemo::{Cache, Call, Found, Hold, Input, InsertError, Meant, Memo, Peeked, Reads, Shared};
-use std::alloc::AllocError;
+use comemo::{Cache, Call, Explanation, Found, Hold, Input, InsertError, Meant, Memo, Peeked, Reads, Shared};
+use std::alloc::{AllocError, Global};
 use std::sync::Wait;
 
 /// A holder of a shared cache which evicts it after each look-up, as another thread might.
@@ -43,6 +43,17 @@ impl<M: Memo, R: Wait> Hold<M> for Overtaken<'_, M, R> {
         let peeked = self.held.peek(key, input);
         self.cache.evict(self.rt, self.max_age);
         peeked
+    }
+
+    fn explain<In: Input<Call = M::Call, Key = M::Key, Answer = M::Answer>>(
+        &mut self,
+        alloc: Global,
+        key: &M::Key,
+        input: &mut In,
+    ) -> Result<Explanation<M::Call, M::Answer>, AllocError> {
+        let said = self.held.explain(alloc, key, input);
+        self.cache.evict(self.rt, self.max_age);
+        said
     }
 
     fn touch(&mut self, key: &M::Key, answers: &[M::Answer]) {

@@ -3,6 +3,7 @@ pub mod Entries
 pub mod Writings
 pub mod NewPath
 pub mod Looking
+pub mod Explaining
 pub mod Holding
 pub mod Touching
 pub mod Aging

@@ -42,7 +42,7 @@ module _ {C R : Type 0} (eq : C → C → Bool) (same : R → R → Bool) (w : C
 module _ {O C R : Type 0} (g : Mut O (Bor C × Unit {0}) (Result R AllocError)) {eq : C → C → Bool} {same : R → R → Bool} (calls : IsEquivalence eq) (answers : IsEquivalence same) (w : C → Bool) (kind : (x y : C) → IsTrue (eq x y) → w x ≡ w y) (m : C → R) (respects : Respects eq same m)
     (I : O → Type 0) (step : (f f' : O) (call : C) (r : R) → I f → w call ≡ false → CalledAt g f call (Ok r) f' → IsTrue (same (m call) r) × I f') where
   -- reads that were answered as the map does are pairs that it agrees with
-  answered_agrees : (asked : List (C × R)) (f f' : O) → I f → All (λ p. w p.0 ≡ false) asked → Answered g f asked f' → Agrees same m asked
+  pub answered_agrees : (asked : List (C × R)) (f f' : O) → I f → All (λ p. w p.0 ≡ false) asked → Answered g f asked f' → Agrees same m asked
   answered_agrees [] f f' i reads h = tt
   answered_agrees (p ∷ asked) f f' i reads h =
       let one = step f h.0 p.0 p.1 i (reads 0 p (omega arith)) h.1 in

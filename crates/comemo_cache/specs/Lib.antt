@@ -1,5 +1,6 @@
 pub mod Meaning
 pub mod Cache
+pub mod Explaining
 pub mod Storing
 pub mod Held
 pub mod Found

@@ -69,7 +69,7 @@ impl<M: Memo> Meant for M {
 
 /// The result of a run, as the cache holds it.
 #[derive(Drop)]
-struct KeptRun<M: Memo> {
+pub(crate) struct KeptRun<M: Memo> {
     output: M::Out,
     writes: Vec<M::Call>,
     age: usize,
@@ -92,7 +92,7 @@ impl<M: Memo> Model for KeptRun<M> {
 /// equal prefix share its calls and answers. Only `evict` drops entries.
 #[derive(Drop)]
 pub struct CacheData<M: Memo> {
-    tree: CallTree<M::Key, M::Call, M::Answer, KeptRun<M>>,
+    pub(crate) tree: CallTree<M::Key, M::Call, M::Answer, KeptRun<M>>,
 }
 
 impl<M: Memo> Model for CacheData<M> {

@@ -7,14 +7,16 @@ ghost use Rattle.comemo_base.specs.Tree.{IsTree};
 ghost use Rattle.comemo_base.specs.declared.insertion.InsertError.TheVariants.{MissingCall};
 ghost use Rattle.comemo_cache.specs.Meaning.{IsNamed, IsNamedRun, exactly, invocation, run};
 ghost use Rattle.comemo_cache.specs.Cache.{Entries, Stands, HasNone, HasAged, IsPeeked, TouchesAt};
+ghost use Rattle.comemo_cache.specs.Explaining.{Explains};
 ghost use Rattle.comemo_cache.specs.Storing.{Stores};
 ghost use Rattle.comemo_cache.specs.Held.{Held, Leads, Stays};
 
 use crate::cache::{CacheData, Found, Meant, Memo, Peeked};
+use crate::explain::Explanation;
 use comemo_base::{CallSequence, InsertError};
 use comemo_track::input::Input;
 use comemo_track::track::Call;
-use std::alloc::AllocError;
+use std::alloc::{AllocError, Global};
 
 /// The reads of a run, which are a `CallSequence`.
 ///
@@ -93,6 +95,19 @@ pub trait Hold<M: Memo> {
             (invocation key.now (In.answers input.old) true)
             f.output f.writes.items f.age))) };
 
+    /// As `CacheData::explain`.
+    fn explain<In: Input<Call = M::Call, Key = M::Key, Answer = M::Answer>>(
+        &mut self,
+        alloc: Global,
+        key: &M::Key,
+        input: &mut In,
+    ) -> Result<Explanation<M::Call, M::Answer>, AllocError>
+        ensures same { In.did input.old input.new [] }
+        ensures stays { Stays (entries self.old) (entries self.new) }
+        ensures explains { IfOk result (λ said. Held (entries self.old) (λ es.
+            Explains ⟦<M as Meant>⟧.meaning es
+            (invocation key.now (In.answers input.old) true) said)) };
+
     /// As `CacheData::touch`.
     fn touch(&mut self, key: &M::Key, answers: &[M::Answer])
         ensures { Leads (entries self.old) (entries self.new)
@@ -140,6 +155,15 @@ impl<M: Memo> Hold<M> for CacheData<M> {
     ) -> Result<Option<Peeked<M>>, AllocError> {
         self.is_tree();
         CacheData::peek(self, key, input)
+    }
+
+    fn explain<In: Input<Call = M::Call, Key = M::Key, Answer = M::Answer>>(
+        &mut self,
+        alloc: Global,
+        key: &M::Key,
+        input: &mut In,
+    ) -> Result<Explanation<M::Call, M::Answer>, AllocError> {
+        CacheData::explain(self, alloc, key, input)
     }
 
     fn touch(&mut self, key: &M::Key, answers: &[M::Answer]) {

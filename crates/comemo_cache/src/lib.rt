@@ -9,6 +9,7 @@
 pub mod cache;
 pub mod eviction;
 pub mod evictors;
+pub mod explain;
 pub mod hold;
 pub mod shared;
 pub mod steps;
@@ -16,6 +17,7 @@ pub mod steps;
 pub use cache::{CacheData, Found, Meant, Memo, Peeked};
 pub use eviction::{Caches, Evict, Evictor};
 pub use evictors::register_evictor;
+pub use explain::Explanation;
 pub use hold::{Hold, Reads};
 pub use shared::{Cache, Shared};
 pub use steps::{Step, StepReply};

@@ -13,6 +13,7 @@ ghost use Rattle.comemo_cache.specs.Storing.{Stores};
 ghost use Rattle.comemo_cache.specs.Held.{ChangesBehind, Held, Leads, Stays};
 
 use crate::cache::{CacheData, Found, Meant, Memo, Peeked};
+use crate::explain::Explanation;
 use crate::hold::{Hold, Reads};
 use comemo_base::{CallSequence, InsertError};
 use comemo_track::input::Input;
@@ -324,6 +325,20 @@ impl<M: Memo, R: Wait> Hold<M> for Shared<'_, M, R> {
             return Ok(None);
         };
         data.peek(key, input)
+    }
+
+    fn explain<In: Input<Call = M::Call, Key = M::Key, Answer = M::Answer>>(
+        &mut self,
+        alloc: Global,
+        key: &M::Key,
+        input: &mut In,
+    ) -> Result<Explanation<M::Call, M::Answer>, AllocError> {
+        let lane = &self.cache.part(key)[self.share % LANES];
+        let way = lane.way.read(self.rt);
+        let Some(data) = &way.data else {
+            return Ok(Explanation::NeverKept);
+        };
+        data.explain(alloc, key, input)
     }
 
     fn touch(&mut self, key: &M::Key, answers: &[M::Answer]) {
