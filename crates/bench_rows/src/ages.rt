@@ -7,10 +7,8 @@ ghost use Rattle.comemo.specs.Steps.{IsStep};
 use crate::broken::Broken;
 use crate::steps::{Anything, evict, look, store, touch};
 use crate::tally::Tally;
-use comemo::{
-    CacheData, Constraint, Fault, Function, How, Meant, MemoOf, Recorder, Step, StepReply, Track,
-    memoized,
-};
+use comemo::internal::{Meant, Step, StepReply};
+use comemo::{CacheData, Constraint, Fault, Function, How, MemoOf, Recorder, Track, memoized};
 use std::alloc::{AllocError, Global};
 
 /// Gives 0.

@@ -1,7 +1,8 @@
 //! What keeps a row from its end.
 
 use calc_lines::RunFault;
-use comemo::{Fault, InsertError};
+use comemo::Fault;
+use comemo::internal::InsertError;
 use std::alloc::AllocError;
 
 /// A row was refused a request for memory, or a call of it failed that was to succeed.

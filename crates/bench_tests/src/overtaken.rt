@@ -9,7 +9,8 @@ ghost use Rattle.comemo.specs.Cache.{Entries, Stands};
 ghost use Rattle.comemo.specs.Storing.{Stores};
 ghost use Rattle.comemo.specs.Held.{Held, Leads, Stays};
 
-use comemo::{Cache, Call, Found, Hold, Input, InsertError, Meant, Memo, Peeked, Reads, Shared};
+use comemo::internal::{Found, Input, InsertError, Meant, Peeked, Reads, Shared};
+use comemo::{Cache, Call, Hold, Memo};
 use std::alloc::AllocError;
 use std::sync::Wait;
 

@@ -5,11 +5,9 @@ use crate::overtaken::Overtaken;
 use bench_workers::{
     Meeting, Null, doubled, evictions_reach_a_cache, evictions_reach_all_keys, two_runs_of_one_key,
 };
-use comemo::evictors::evict;
-use comemo::{
-    Cache, CacheData, Evict, Evictor, Hashed, Hold, How, Memo, MemoOf, Top, Track, memoized,
-    register_evictor,
-};
+use comemo::internal::evictors::evict;
+use comemo::internal::{Evict, Evictor, Hashed, register_evictor};
+use comemo::{Cache, CacheData, Hold, How, Memo, MemoOf, Top, Track, memoized};
 use comemo_guide::double::Double;
 use comemo_guide::shared::warmths;
 use comemo_guide::warmth::Warmth;

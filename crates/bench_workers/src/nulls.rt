@@ -2,7 +2,8 @@
 ghost use Rattle.std.specs.Prelude.{◌≡◌};
 ghost use Rattle.std.proofs.Common.{rules};
 
-use comemo::{Evict, Fault, Function, Hold, How, MemoOf, Recorder, Top, Track, memoized};
+use comemo::internal::Evict;
+use comemo::{Fault, Function, Hold, How, MemoOf, Recorder, Top, Track, memoized};
 use std::alloc::Global;
 
 /// Gives 0.

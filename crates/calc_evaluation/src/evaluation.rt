@@ -21,9 +21,9 @@ ghost use Rattle.calc_evaluation.specs.Calls.{moves, EvalReply, OnlyTouches};
 
 use calc_files::{FileCall, Files, JoinedAnswer, JoinedCall, Text};
 use calc_scripts::{CalcFault, Outcome, Part, Parts, Total};
+use comemo::internal::{Breaking, Hashed, Multi};
 use comemo::{
-    Begun, Breaking, CacheData, Constraint, Hashed, How, Memo, Multi, MultiAnswer, MultiCall,
-    Reply, Sink, Tracked, begin,
+    Begun, CacheData, Constraint, How, Memo, MultiAnswer, MultiCall, Reply, Sink, Tracked, begin,
 };
 use std::alloc::Global;
 

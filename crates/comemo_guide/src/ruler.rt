@@ -6,11 +6,8 @@ ghost use Rattle.comemo.specs.MeaningLaws.{exact_laws};
 ghost use Rattle.comemo_guide.specs.Rulers.{marks};
 ghost use Rattle.comemo_samples.specs.declared.notebook.NotebookCall.TheVariants.{Owner};
 
-use comemo::function::Told;
-use comemo::function_mut::ToldMut;
-use comemo::{
-    Constraint, Fault, Hold, MemoOfRecursiveMut, RecorderMut, RecursiveMut, Start, Written,
-};
+use comemo::internal::{Told, ToldMut, Written};
+use comemo::{Constraint, Fault, Hold, MemoOfRecursiveMut, RecorderMut, RecursiveMut, Start};
 use comemo_samples::{Notebook, NotebookCall};
 use std::alloc::Global;
 

@@ -4,7 +4,7 @@ ghost use Rattle.std.proofs.Common.{rules};
 ghost use Rattle.comemo.specs.Recursive.{TellsOwn};
 ghost use Rattle.comemo_sheet.specs.Fibonacci.{fib};
 
-use comemo::function::Told;
+use comemo::internal::Told;
 use comemo::{Fault, Hold, MemoOfRecursive, Recorder, Recursive, Start};
 
 /// The number of Fibonacci at a place, modulo 2 to the 64th.

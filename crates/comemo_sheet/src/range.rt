@@ -9,7 +9,7 @@ ghost use Rattle.comemo_sheet.specs.ValueLaws.{range_alike};
 
 use crate::sheet::{Content, Sheet, SheetCall};
 use crate::value::{Value, sum};
-use comemo::function::Told;
+use comemo::internal::Told;
 use comemo::{CacheData, Fault, Hold, MemoOfRecursive, Recorder, Recursive, Start};
 
 /// The cells of these names, with the limit down to which their values go.

@@ -8,7 +8,7 @@ ghost use Rattle.comemo_sheet.specs.ValueLaws.{value_alike};
 
 use crate::row::add;
 use crate::sheet::{Sheet, SheetCall};
-use comemo::function::Told;
+use comemo::internal::Told;
 use comemo::{Fault, Hold, MemoOfRecursive, Recorder, Recursive, Start, Track};
 use std::alloc::Global;
 

@@ -1,9 +1,10 @@
 //! Views that write, and functions whose runs write: what is done, what is recorded, and what a hit does again.
 
 use crate::notes::{AddsThree, NotesThree};
+use comemo::internal::TrackedMut;
 use comemo::{
     BothMut, CacheData, Constraint, Fault, How, MemoOfMut, MultiAnswer, MultiCall, Sink, Top,
-    Track, TrackedMut, memoize, memoized_mut,
+    Track, memoize, memoized_mut,
 };
 use comemo_samples::{Counter, CounterCall, Notebook, NotebookCall, Town, TownCall};
 use std::alloc::Global;
