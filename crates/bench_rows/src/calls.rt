@@ -1,6 +1,6 @@
 //! What rows expect of calls of memoized functions.
 
-use comemo::{CacheData, Fault, Function, How, MemoOf, Reply, Top, Track, memoized};
+use comemo::{CacheData, Fault, Function, How, MemoOf, Reply, Track, memoized};
 use std::alloc::Global;
 
 /// Calls a function that needs nothing, with no run around it.
@@ -10,15 +10,7 @@ pub(crate) fn call<F: Function<Needs = ()>>(
     key: F::Key,
     of: &F::Of,
 ) -> Result<Reply<F::Out>, Fault> {
-    memoized(
-        alloc,
-        cache,
-        &mut (),
-        key,
-        &of.track(alloc),
-        &mut Top::new(),
-        true,
-    )
+    memoized(alloc, cache, key, &of.track(alloc))
 }
 
 /// Whether a reply has this output, and this became of the call.

@@ -7,7 +7,7 @@ use bench_workers::{
 };
 use comemo::internal::evictors::evict;
 use comemo::internal::{Evict, Evictor, Hashed, register_evictor};
-use comemo::{Cache, CacheData, Hold, How, Memo, MemoOf, Top, Track, memoized};
+use comemo::{Cache, CacheData, Hold, How, Memo, MemoOf, Track, memoized};
 use comemo_guide::double::Double;
 use comemo_guide::shared::warmths;
 use comemo_guide::warmth::Warmth;
@@ -78,7 +78,7 @@ fn an_eviction_reaches_all_keys(rt: HostRuntime) -> Result<(), Fail> {
 fn doubles_seven<H: Hold<MemoOf<Double>>>(alloc: Global, held: &mut H, how: How) -> bool {
     let nothing = ();
     let view = nothing.track(alloc);
-    match memoized(alloc, held, &mut (), 7, &view, &mut Top::new(), true) {
+    match memoized(alloc, held, 7, &view) {
         Ok(reply) => reply.output == 14 && reply.how == how,
         Err(_) => false,
     }
@@ -181,7 +181,7 @@ impl<M: Memo, R: Wait + Drop + Clone> Numbered<M, R> {
 fn gives_nothing<H: Hold<MemoOf<Null>>>(alloc: Global, held: &mut H, how: How) -> bool {
     let nothing = ();
     let view = nothing.track(alloc);
-    match memoized(alloc, held, &mut (), (), &view, &mut Top::new(), true) {
+    match memoized(alloc, held, (), &view) {
         Ok(reply) => reply.output == 0 && reply.how == how,
         Err(_) => false,
     }

@@ -153,7 +153,7 @@ impl<'a, T: Track> Recorder<'a, T> {
     /// Calls another memoized function of the same value, and records what it asked.
     ///
     /// A fault leaves the other's cache as it was, and the recording is spoiled: the run that is recorded can't be
-    /// finished. It costs what `memoized` costs, with the recording as its sink. This project's own: in comemo it is a
+    /// finished. It costs what `memoized_with` costs, with the recording as its sink. This project's own: in comemo it is a
     /// call like any.
     pub fn call<G: FunctionOf<T>, H: Hold<G>>(
         &mut self,
@@ -194,7 +194,7 @@ impl<'a, T: Track> Recorder<'a, T> {
         ensures err { OnErr result (Stays (H.entries cache.old) (H.entries cache.new)
             × ⟦<T as Told>⟧.broke_off self.old self.new) }
     {
-        let reply = memoized(
+        let reply = memoized_with(
             self.alloc,
             cache,
             needs,
@@ -293,7 +293,7 @@ impl<F: Function> FunctionOf<F::Of> for MemoOf<F> {
 ///
 /// A hit costs what `begin` costs, any other call what `begin`, the run and `finish` cost. This project's own: a call of
 /// a function under comemo's `#[memoize]`.
-pub fn memoized<
+pub fn memoized_with<
     M: FunctionOf<T>,
     H: Hold<M>,
     T: Track,
@@ -374,11 +374,11 @@ fn run_kept<M: FunctionOf<T>, H: Hold<M>, T: Track, S: Sink<Call = T::Call, Answ
     pending.end(cache, sink, ran)
 }
 
-/// Calls a memoized function that needs nothing, and that no other run is around: `memoized` for the plain case.
+/// Calls a memoized function that needs nothing, with no run around it: `memoized_with` for the plain case.
 ///
-/// It costs what `memoized` costs with a `Top` as its sink, which keeps nothing: a hit of an entry of age 0 clones its
+/// It costs what `memoized_with` costs with a `Top` as its sink, which keeps nothing: a hit of an entry of age 0 clones its
 /// output alone, and so does the end of a run. This project's own: a call of a function under comemo's `#[memoize]`.
-pub fn called<M: FunctionOf<T, Needs = ()>, H: Hold<M>, T: Track>(
+pub fn memoized<M: FunctionOf<T, Needs = ()>, H: Hold<M>, T: Track>(
     alloc: Global,
     cache: &mut H,
     key: M::Key,
@@ -390,5 +390,5 @@ pub fn called<M: FunctionOf<T, Needs = ()>, H: Hold<M>, T: Track>(
         (λ _ _. ⊤) reply (H.entries cache.new)) }
     ensures err { OnErr result (Stays (H.entries cache.old) (H.entries cache.new)) }
 {
-    memoized(alloc, cache, &mut (), key, of, &mut Top::new(), true)
+    memoized_with(alloc, cache, &mut (), key, of, &mut Top::new(), true)
 }

@@ -5,7 +5,7 @@
 //! call is answered from the cache, though more people live there now, and the third is not:
 //!
 //! ```rust
-//! use comemo::{CacheData, How, MemoOf, Top, Track, memoized};
+//! use comemo::{CacheData, How, MemoOf, Track, memoized};
 //! use comemo_samples::Town;
 //! use std::test::Fail;
 //!
@@ -19,8 +19,7 @@
 //!     ];
 //!     for (people, degrees, how) in calls {
 //!         let town = Town { people, degrees };
-//!         let view = town.track(alloc);
-//!         let reply = memoized(alloc, &mut cache, &mut (), (), &view, &mut Top::new(), true)?;
+//!         let reply = memoized(alloc, &mut cache, (), &town.track(alloc))?;
 //!         assert_eq!(rt; reply.output, degrees);
 //!         assert_eq!(rt; reply.how, how);
 //!     }
@@ -49,8 +48,10 @@ pub use comemo_track::{
     Both, BothMut, Call, Constraint, MultiAnswer, MultiCall, ReadAndWrite, Sink, Top, Track,
     Tracked,
 };
-pub use function::{Function, FunctionOf, MemoOf, Recorder, called, memoized};
-pub use function_mut::{FunctionMut, FunctionMutOf, MemoOfMut, RecorderMut, memoized_mut};
+pub use function::{Function, FunctionOf, MemoOf, Recorder, memoized, memoized_with};
+pub use function_mut::{
+    FunctionMut, FunctionMutOf, MemoOfMut, RecorderMut, memoized_mut, memoized_mut_with,
+};
 pub use pending::{Begun, Fault, How, Reply, begin};
 pub use recursive::{MemoOfRecursive, Recursive, Start};
 pub use recursive_mut::{MemoOfRecursiveMut, RecursiveMut};

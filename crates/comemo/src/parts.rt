@@ -7,7 +7,7 @@ ghost use Rattle.comemo_track.specs.Sending.{Asks};
 ghost use Rattle.comemo_track.specs.Mapped.{Through};
 ghost use Rattle.comemo.specs.Function.{Tells, OnPart};
 
-use crate::function::{FunctionOf, Recorder, Told, memoized};
+use crate::function::{FunctionOf, Recorder, Told, memoized_with};
 use crate::pending::{Fault, Reply};
 use comemo_cache::cache::Meant;
 use comemo_cache::hold::Hold;
@@ -49,7 +49,7 @@ impl<'a, T: Track> Recorder<'a, T> {
     {
         let alloc = self.alloc;
         let mut sink = MappedSink::new(&mut self.recording, map);
-        let reply = memoized(alloc, cache, needs, key, of, &mut sink, true)?;
+        let reply = memoized_with(alloc, cache, needs, key, of, &mut sink, true)?;
         Ok(reply.output)
     }
 }

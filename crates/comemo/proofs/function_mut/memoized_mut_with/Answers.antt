@@ -12,7 +12,7 @@ use Rattle.comemo.proofs.NamedRuns.{settled_end}
 use Rattle.comemo_cache.proofs.Sendings.{mapped}
 use Rattle.comemo.proofs.Closures.{mapped_by, mapped_err, err_with, fault_of_end}
 use Rattle.comemo_cache.proofs.Holding.{held_leads, some_held, some_led, of_led, stayed, led_by, led_from, leads_same, leads_map}
-use Rattle.comemo.proofs.function_mut.memoized_mut.Goals as goal
+use Rattle.comemo.proofs.function_mut.memoized_mut_with.Goals as goal
 
 pub end-requires-clause-settled : goal.end-requires-clause-settled
 end-requires-clause-settled g c =
