@@ -1,7 +1,9 @@
 //! The row of runs that read before they wrote, or after.
 
 use crate::broken::Broken;
-use comemo::{BothMut, Cache, CacheData, Fault, Hold, How, MemoOfMut, Top, memoized_mut, memoized_mut_with};
+use comemo::{
+    BothMut, Cache, CacheData, Fault, Hold, How, MemoOfMut, Top, memoized_mut, memoized_mut_with,
+};
 use comemo_guide::late::{AddsAndGets, Bump, Readback, Twice};
 use comemo_samples::Counter;
 use std::alloc::Global;

@@ -9,7 +9,7 @@ ghost use Rattle.comemo_track.specs.Recording.{Recording, Took, Spoiled};
 ghost use Rattle.comemo_track.specs.Sending.{Asks, BreaksOff};
 ghost use Rattle.comemo.specs.Function.{Recorded, Fits, Tells, Laws, SettlesRun};
 
-use crate::pending::{Fault, How, Looked, Pending, Reply, look_up};
+use crate::pending::{Begun, Fault, How, Pending, Reply, look_up};
 use comemo_cache::cache::{Meant, Memo};
 use comemo_cache::hold::Hold;
 use comemo_track::constraint::Constraint;
@@ -325,13 +325,13 @@ pub fn memoized_with<
     };
     // A hit returns at once: its reply as the value of the match would be moved twice.
     match look_up(alloc, cache, &mut input, sink, enabled) {
-        Ok(Looked::Hit(output)) => {
+        Ok(Begun::Hit(output)) => {
             return Ok(Reply {
                 output,
                 how: How::Hit,
             });
         }
-        Ok(Looked::Run(own)) => run_kept(alloc, cache, needs, own, of, sink, enabled),
+        Ok(Begun::Run(own)) => run_kept(alloc, cache, needs, own, of, sink, enabled),
         Err(fault) => Err(fault),
     }
 }

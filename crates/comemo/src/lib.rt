@@ -53,5 +53,5 @@ pub use function_mut::{
     FunctionMut, FunctionMutOf, MemoOfMut, RecorderMut, memoized_mut, memoized_mut_with,
 };
 pub use pending::{Begun, Fault, How, Reply, begin};
-pub use recursive::{MemoOfRecursive, Recursive, Start};
+pub use recursive::{MemoOfRecursive, Recursive};
 pub use recursive_mut::{MemoOfRecursiveMut, RecursiveMut};

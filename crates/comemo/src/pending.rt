@@ -8,7 +8,7 @@ ghost use Rattle.comemo_cache.specs.Cache.{Stands, HasNone, Touches};
 ghost use Rattle.comemo_cache.specs.Found.{TouchesFound};
 ghost use Rattle.comemo_tree.specs.Change.{HasAnswers};
 ghost use Rattle.comemo.specs.Begin.{Reaches, HasToRun, IsHit, IsRun, IsBrokenOff, IsStopped, came_to};
-ghost use Rattle.comemo.specs.Begun.{OnBegun, OnFault, OnLooked};
+ghost use Rattle.comemo.specs.Begun.{OnBegun, OnFault};
 ghost use Rattle.comemo.specs.Finish.{Ends, Gives, Finished, BreaksOffRun};
 ghost use Rattle.comemo_cache.specs.Held.{Held, Leads, Stays};
 
@@ -78,14 +78,14 @@ pub struct Reply<Out> {
     pub how: How,
 }
 
-/// How a call of a memoized function began.
+/// How a call of a memoized function began: by a hit, or by a run that is to be done.
 ///
 /// This project's own.
-pub enum Begun<M: Memo> {
+pub enum Begun<Out, Run> {
     /// An entry agreed: its output.
-    Hit(M::Out),
-    /// None did: the run that is to be done.
-    Run(Pending<M>),
+    Hit(Out),
+    /// None did, or none was looked for: the run.
+    Run(Run),
 }
 
 /// A call at an input, as one value, for contracts to cite: `⟦<In as Invoked>⟧.invoked`.
@@ -739,14 +739,6 @@ fn find_hit<
     Ok(Some(output))
 }
 
-/// What a look-up for a call came to.
-pub(crate) enum Looked<Out, Key> {
-    /// An entry agreed: its output.
-    Hit(Out),
-    /// None did, or none was looked for: the key of the run that is to be done.
-    Run(Key),
-}
-
 /// Looks for an entry that agrees, and gives its output as a hit does; or gives the key of a run that is to be done.
 ///
 /// It is what `begin` does before it makes a recording, for which a call that hits needs no room.
@@ -761,15 +753,15 @@ pub(crate) fn look_up<
     input: &mut In,
     sink: &mut S,
     enabled: bool,
-) -> Result<Looked<M::Out, M::Key>, Fault>
-    ensures hit { IfOk result (λ l. OnLooked l
+) -> Result<Begun<M::Out, M::Key>, Fault>
+    ensures hit { IfOk result (λ b. OnBegun b
         (λ output. Leads (H.entries cache.old) (H.entries cache.new) (λ es es'.
         IsHit ⟦<M as Meant>⟧.meaning es (⟦<In as Invoked>⟧.invoked input.old enabled)
         (In.did input.old input.new) (S.took sink.old sink.new) output
         × Touches ⟦<M as Meant>⟧.meaning es
         (⟦<In as Invoked>⟧.invoked input.old enabled) es'))
         (λ _. ⊤)) }
-    ensures run { IfOk result (λ l. OnLooked l (λ _. ⊤)
+    ensures run { IfOk result (λ b. OnBegun b (λ _. ⊤)
         (λ own. Held (H.entries cache.old) (λ es.
         HasToRun ⟦<M as Meant>⟧.meaning es (⟦<In as Invoked>⟧.invoked input.old enabled) own)
         × In.did input.old input.new [] × (sink.new ≡ sink.old)
@@ -790,11 +782,11 @@ pub(crate) fn look_up<
         return Err(Fault::Memory);
     };
     if !enabled {
-        return Ok(Looked::Run(key));
+        return Ok(Begun::Run(key));
     }
     match find_hit(alloc, cache, &key, input, sink) {
-        Ok(Some(output)) => Ok(Looked::Hit(output)),
-        Ok(None) => Ok(Looked::Run(key)),
+        Ok(Some(output)) => Ok(Begun::Hit(output)),
+        Ok(None) => Ok(Begun::Run(key)),
         Err(fault) => Err(fault),
     }
 }
@@ -825,7 +817,7 @@ pub fn begin<
     input: &mut In,
     sink: &mut S,
     enabled: bool,
-) -> Result<Begun<M>, Fault>
+) -> Result<Begun<M::Out, Pending<M>>, Fault>
     ensures hit { IfOk result (λ b. OnBegun b
         (λ output. Leads (H.entries cache.old) (H.entries cache.new) (λ es es'.
         IsHit ⟦<M as Meant>⟧.meaning es (⟦<In as Invoked>⟧.invoked input.old enabled)
@@ -851,8 +843,8 @@ pub fn begin<
 {
     // A hit returns at once: as the value of the match it would be moved with the room of a `Pending`.
     match look_up(alloc, cache, input, sink, enabled) {
-        Ok(Looked::Hit(output)) => return Ok(Begun::Hit(output)),
-        Ok(Looked::Run(key)) => Ok(Begun::Run(Pending {
+        Ok(Begun::Hit(output)) => return Ok(Begun::Hit(output)),
+        Ok(Begun::Run(key)) => Ok(Begun::Run(Pending {
             alloc,
             key,
             enabled,

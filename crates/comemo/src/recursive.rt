@@ -6,7 +6,7 @@ ghost use Rattle.comemo_cache.specs.Meaning.{IsNamedRun, reading, invocation, ru
 ghost use Rattle.comemo.specs.MeaningLaws.{none_alike};
 ghost use Rattle.comemo_cache.specs.Held.{Held, Leads, Stays};
 ghost use Rattle.comemo.specs.Function.{Laws};
-ghost use Rattle.comemo.specs.Recursive.{TellsOwn, TellsFrom, OnStarted, Starts, FinishedAs};
+ghost use Rattle.comemo.specs.Recursive.{TellsOwn, TellsFrom, OnCallBegun, Starts, FinishedAs};
 ghost use Rattle.comemo_track.specs.InputLaws.{equal_if_one};
 
 use crate::function::{Recorder, Told};
@@ -34,7 +34,7 @@ pub trait ReadsAlone: Memo {
 
 /// A memoized function that calls itself through its own cache: what it means, of a key and a tracked value.
 ///
-/// It is a `Function` without a run, which is an ordinary function of the user's, from `Recorder::start` to
+/// It is a `Function` without a run, which is an ordinary function of the user's, from `Recorder::begin` to
 /// `Recorder::finish`. This project's own: in comemo it is a function like any.
 pub trait Recursive {
     /// What isn't tracked of the arguments: what a call is kept under.
@@ -86,16 +86,6 @@ impl<F: Recursive> ReadsAlone for MemoOfRecursive<F> {
     ghost means = { F.means };
 
     ghost reads = { λ key m output writes. (λ right. right, λ right. right) };
-}
-
-/// How a call by hand started.
-///
-/// This project's own.
-pub enum Start<Out, Run> {
-    /// An entry agreed: its output.
-    Hit(Out),
-    /// None did: the run that is to be done.
-    Run(Run),
 }
 
 /// A run within a run, with a recorder of its own.
@@ -156,28 +146,28 @@ impl<'a, 'b, K: Clone + Eq + Hash, T: Track> Input for LentKey<'a, 'b, K, T> {
 }
 
 impl<'a, T: Track> Recorder<'a, T> {
-    /// Starts a call of a memoized function: gives the output that its cache keeps where an entry agrees, or a run to
+    /// Begins a call of a memoized function: gives the output that its cache keeps where an entry agrees, or a run to
     /// be done.
     ///
     /// On a hit this recorder takes what the entry rests on. A run has a recorder of its own, of the same value, and
     /// this one takes nothing yet. The one fault is `Memory`: then the cache is as it was, and this recording is
     /// spoiled. It costs what `begin` costs, with a clone of the key, also for a hit. This project's own: the first half of
     /// a call of a function under comemo's `#[memoize]`.
-    pub fn start<G: ReadsAlone<Call = T::Call, Answer = T::Answer>, H: Hold<G>>(
+    pub fn begin<G: ReadsAlone<Call = T::Call, Answer = T::Answer>, H: Hold<G>>(
         &mut self,
         cache: &mut H,
         key: &G::Key,
-    ) -> Result<Start<G::Out, Inner<'a, G::Key, T>>, Fault>
-        ensures tells { OnStarted result (λ reply. TellsOwn ⟦<T as Told>⟧.fits
+    ) -> Result<Begun<G::Out, Inner<'a, G::Key, T>>, Fault>
+        ensures tells { OnCallBegun result (λ reply. TellsOwn ⟦<T as Told>⟧.fits
             self.old self.new reply (λ output m. G.means key.now m output))
             (λ _. TellsFrom ⟦<T as Told>⟧.fits
             self.old self.new (λ output m. G.means key.now m output)) }
-        ensures hit { OnStarted result (λ told. IfOk told (λ output.
+        ensures hit { OnCallBegun result (λ told. IfOk told (λ output.
             (reply : Reply G.Out) × (reply.output ≡ output) × (reply.how ≡ How.Hit)
             × HeldReply ⟦<G as Meant>⟧.meaning (invocation key.now (T.answers self.old.value) true)
             (H.entries cache.old) (H.entries cache.old)
             (⟦<T as Told>⟧.took self.old self.new) reply (H.entries cache.new))) (λ _. ⊤) }
-        ensures run { OnStarted result (λ _. ⊤)
+        ensures run { OnCallBegun result (λ _. ⊤)
             (λ inner. Held (H.entries cache.old) (λ es. Starts ⟦<G as Meant>⟧.meaning es
             (invocation key.now (T.answers self.old.value) true) self.old inner.own
             inner.recorder) × (self.new ≡ self.old)
@@ -192,7 +182,7 @@ impl<'a, T: Track> Recorder<'a, T> {
             view: self.view.fork(alloc),
         };
         let pending = match begin(alloc, cache, &mut input, &mut self.recording, true) {
-            Ok(Begun::Hit(output)) => return Ok(Start::Hit(output)),
+            Ok(Begun::Hit(output)) => return Ok(Begun::Hit(output)),
             Ok(Begun::Run(pending)) => pending,
             Err(fault) => return Err(fault),
         };
@@ -202,13 +192,13 @@ impl<'a, T: Track> Recorder<'a, T> {
             enabled: _,
             recording: _,
         } = pending;
-        Ok(Start::Run(Inner {
+        Ok(Begun::Run(Inner {
             recorder: Recorder::new(alloc, self.view.fork(alloc)),
             own,
         }))
     }
 
-    /// Finishes a run that was started here, with its output, and keeps it.
+    /// Finishes a run that was begun here, with its output, and keeps it.
     ///
     /// The output has to be right for all answers that agree with what the run recorded, of which nothing may be lost.
     /// This recorder takes what the run recorded. The one fault is `Memory`: then the cache is as it was, and this
@@ -242,7 +232,7 @@ impl<'a, T: Track> Recorder<'a, T> {
         Ok(reply.output)
     }
 
-    /// Finishes a run that was started here, as `finish` does, and gives its reply: whether it was stored, or why not.
+    /// Finishes a run that was begun here, as `finish` does, and gives its reply: whether it was stored, or why not.
     ///
     /// A fault is as of `finish`, and it costs the same.
     pub fn finish_reply<G: ReadsAlone<Call = T::Call, Answer = T::Answer>, H: Hold<G>>(

@@ -5,7 +5,7 @@ ghost use Rattle.comemo.specs.Called.{HeldReply};
 ghost use Rattle.comemo.specs.Begun.{OnFault};
 ghost use Rattle.comemo.specs.Finish.{BreaksOffRun, BrokeOff};
 ghost use Rattle.comemo.specs.FunctionMut.{Lent, LawsMut, TellsWrites, WasStopped, lent};
-ghost use Rattle.comemo.specs.Recursive.{OnStarted, FinishedAs};
+ghost use Rattle.comemo.specs.Recursive.{OnCallBegun, FinishedAs};
 ghost use Rattle.comemo.specs.RecursiveMut.{IsEmpty, Within, StartsMut};
 ghost use Rattle.comemo_cache.specs.Meaning.{IsNamedRun, invocation, run};
 ghost use Rattle.comemo_cache.specs.Held.{Held, Leads, Stays};
@@ -17,7 +17,6 @@ ghost use Rattle.comemo_track.specs.WritingLaws.{done_both, done_keeps};
 use crate::function::Told;
 use crate::function_mut::{RecorderMut, ToldMut};
 use crate::pending::{Begun, Fault, How, Pending, Reply, begin};
-use crate::recursive::Start;
 use comemo_cache::cache::{Meant, Memo};
 use comemo_cache::hold::Hold;
 use comemo_track::constraint::Constraint;
@@ -30,7 +29,7 @@ use std::mem;
 
 /// A memoized function that calls itself through its own cache, and writes: what it means, of a key and a tracked value.
 ///
-/// It is a `FunctionMut` without a run, which is an ordinary function of the user's, between `RecorderMut::start` and
+/// It is a `FunctionMut` without a run, which is an ordinary function of the user's, between `RecorderMut::begin` and
 /// `RecorderMut::finish`. This project's own: in comemo it is a function like any.
 pub trait RecursiveMut {
     /// What isn't tracked of the arguments: what a call is kept under.
@@ -141,7 +140,7 @@ impl<'a, 'b, K: Clone + Eq + Hash, T: Track> Input for LentKeyMut<'a, 'b, K, T> 
 }
 
 impl<'a, 'b, T: Track> RecorderMut<'a, 'b, T> {
-    /// Starts a call of a memoized function that writes: gives the output that its cache keeps where an entry agrees, and
+    /// Begins a call of a memoized function that writes: gives the output that its cache keeps where an entry agrees, and
     /// does its writes again, or a run to be done.
     ///
     /// On a hit this recorder takes what the entry rests on, and its writes. For a run it records what the run does, from
@@ -149,21 +148,21 @@ impl<'a, 'b, T: Track> RecorderMut<'a, 'b, T> {
     /// after `Memory` the cache and the value are as they were, after `Write` the value refused a write of a hit, and those
     /// before it are done. It costs what `begin` costs, with a clone of the key, also
     /// for a hit. This project's own: the first half of a call of a function under comemo's `#[memoize]`.
-    pub fn start<G: Memo<Call = T::Call, Answer = T::Answer>, H: Hold<G>>(
+    pub fn begin<G: Memo<Call = T::Call, Answer = T::Answer>, H: Hold<G>>(
         &mut self,
         cache: &mut H,
         key: &G::Key,
-    ) -> Result<Start<G::Out, InnerMut<G::Key, T>>, Fault>
+    ) -> Result<Begun<G::Out, InnerMut<G::Key, T>>, Fault>
         requires agrees { ⟦<T as ToldMut>⟧.agrees (lent self.old.value self.old.recording) }
         ensures agrees { ⟦<T as ToldMut>⟧.agrees (lent self.new.value self.new.recording) }
-        ensures tells { OnStarted result (λ reply.
+        ensures tells { OnCallBegun result (λ reply.
             TellsWrites ⟦<T as ToldMut>⟧.goes ⟦<T as Told>⟧.fits
             (lent self.old.value self.old.recording) (lent self.new.value self.new.recording) reply
             (λ output m writes. G.def key.now m output writes))
             (λ inner. Within ⟦<T as Written>⟧.did T.Call.touches T.Answer.eq T.answers
             (lent self.old.value self.old.recording) (lent self.new.value self.new.recording)
             inner.around) }
-        ensures hit { OnStarted result (λ told. IfOk told (λ output.
+        ensures hit { OnCallBegun result (λ told. IfOk told (λ output.
             (reply : Reply G.Out) × (reply.output ≡ output) × (reply.how ≡ How.Hit)
             × HeldReply ⟦<G as Meant>⟧.meaning
             (invocation key.now (T.answers self.old.value.now) true)
@@ -171,8 +170,8 @@ impl<'a, 'b, T: Track> RecorderMut<'a, 'b, T> {
             (λ P W. Took T.Call.eq T.Call.touches self.old.recording.now self.new.recording.now P W
             × ⟦<T as Written>⟧.did self.old.value.now self.new.value.now W)
             reply (H.entries cache.new))) (λ _. ⊤) }
-        ensures begins { OnStarted result (λ _. ⊤) (λ _. IsEmpty self.new.recording.now) }
-        ensures run { OnStarted result (λ _. ⊤)
+        ensures begins { OnCallBegun result (λ _. ⊤) (λ _. IsEmpty self.new.recording.now) }
+        ensures run { OnCallBegun result (λ _. ⊤)
             (λ inner. Held (H.entries cache.old) (λ es. StartsMut ⟦<G as Meant>⟧.meaning es
             (invocation key.now (T.answers self.old.value.now) true) inner.own)
             × (self.new.value ≡ self.old.value)
@@ -197,7 +196,7 @@ impl<'a, 'b, T: Track> RecorderMut<'a, 'b, T> {
         let pending = match begin(alloc, cache, &mut input, self.recording, true) {
             Ok(Begun::Hit(output)) => {
                 self.recording.has_reads_and_writes();
-                return Ok(Start::Hit(output));
+                return Ok(Begun::Hit(output));
             }
             Ok(Begun::Run(pending)) => pending,
             Err(fault) => return Err(fault),
@@ -209,12 +208,12 @@ impl<'a, 'b, T: Track> RecorderMut<'a, 'b, T> {
             recording,
         } = pending;
         let around = mem::replace(self.recording, recording);
-        Ok(Start::Run(InnerMut { own, around }))
+        Ok(Begun::Run(InnerMut { own, around }))
     }
 
-    /// Finishes a run that was started here, as it went: with its output, and keeps it, or with its fault.
+    /// Finishes a run that was begun here, as it went: with its output, and keeps it, or with its fault.
     ///
-    /// Output and writes have to be right for all answers that agree with what was recorded since the start. This recorder
+    /// Output and writes have to be right for all answers that agree with what was recorded since it began. This recorder
     /// has what it had recorded before, and takes what the run recorded. A fault of the run is handed on; of a run that
     /// gave an output, `Incomplete` comes where its recording is spoiled, and `Memory` where there was none for what this
     /// recorder takes. Every fault spoils the recording and leaves the cache as it was; the writes that the run did stay

@@ -1,6 +1,9 @@
 //! The functions that write at work: what a run writes, a hit writes again.
 
-use comemo::{BothMut, CacheData, How, MemoOf, MemoOfMut, ReadAndWrite, Top, Track, memoized_mut, memoized_mut_with};
+use comemo::{
+    BothMut, CacheData, How, MemoOf, MemoOfMut, ReadAndWrite, Top, Track, memoized_mut,
+    memoized_mut_with,
+};
 use comemo_guide::adding::{Adds, AddsTwice};
 use comemo_guide::listing::Listing;
 use comemo_guide::read_and_write::{AddsDegrees, AddsOneMore, TallyWarmth};

@@ -37,7 +37,7 @@ fn begin_any(
     cache: &mut CacheData<AnyMemo>,
     context: &Context,
     outer: &mut Recording,
-) -> Result<Begun<AnyMemo>, Fault> {
+) -> Result<Begun<u64, Pending<AnyMemo>>, Fault> {
     let mut input = Keyed {
         key: 7,
         view: context.track(alloc),

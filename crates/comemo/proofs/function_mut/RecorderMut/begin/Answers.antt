@@ -4,7 +4,7 @@ use Rattle.comemo.specs.declared.pending.How.TheVariants as how
 use Rattle.comemo_cache.proofs.Holding.{some_held, some_led, led_from, leads_map, held_map}
 use Rattle.comemo.proofs.Calls.{run_seen, reply_by_done_hit, stopped_as, broke_at_begin, on_fault, fault_as}
 use Rattle.comemo.proofs.RecordersMut.{tells_called, writes_failed, called_begun}
-use Rattle.comemo.proofs.function_mut.RecorderMut.start.Goals as goal
+use Rattle.comemo.proofs.function_mut.RecorderMut.begin.Goals as goal
 
 pub returns-in-Ok-Hit-clause-agrees : goal.returns-in-Ok-Hit-clause-agrees
 returns-in-Ok-Hit-clause-agrees g c =

@@ -4,7 +4,7 @@ use Rattle.comemo.proofs.Calls.{on_fault, on_fault_is, broke_at_begin, never_sto
 use Rattle.comemo.proofs.Recorders.{broken_keeps, held_keeps}
 use Rattle.comemo_cache.proofs.Holding.{some_held, some_led, led_from, held_map}
 use Rattle.comemo.proofs.Recursions.{own_given, same_recorder}
-use Rattle.comemo.proofs.function.Recorder.start.Goals as goal
+use Rattle.comemo.proofs.function.Recorder.begin.Goals as goal
 
 pub invariant_of-self-in-Err : goal.invariant_of-self-in-Err
 invariant_of-self-in-Err g c =
