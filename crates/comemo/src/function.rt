@@ -9,11 +9,11 @@ ghost use Rattle.comemo_track.specs.Recording.{Recording, Took, Spoiled};
 ghost use Rattle.comemo_track.specs.Sending.{Asks, BreaksOff};
 ghost use Rattle.comemo.specs.Function.{Recorded, Fits, Tells, Laws, SettlesRun};
 
+use crate::lent::LentKey;
 use crate::pending::{Begun, Fault, How, Pending, Reply, look_up};
 use comemo_cache::cache::{Meant, Memo};
 use comemo_cache::hold::Hold;
 use comemo_track::constraint::Constraint;
-use comemo_track::input::Keyed;
 use comemo_track::track::{Breaking, Call, Sink, Top, Track, Tracked};
 use std::alloc::Global;
 use std::hash::Hash;
@@ -165,7 +165,7 @@ impl<'a, T: Track> Recorder<'a, T> {
             (λ output m. G.def key m output []) }
         ensures reply { IfOk result (λ output. (reply : Reply G.Out) × (reply.output ≡ output)
             × HeldReply ⟦<G as Meant>⟧.meaning (invocation key (T.answers self.old.value) true)
-            (H.entries cache.old) (H.entries cache.old)
+            (H.entries cache.old)
             (⟦<T as Told>⟧.took self.old self.new) reply (H.entries cache.new)) }
         ensures err { OnErr result (Stays (H.entries cache.old) (H.entries cache.new)
             × ⟦<T as Told>⟧.broke_off self.old self.new) }
@@ -189,7 +189,7 @@ impl<'a, T: Track> Recorder<'a, T> {
             (λ reply m. G.def key m reply.output []) }
         ensures reply { IfOk result (λ reply. HeldReply ⟦<G as Meant>⟧.meaning
             (invocation key (T.answers self.old.value) enabled)
-            (H.entries cache.old) (H.entries cache.old)
+            (H.entries cache.old)
             (⟦<T as Told>⟧.took self.old self.new) reply (H.entries cache.new)) }
         ensures err { OnErr result (Stays (H.entries cache.old) (H.entries cache.new)
             × ⟦<T as Told>⟧.broke_off self.old self.new) }
@@ -309,7 +309,7 @@ pub fn memoized_with<
 ) -> Result<Reply<M::Out>, Fault>
     ensures right { IfOk result (λ reply. M.def key (T.answers of.now) reply.output []) }
     ensures reply { IfOk result (λ reply. HeldReply ⟦<M as Meant>⟧.meaning
-        (invocation key (T.answers of.now) enabled) (H.entries cache.old) (H.entries cache.old)
+        (invocation key (T.answers of.now) enabled) (H.entries cache.old)
         (S.took sink.old sink.new) reply (H.entries cache.new)) }
     ensures fault { IfErr result
         (λ fault. (fault ≡ Fault.Memory) ⊎ Held (H.entries cache.old) (λ es.
@@ -319,8 +319,8 @@ pub fn memoized_with<
         × BrokeOff T.Answer.eq (T.answers of.now)
         (⟦<S as Breaking>⟧.breaks_off sink.old sink.new)) }
 {
-    let mut input = Keyed {
-        key,
+    let mut input = LentKey {
+        key: &key,
         view: of.fork(alloc),
     };
     // A hit returns at once: its reply as the value of the match would be moved twice.
@@ -386,7 +386,7 @@ pub fn memoized<M: FunctionOf<T, Needs = ()>, H: Hold<M>, T: Track>(
 ) -> Result<Reply<M::Out>, Fault>
     ensures right { IfOk result (λ reply. M.def key (T.answers of.now) reply.output []) }
     ensures reply { IfOk result (λ reply. HeldReply ⟦<M as Meant>⟧.meaning
-        (invocation key (T.answers of.now) true) (H.entries cache.old) (H.entries cache.old)
+        (invocation key (T.answers of.now) true) (H.entries cache.old)
         (λ _ _. ⊤) reply (H.entries cache.new)) }
     ensures err { OnErr result (Stays (H.entries cache.old) (H.entries cache.new)) }
 {

@@ -13,11 +13,11 @@ ghost use Rattle.comemo_track.specs.Writing.{Done};
 ghost use Rattle.comemo_track.specs.Sending.{Asks, BreaksOff, SpoiledAfter, TookAs};
 
 use crate::function::{FunctionOf, Told, memoized_with};
+use crate::lent::LentKeyMut;
 use crate::pending::{Begun, Fault, How, Reply, begin};
 use comemo_cache::cache::{Meant, Memo};
 use comemo_cache::hold::Hold;
 use comemo_track::constraint::Constraint;
-use comemo_track::input::KeyedMut;
 use comemo_track::track::{Breaking, Call, Sink, Top, Track, Written};
 use std::alloc::Global;
 use std::hash::Hash;
@@ -200,7 +200,7 @@ impl<'a, 'b, T: Track> RecorderMut<'a, 'b, T> {
         ensures value { self.new.value ≡ self.old.value }
         ensures reply { IfOk result (λ output. (reply : Reply G.Out) × (reply.output ≡ output)
             × HeldReply ⟦<G as Meant>⟧.meaning (invocation key (T.answers self.old.value.now) true)
-            (H.entries cache.old) (H.entries cache.old)
+            (H.entries cache.old)
             (Took T.Call.eq T.Call.touches self.old.recording.now self.new.recording.now)
             reply (H.entries cache.new)) }
         ensures err { OnErr result (Stays (H.entries cache.old) (H.entries cache.new)
@@ -209,6 +209,7 @@ impl<'a, 'b, T: Track> RecorderMut<'a, 'b, T> {
     {
         let view = self.value.track(self.alloc);
         let reply = memoized_with(self.alloc, cache, needs, key, &view, self.recording, true)?;
+        // For the proof: its pairs are reads, and its writes are writes.
         self.recording.has_reads_and_writes();
         Ok(reply.output)
     }
@@ -232,7 +233,7 @@ impl<'a, 'b, T: Track> RecorderMut<'a, 'b, T> {
         ensures reply { IfOk result (λ output. (reply : Reply G.Out) × (reply.output ≡ output)
             × HeldReplyMut ⟦<G as Meant>⟧.meaning T.Call.touches
             (invocation key (T.answers self.old.value.now) true)
-            (H.entries cache.old) (H.entries cache.old)
+            (H.entries cache.old)
             (λ late P W. TookAs (Took T.Call.eq T.Call.touches) MarkedLate late
             self.old.recording.now self.new.recording.now P W
             × ⟦<T as Written>⟧.did self.old.value.now self.new.value.now W)
@@ -254,6 +255,7 @@ impl<'a, 'b, T: Track> RecorderMut<'a, 'b, T> {
             self.recording,
             true,
         )?;
+        // For the proof: its pairs are reads, and its writes are writes.
         self.recording.has_reads_and_writes();
         Ok(reply.output)
     }
@@ -390,7 +392,7 @@ pub fn memoized_mut_with<
         → (writes : List T.Call) × M.def key (T.answers of.old) reply.output writes
         × ⟦<T as Written>⟧.did of.old of.new writes) }
     ensures reply { IfOk result (λ reply. HeldReplyMut ⟦<M as Meant>⟧.meaning T.Call.touches
-        (invocation key (T.answers of.old) enabled) (H.entries cache.old) (H.entries cache.old)
+        (invocation key (T.answers of.old) enabled) (H.entries cache.old)
         (λ late P W. ⟦<S as Breaking>⟧.took_as late sink.old sink.new P W
         × ⟦<T as Written>⟧.did of.old of.new W)
         reply (H.entries cache.new)) }
@@ -410,9 +412,12 @@ pub fn memoized_mut_with<
         (⟦<S as Breaking>⟧.breaks_off sink.old sink.new)
         (⟦<S as Breaking>⟧.spoiled_after sink.old sink.new) es')) }
 {
-    let mut input = KeyedMut { key, value: of };
+    let mut input = LentKeyMut {
+        key: &key,
+        value: of,
+    };
     let begun = begin(alloc, cache, &mut input, sink, enabled);
-    let KeyedMut { key, value } = input;
+    let LentKeyMut { key: _, value } = input;
     match begun {
         Ok(Begun::Hit(output)) => {
             return Ok(Reply {
@@ -443,7 +448,7 @@ pub fn memoized_mut<M: FunctionMutOf<T, Needs = ()>, H: Hold<M>, T: Track>(
         → (writes : List T.Call) × M.def key (T.answers of.old) reply.output writes
         × ⟦<T as Written>⟧.did of.old of.new writes) }
     ensures reply { IfOk result (λ reply. HeldReplyMut ⟦<M as Meant>⟧.meaning T.Call.touches
-        (invocation key (T.answers of.old) true) (H.entries cache.old) (H.entries cache.old)
+        (invocation key (T.answers of.old) true) (H.entries cache.old)
         (λ _ _ W. ⟦<T as Written>⟧.did of.old of.new W)
         reply (H.entries cache.new)) }
     ensures early { IfOk result (λ reply. NoneTouches T.Call.touches → reply.how ≡ How.Late → ⊥) }

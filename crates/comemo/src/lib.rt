@@ -35,6 +35,7 @@ mod closure;
 mod function;
 mod function_mut;
 pub mod internal;
+mod lent;
 mod parts;
 mod parts_mut;
 mod pending;

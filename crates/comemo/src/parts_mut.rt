@@ -139,7 +139,7 @@ impl<'a, 'b, 'c, A: Track, B: Track> RecorderMut<'a, 'b, ReadAndWrite<'c, A, B>>
         ensures reply { IfOk result (λ output. (reply : Reply G.Out) × (reply.output ≡ output)
             × HeldReply ⟦<G as Meant>⟧.meaning
             (invocation key (A.answers self.old.value.now.first) true)
-            (H.entries cache.old) (H.entries cache.old)
+            (H.entries cache.old)
             (Through first_call first_answer (⟦<ReadAndWrite<'c, A, B> as ToldMut>⟧.took
             self.old.recording.now self.new.recording.now)) reply (H.entries cache.new)) }
         ensures err { OnErr result (Stays (H.entries cache.old) (H.entries cache.new)
@@ -151,6 +151,7 @@ impl<'a, 'b, 'c, A: Track, B: Track> RecorderMut<'a, 'b, ReadAndWrite<'c, A, B>>
         let mut sink = MappedSink::new(&mut *self.recording, First::new());
         let reply = memoized_with(self.alloc, cache, needs, key, &view, &mut sink, true)?;
         drop(sink);
+        // For the proof: its pairs are reads, and its writes are writes.
         self.recording.has_reads_and_writes();
         Ok(reply.output)
     }
@@ -177,7 +178,7 @@ impl<'a, 'b, 'c, A: Track, B: Track> RecorderMut<'a, 'b, ReadAndWrite<'c, A, B>>
         ensures reply { IfOk result (λ output. (reply : Reply G.Out) × (reply.output ≡ output)
             × HeldReplyMut ⟦<G as Meant>⟧.meaning B.Call.touches
             (invocation key (B.answers self.old.value.now.second.now) true)
-            (H.entries cache.old) (H.entries cache.old)
+            (H.entries cache.old)
             (λ late. Through second_call second_answer (λ P W.
             TookAs ⟦<ReadAndWrite<'c, A, B> as ToldMut>⟧.took MarkedLate late
             self.old.recording.now self.new.recording.now P W
@@ -208,6 +209,7 @@ impl<'a, 'b, 'c, A: Track, B: Track> RecorderMut<'a, 'b, ReadAndWrite<'c, A, B>>
             true,
         )?;
         drop(sink);
+        // For the proof: its pairs are reads, and its writes are writes.
         self.recording.has_reads_and_writes();
         Ok(reply.output)
     }

@@ -1,21 +1,18 @@
 //! Memoized functions that call themselves: a call by hand, for a recorder.
 ghost use Rattle.std.specs.Prelude.{◌≡◌, ◌↔◌, [], true, false, List, IsTrue, refl, IfOk, IfErr, OnErr, ⊤};
-ghost use Rattle.std.proofs.Common.{◌∙◌, ap};
 ghost use Rattle.comemo.specs.Called.{HeldReply};
 ghost use Rattle.comemo_cache.specs.Meaning.{IsNamedRun, reading, invocation, run};
 ghost use Rattle.comemo.specs.MeaningLaws.{none_alike};
 ghost use Rattle.comemo_cache.specs.Held.{Held, Leads, Stays};
 ghost use Rattle.comemo.specs.Function.{Laws};
 ghost use Rattle.comemo.specs.Recursive.{TellsOwn, TellsFrom, OnCallBegun, Starts, FinishedAs};
-ghost use Rattle.comemo_track.specs.InputLaws.{equal_if_one};
 
 use crate::function::{Recorder, Told};
-use crate::pending::{Begun, Fault, How, Pending, Reply, begin};
+use crate::lent::LentKey;
+use crate::pending::{Begun, Fault, How, Pending, Reply, look_up};
 use comemo_cache::cache::{Meant, Memo};
 use comemo_cache::hold::Hold;
-use comemo_track::input::Input;
-use comemo_track::track::{Call, Track, Tracked};
-use std::alloc::AllocError;
+use comemo_track::track::{Call, Track};
 use std::hash::Hash;
 use std::marker::PhantomData;
 
@@ -96,53 +93,7 @@ pub struct Inner<'a, K, T: Track> {
     /// What the run asks through.
     pub recorder: Recorder<'a, T>,
     /// A clone of the key, for the cache.
-    pub(crate) own: K,
-}
-
-/// A key that is lent, and a view.
-#[derive(Drop)]
-struct LentKey<'a, 'b, K: Clone + Eq + Hash, T> {
-    key: &'b K,
-    view: Tracked<'a, T>,
-    // a clone of a key is equal
-    ghost clones: { (x y : K) → K.is_clone x y → IsTrue (K.eq x y) },
-}
-
-impl<'a, 'b, K: Clone + Eq + Hash, T: Track> Input for LentKey<'a, 'b, K, T> {
-    type Call = T::Call;
-
-    type Key = K;
-
-    type Answer = T::Answer;
-
-    ghost key_of = { λ s. s.key.now };
-
-    ghost answers = { λ s. T.answers s.view };
-
-    ghost did = { λ s t _. (t.key.now ≡ s.key.now) × (t.view ≡ s.view) };
-
-    ghost alike = { λ s. T.alike s.view };
-
-    ghost starts = { λ s. (refl, refl) };
-
-    ghost joins = { λ s t u V W a b. (b.0 ∙ a.0, b.1 ∙ a.1) };
-
-    ghost keeps = { λ s t W a call reads un. equal_if_one T.Answer.Eq.laws _ _
-        (ap (λ view. T.answers view call) a.1) };
-
-    ghost keeps_key = { λ s t W a. equal_if_one K.Eq.laws _ _ a.0 };
-
-    fn key(&self) -> Result<K, AllocError> {
-        self.key.clone()
-    }
-
-    fn call(&mut self, call: &T::Call) -> Result<T::Answer, AllocError> {
-        self.view.call(call)
-    }
-
-    fn call_mut(&mut self, _call: &T::Call) -> Result<(), AllocError> {
-        Ok(())
-    }
+    pub own: K,
 }
 
 impl<'a, T: Track> Recorder<'a, T> {
@@ -165,7 +116,7 @@ impl<'a, T: Track> Recorder<'a, T> {
         ensures hit { OnCallBegun result (λ told. IfOk told (λ output.
             (reply : Reply G.Out) × (reply.output ≡ output) × (reply.how ≡ How.Hit)
             × HeldReply ⟦<G as Meant>⟧.meaning (invocation key.now (T.answers self.old.value) true)
-            (H.entries cache.old) (H.entries cache.old)
+            (H.entries cache.old)
             (⟦<T as Told>⟧.took self.old self.new) reply (H.entries cache.new))) (λ _. ⊤) }
         ensures run { OnCallBegun result (λ _. ⊤)
             (λ inner. Held (H.entries cache.old) (λ es. Starts ⟦<G as Meant>⟧.meaning es
@@ -181,17 +132,11 @@ impl<'a, T: Track> Recorder<'a, T> {
             key,
             view: self.view.fork(alloc),
         };
-        let pending = match begin(alloc, cache, &mut input, &mut self.recording, true) {
+        let own = match look_up(alloc, cache, &mut input, &mut self.recording, true) {
             Ok(Begun::Hit(output)) => return Ok(Begun::Hit(output)),
-            Ok(Begun::Run(pending)) => pending,
+            Ok(Begun::Run(own)) => own,
             Err(fault) => return Err(fault),
         };
-        let Pending {
-            alloc: _,
-            key: own,
-            enabled: _,
-            recording: _,
-        } = pending;
         Ok(Begun::Run(Inner {
             recorder: Recorder::new(alloc, self.view.fork(alloc)),
             own,

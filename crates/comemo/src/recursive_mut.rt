@@ -1,6 +1,5 @@
 //! Memoized functions that call themselves and write: a call by hand, for a recorder that writes.
 ghost use Rattle.std.specs.Prelude.{◌≡◌, ◌↔◌, [], true, false, List, IsTrue, refl, IfOk, IfErr, OnErr, ⊤};
-ghost use Rattle.std.proofs.Common.{◌∙◌};
 ghost use Rattle.comemo.specs.Called.{HeldReply};
 ghost use Rattle.comemo.specs.Begun.{OnFault};
 ghost use Rattle.comemo.specs.Finish.{BreaksOffRun, BrokeOff};
@@ -9,20 +8,17 @@ ghost use Rattle.comemo.specs.Recursive.{OnCallBegun, FinishedAs};
 ghost use Rattle.comemo.specs.RecursiveMut.{IsEmpty, Within, StartsMut};
 ghost use Rattle.comemo_cache.specs.Meaning.{IsNamedRun, invocation, run};
 ghost use Rattle.comemo_cache.specs.Held.{Held, Leads, Stays};
-ghost use Rattle.comemo_track.specs.InputLaws.{equal_if_one};
 ghost use Rattle.comemo_track.specs.Recording.{Took, Spoiled, MarkedLate};
 ghost use Rattle.comemo_track.specs.Sending.{BreaksOff, SpoiledAfter, TookAs};
-ghost use Rattle.comemo_track.specs.WritingLaws.{done_both, done_keeps};
 
 use crate::function::Told;
 use crate::function_mut::{RecorderMut, ToldMut};
-use crate::pending::{Begun, Fault, How, Pending, Reply, begin};
+use crate::lent::LentKeyMut;
+use crate::pending::{Begun, Fault, How, Pending, Reply, look_up};
 use comemo_cache::cache::{Meant, Memo};
 use comemo_cache::hold::Hold;
 use comemo_track::constraint::Constraint;
-use comemo_track::input::Input;
 use comemo_track::track::{Call, Track, Written};
-use std::alloc::AllocError;
 use std::hash::Hash;
 use std::marker::PhantomData;
 use std::mem;
@@ -82,61 +78,9 @@ impl<F: RecursiveMut> Memo for MemoOfRecursiveMut<F> {
 /// It can't be dropped: a run that failed is finished too, with its fault. This project's own.
 pub struct InnerMut<K, T: Track> {
     /// A clone of the key, for the cache.
-    pub(crate) own: K,
+    pub own: K,
     /// The recording of the run around this one.
-    pub(crate) around: Constraint<T::Call, T::Answer>,
-}
-
-/// A key that is lent, and a tracked value that is lent to be written.
-#[derive(Drop)]
-struct LentKeyMut<'a, 'b, K: Clone + Eq + Hash, T> {
-    key: &'b K,
-    value: &'a mut T,
-    // a clone of a key is equal
-    ghost clones: { (x y : K) → K.is_clone x y → IsTrue (K.eq x y) },
-}
-
-impl<'a, 'b, K: Clone + Eq + Hash, T: Track> Input for LentKeyMut<'a, 'b, K, T> {
-    type Call = T::Call;
-
-    type Key = K;
-
-    type Answer = T::Answer;
-
-    ghost key_of = { λ s. s.key.now };
-
-    ghost answers = { λ s. T.answers s.value.now };
-
-    ghost did = { λ s t W. ⟦<T as Written>⟧.did s.value.now t.value.now W
-        × (t.value.ghost_name ≡ s.value.ghost_name) × (t.key.now ≡ s.key.now) };
-
-    ghost alike = { λ s. T.alike s.value.now };
-
-    ghost starts = { λ s. (refl, refl, refl) };
-
-    ghost joins = { λ s t u V W a b. (
-      done_both T.wrote T.Call.is_write T.Call.touches T.Answer.eq T.answers
-          s.value.now t.value.now u.value.now V W a.0 b.0,
-      b.1 ∙ a.1,
-      b.2 ∙ a.2,
-    ) };
-
-    ghost keeps = { λ s t W a. done_keeps T.wrote T.Call.is_write T.Call.touches
-        T.Answer.eq T.answers T.Answer.Eq.laws s.value.now t.value.now W a.0 };
-
-    ghost keeps_key = { λ s t W a. equal_if_one K.Eq.laws _ _ a.2 };
-
-    fn key(&self) -> Result<K, AllocError> {
-        self.key.clone()
-    }
-
-    fn call(&mut self, call: &T::Call) -> Result<T::Answer, AllocError> {
-        self.value.ask(call)
-    }
-
-    fn call_mut(&mut self, call: &T::Call) -> Result<(), AllocError> {
-        T::call_mut(self.value, call)
-    }
+    pub around: Constraint<T::Call, T::Answer>,
 }
 
 impl<'a, 'b, T: Track> RecorderMut<'a, 'b, T> {
@@ -166,7 +110,7 @@ impl<'a, 'b, T: Track> RecorderMut<'a, 'b, T> {
             (reply : Reply G.Out) × (reply.output ≡ output) × (reply.how ≡ How.Hit)
             × HeldReply ⟦<G as Meant>⟧.meaning
             (invocation key.now (T.answers self.old.value.now) true)
-            (H.entries cache.old) (H.entries cache.old)
+            (H.entries cache.old)
             (λ P W. Took T.Call.eq T.Call.touches self.old.recording.now self.new.recording.now P W
             × ⟦<T as Written>⟧.did self.old.value.now self.new.value.now W)
             reply (H.entries cache.new))) (λ _. ⊤) }
@@ -193,21 +137,16 @@ impl<'a, 'b, T: Track> RecorderMut<'a, 'b, T> {
             key,
             value: self.value,
         };
-        let pending = match begin(alloc, cache, &mut input, self.recording, true) {
+        let own = match look_up(alloc, cache, &mut input, self.recording, true) {
             Ok(Begun::Hit(output)) => {
+                // For the proof: its pairs are reads, and its writes are writes.
                 self.recording.has_reads_and_writes();
                 return Ok(Begun::Hit(output));
             }
-            Ok(Begun::Run(pending)) => pending,
+            Ok(Begun::Run(own)) => own,
             Err(fault) => return Err(fault),
         };
-        let Pending {
-            alloc: _,
-            key: own,
-            enabled: _,
-            recording,
-        } = pending;
-        let around = mem::replace(self.recording, recording);
+        let around = mem::replace(self.recording, Constraint::new(alloc));
         Ok(Begun::Run(InnerMut { own, around }))
     }
 
@@ -262,6 +201,7 @@ impl<'a, 'b, T: Track> RecorderMut<'a, 'b, T> {
             self.old.recording.now.pairs) }
     {
         let InnerMut { own, around } = inner;
+        // For the proof: its pairs are reads, and its writes are writes.
         self.recording.has_reads_and_writes();
         let recording = mem::replace(self.recording, around);
         let pending: Pending<G> = Pending {
@@ -272,6 +212,7 @@ impl<'a, 'b, T: Track> RecorderMut<'a, 'b, T> {
         };
         match pending.end(cache, self.recording, ran) {
             Ok(reply) => {
+                // For the proof: its pairs are reads, and its writes are writes.
                 self.recording.has_reads_and_writes();
                 Ok(reply.output)
             }

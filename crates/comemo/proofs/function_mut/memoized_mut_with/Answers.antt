@@ -6,7 +6,6 @@ use Rattle.comemo_track.specs.Writing.{Done}
 use Rattle.comemo_cache.proofs.Sendings.{breaks_at_once}
 use Rattle.comemo.proofs.Calls.{run_seen, reply_by_done_hit, reply_by_done_run, stopped_as, on_fault, on_fault_is}
 use Rattle.comemo.proofs.RecordersMut.{done_at, spoiled_any, broke_at_begin_mut, broke_by_run_mut}
-use Rattle.comemo_cache.specs.Meaning.{IsRunOf}
 use Rattle.comemo_cache.proofs.Named.{named_moved}
 use Rattle.comemo.proofs.NamedRuns.{settled_end}
 use Rattle.comemo_cache.proofs.Sendings.{mapped}
@@ -21,7 +20,7 @@ end-requires-clause-settled g c =
     let t = c.run_recorded-ran.result.1 in
     λ output ok w l.
     let own = settled_end g.M.Key.PartialEq.eq g.T.Call.PartialEq.eq g.T.Answer.PartialEq.eq g.M.Memo.naming _ t c.run_recorded-ran.result.0 output c.run_recorded-ran.ensures.settled ok w l in
-    named_moved g.met.T.Call.Eq.laws g.met.T.Answer.Eq.laws g.met.M.Key.Eq.laws g.M.Memo.naming c.args.key c.pending.inside.key t.pairs is.has_key (subst (λ k. IsRunOf g.M.Key.PartialEq.eq g.T.Call.PartialEq.eq g.T.Answer.PartialEq.eq g.M.Memo.naming k t.pairs) run.1.2 own)
+    named_moved g.met.T.Call.Eq.laws g.met.T.Answer.Eq.laws g.met.M.Key.Eq.laws g.M.Memo.naming c.args.key c.pending.inside.key t.pairs is.has_key own
 
 pub end-requires-clause-stands : goal.end-requires-clause-stands
 end-requires-clause-stands g c =
@@ -29,7 +28,7 @@ end-requires-clause-stands g c =
     let is = run_seen c.pending.view_is (some_held (g.H.Hold.entries c.args.cache.now) _ run.0).1 in
     λ output ok w l m r a.
     let right = (rw ok at c.run_recorded-ran.ensures.right) m (record { whole = w; early = l; respects = r; agrees = a }) in
-    g.met.M.Memo.laws.keys c.args.key c.pending.inside.key m output c.run_recorded-ran.result.1.writes r is.has_key (subst (λ k. g.M.Memo.def k m output c.run_recorded-ran.result.1.writes) run.1.2 right)
+    g.met.M.Memo.laws.keys c.args.key c.pending.inside.key m output c.run_recorded-ran.result.1.writes r is.has_key right
 
 pub returns-in-Ok-Hit-clause-right : goal.returns-in-Ok-Hit-clause-right
 returns-in-Ok-Hit-clause-right g c = λ _.
@@ -52,7 +51,7 @@ returns-in-Ok-Run-clause-right g c =
     let agrees = subst (λ v. Agrees g.T.Answer.PartialEq.eq (g.T.Track.answers v) t.pairs) run.1.0 (c.run_recorded-ran.ensures.agrees whole early) in
     let right = (rw done.1 at c.run_recorded-ran.ensures.right) m (record { whole = whole; early = early; respects = g.met.T.Track.alike c.args.of.now; agrees = agrees }) in
     let did = subst (λ v. Done g.T.Track.wrote g.T.Call.Call.is_write g.T.Call.Call.touches g.T.Answer.PartialEq.eq g.T.Track.answers v c.run_recorded-ran.new.of t.writes) run.1.0 (c.run_recorded-ran.ensures.done whole) in
-    (t.writes, subst (λ o. g.M.Memo.def c.args.key m o t.writes) (sym fin.same) (subst (λ k. g.M.Memo.def k m done.0 t.writes) run.1.2 right), done_at (Done g.T.Track.wrote g.T.Call.Call.is_write g.T.Call.Call.touches g.T.Answer.PartialEq.eq g.T.Track.answers) c.args.of.now c.run_recorded-ran.new.of _ t.writes so did)) c.end.result c.end.ensures.finished (search rules)
+    (t.writes, subst (λ o. g.M.Memo.def c.args.key m o t.writes) (sym fin.same) right, done_at (Done g.T.Track.wrote g.T.Call.Call.is_write g.T.Call.Call.touches g.T.Answer.PartialEq.eq g.T.Track.answers) c.args.of.now c.run_recorded-ran.new.of _ t.writes so did)) c.end.result c.end.ensures.finished (search rules)
 
 pub returns-in-Ok-Run-clause-reply : goal.returns-in-Ok-Run-clause-reply
 returns-in-Ok-Run-clause-reply g c =
@@ -66,7 +65,7 @@ returns-in-Ok-Run-clause-reply g c =
     (λ early. subst (λ v. Agrees g.T.Answer.PartialEq.eq (g.T.Track.answers v) t.pairs) run.1.0 (c.run_recorded-ran.ensures.agrees whole early))
     g.S.Sink.took g.S.Sink.lates (λ early m r a.
     let right = (rw done.1 at c.run_recorded-ran.ensures.right) m (record { whole = whole; early = early; respects = r; agrees = a }) in
-    g.met.M.Memo.laws.keys c.args.key c.pending.inside.key m done.0 t.writes r is.has_key (subst (λ k. g.M.Memo.def k m done.0 t.writes) run.1.2 right))
+    g.met.M.Memo.laws.keys c.args.key c.pending.inside.key m done.0 t.writes r is.has_key right)
     fin (Done g.T.Track.wrote g.T.Call.Call.is_write g.T.Call.Call.touches g.T.Answer.PartialEq.eq g.T.Track.answers) c.args.of.now c.run_recorded-ran.new.of _ so did) run.0 done.2) c.end.result (rw (stayed (g.H.Hold.entries c.args.cache.now) (g.H.Hold.entries c.begin-begun.new.cache) run.3) at (rw run.2 at c.end.ensures.finished)) (search rules)
 
 pub returns-in-Ok-Run-clause-reached : goal.returns-in-Ok-Run-clause-reached
