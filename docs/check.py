@@ -208,7 +208,7 @@ def check_crates():
 
 
 def check_layers():
-    """The rows of the table of layers: the code of these crates, but for their root files, has none of these words."""
+    """The rows of the table of layers: the code of these crates, but for what they hand on, has none of these words."""
     where = "docs/ARCHITECTURE.md"
     table = read(ROOT / where).partition("| Crates | Never name |")[2].partition("\n\n")[0]
     rows = [re.findall(r"`(\w+)`", cell) for row in map(cells, table.splitlines()) if len(row) > 1 for cell in row[:2]]
@@ -218,7 +218,7 @@ def check_layers():
         for crate, file in sources():
             if crate not in crates or file.stem in ("lib", "main"):
                 continue
-            code = re.sub(r"//.*", "", read(file))
+            code = re.sub(r"\bpub use [^;]*;", "", re.sub(r"//.*", "", read(file)))
             for word in words:
                 if re.search(rf"\b{word}\b", code):
                     say(name_of(file), f"names {word}, which {where} forbids")

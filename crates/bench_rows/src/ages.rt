@@ -7,10 +7,8 @@ ghost use Rattle.comemo.specs.Steps.{IsStep};
 use crate::broken::Broken;
 use crate::steps::{Anything, evict, look, store, touch};
 use crate::tally::Tally;
-use comemo::{
-    CacheData, Constraint, Fault, Function, How, Meant, MemoOf, Recorder, Step, StepReply, Track,
-    memoized,
-};
+use comemo::internal::{Meant, Step, StepReply};
+use comemo::{CacheData, Constraint, Fault, Function, How, MemoOf, Recorder, Track, memoized_with};
 use std::alloc::{AllocError, Global};
 
 /// Returns 0.
@@ -53,7 +51,7 @@ fn call_null(
 ) -> Option<usize> {
     let nothing = ();
     let mut sink = Constraint::new(alloc);
-    let reply = memoized(
+    let reply = memoized_with(
         alloc,
         cache,
         &mut (),

@@ -1,7 +1,8 @@
 //! Why a row didn't reach its end.
 
 use calc_lines::RunFault;
-use comemo::{Fault, InsertError};
+use comemo::Fault;
+use comemo::internal::InsertError;
 use std::alloc::AllocError;
 
 /// A row ran out of memory, or one of its calls failed that should succeed.

@@ -1,6 +1,6 @@
 //! Calls of memoized functions, and their expected results.
 
-use comemo::{CacheData, Fault, Function, How, MemoOf, Reply, Top, Track, memoized};
+use comemo::{CacheData, Fault, Function, How, MemoOf, Reply, Track, memoized};
 use std::alloc::Global;
 
 /// Calls a function that needs nothing, outside of any run.
@@ -10,15 +10,7 @@ pub(crate) fn call<F: Function<Needs = ()>>(
     key: F::Key,
     of: &F::Of,
 ) -> Result<Reply<F::Out>, Fault> {
-    memoized(
-        alloc,
-        cache,
-        &mut (),
-        key,
-        &of.track(alloc),
-        &mut Top::new(),
-        true,
-    )
+    memoized(alloc, cache, key, &of.track(alloc))
 }
 
 /// Whether a reply has this output, and came about like this.

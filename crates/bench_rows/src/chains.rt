@@ -1,7 +1,7 @@
 //! The row of chains, which borrow one another.
 
 use crate::broken::Broken;
-use comemo::{CacheData, How, Top, Track, memoized};
+use comemo::{CacheData, How, Track, memoized};
 use comemo_guide::chains::{Chain, IsInChain};
 use std::alloc::Global;
 
@@ -15,7 +15,7 @@ fn says(
     how: How,
 ) -> bool {
     let view = chain.track(alloc);
-    match memoized(alloc, cache, &mut (), number, &view, &mut Top::new(), true) {
+    match memoized(alloc, cache, number, &view) {
         Ok(reply) => reply.output == output && reply.how == how,
         Err(_) => false,
     }

@@ -5,7 +5,8 @@ ghost use Rattle.comemo.specs.Steps.{IsStep};
 use crate::list::PlainList;
 use crate::random::Numbers;
 use crate::steps::{Anything, look};
-use comemo::{CacheData, Found, Meant, Step, StepReply};
+use comemo::CacheData;
+use comemo::internal::{Found, Meant, Step, StepReply};
 use std::alloc::{AllocError, Global};
 
 /// What does the steps of a cache, to be compared with one.

@@ -3,7 +3,8 @@ ghost use Rattle.std.specs.Prelude.{◌≡◌, ◌≤◌, IfOk, OnErr, ◌%◌, 
 ghost use Rattle.std.proofs.Common.{rules};
 ghost use Rattle.bench_rows.specs.Fibonacci.{fib};
 
-use comemo::{Begun, CacheData, Constraint, Fault, Hashed, How, Memo, Reply, begin};
+use comemo::internal::Hashed;
+use comemo::{Begun, CacheData, Constraint, Fault, How, Memo, Reply, begin};
 use std::alloc::Global;
 
 /// A Fibonacci number.

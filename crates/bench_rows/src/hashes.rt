@@ -1,7 +1,8 @@
 //! Rows of hashes.
 
 use crate::broken::Broken;
-use comemo::{Prehashed, SipHasher13, Track, hash, hash_any};
+use comemo::internal::{SipHasher13, hash_any};
+use comemo::{Prehashed, Track, hash};
 use comemo_samples::Town;
 use std::alloc::{AllocError, Global};
 use std::hash::Hasher;

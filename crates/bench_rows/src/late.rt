@@ -1,7 +1,9 @@
 //! The row of runs that read before or after they wrote.
 
 use crate::broken::Broken;
-use comemo::{BothMut, Cache, CacheData, Fault, Hold, How, MemoOfMut, Top, memoized_mut};
+use comemo::{
+    BothMut, Cache, CacheData, Fault, Hold, How, MemoOfMut, Top, memoized_mut, memoized_mut_with,
+};
 use comemo_guide::late::{AddsAndGets, Bump, Readback, Twice};
 use comemo_samples::Counter;
 use std::alloc::Global;
@@ -15,22 +17,14 @@ fn bumps<H: Hold<MemoOfMut<Bump>>>(
     how: How,
 ) -> Result<bool, Fault> {
     let number = counter.number;
-    let reply = memoized_mut(alloc, cache, &mut (), 3, counter, &mut Top::new(), true)?;
+    let reply = memoized_mut(alloc, cache, 3, counter)?;
     Ok(reply.how == how && reply.output == number && counter.number == number.wrapping_add(3))
 }
 
 /// Whether a call of `Readback` on a new counter is late.
 fn reads_back<H: Hold<MemoOfMut<Readback>>>(alloc: Global, cache: &mut H) -> Result<bool, Fault> {
     let mut counter = Counter { number: 0 };
-    let reply = memoized_mut(
-        alloc,
-        cache,
-        &mut (),
-        3,
-        &mut counter,
-        &mut Top::new(),
-        true,
-    )?;
+    let reply = memoized_mut(alloc, cache, 3, &mut counter)?;
     Ok(reply.how == How::Late && reply.output == 3 && counter.number == 3)
 }
 
@@ -41,7 +35,7 @@ fn bumps_twice<B: Hold<MemoOfMut<Bump>>, H: Hold<MemoOfMut<Twice<B>>>>(
     bumps: &mut B,
 ) -> Result<bool, Fault> {
     let mut counter = Counter { number: 0 };
-    let reply = memoized_mut(alloc, cache, bumps, 3, &mut counter, &mut Top::new(), true)?;
+    let reply = memoized_mut_with(alloc, cache, bumps, 3, &mut counter, &mut Top::new(), true)?;
     Ok(reply.how == How::Late && reply.output == 3 && counter.number == 6)
 }
 
@@ -53,7 +47,7 @@ fn adds_and_gets<H: Hold<AddsAndGets>>(alloc: Global, cache: &mut H) -> Result<b
         first: &mut first,
         second: &mut second,
     };
-    let reply = memoized_mut(alloc, cache, &mut (), (), &mut both, &mut Top::new(), true)?;
+    let reply = memoized_mut(alloc, cache, (), &mut both)?;
     Ok(reply.how == How::Stored && reply.output == 0 && first.number == 1 && second.number == 0)
 }
 

@@ -2,7 +2,7 @@
 
 use crate::comparison::Machine;
 use crate::steps::{Anything, Numbered};
-use comemo::{Found, InsertError, Step, StepReply};
+use comemo::internal::{Found, InsertError, Step, StepReply};
 use std::alloc::{AllocError, Global};
 
 /// What is stored under a key and a path.

@@ -3,7 +3,7 @@ ghost use Rattle.std.specs.Prelude.{IfOk};
 ghost use Rattle.comemo.specs.Steps.{IsStep};
 
 use crate::steps::{Anything, evict, look, store, touch};
-use comemo::{Meant, Step};
+use comemo::internal::{Meant, Step};
 use std::alloc::{AllocError, Global};
 
 /// Pseudorandom numbers.

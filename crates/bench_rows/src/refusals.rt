@@ -9,7 +9,7 @@ use crate::places::{AnySaid, contextual, expected_at, recorded};
 use crate::tally::Tally;
 use comemo::{
     Begun, CacheData, Constraint, Fault, FunctionMut, How, MemoOfMut, RecorderMut, Reply, Track,
-    begin, memoized_mut,
+    begin, memoized_mut_with,
 };
 use comemo_samples::NotebookCall;
 use std::alloc::{AllocError, Global};
@@ -115,7 +115,7 @@ fn note(
     book: &mut Book,
 ) -> (Result<How, Fault>, bool, Option<usize>) {
     let mut sink = Constraint::new(alloc);
-    let reply = memoized_mut(alloc, cache, &mut (), 5, book, &mut sink, true);
+    let reply = memoized_mut_with(alloc, cache, &mut (), 5, book, &mut sink, true);
     let is_whole = sink.is_whole();
     match reply {
         Ok(reply) => {

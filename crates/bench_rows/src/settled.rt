@@ -1,7 +1,7 @@
 //! The row of a tree that loses no run to another order of its calls.
 
 use crate::broken::Broken;
-use comemo::InsertError;
+use comemo::internal::InsertError;
 use comemo_settled::{Settled, TreeReply};
 use comemo_settled_samples::letters::Letter::{self, A, B, C};
 use comemo_settled_samples::letters::{Letters, insert};

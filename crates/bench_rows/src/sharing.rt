@@ -5,7 +5,8 @@ use bench_workers::{
     Null, branches_are_absorbed_in_order, evictions_reach_a_cache, two_runs_of_one_key,
     two_runs_that_ask_in_turned_order, two_runs_that_ask_other_questions, workers_beside_evictions,
 };
-use comemo::{Cache, Evict, Memo, MemoOf};
+use comemo::internal::Evict;
+use comemo::{Cache, Memo, MemoOf};
 use comemo_guide::double::Double;
 use std::alloc::Global;
 use std::rt::Clock;

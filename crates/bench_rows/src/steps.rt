@@ -4,7 +4,8 @@ ghost use Rattle.std.specs.List.{All};
 ghost use Rattle.std.proofs.Common.{rules};
 ghost use Rattle.comemo.specs.Steps.{IsStep};
 
-use comemo::{Call, Meant, Memo, Step};
+use comemo::internal::{Meant, Step};
+use comemo::{Call, Memo};
 use std::alloc::{AllocError, Global};
 use std::hash::Hash;
 

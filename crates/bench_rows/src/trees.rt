@@ -1,7 +1,7 @@
 //! Rows of the call tree and of its sequences: calls are letters, answers numbers.
 
 use crate::broken::Broken;
-use comemo::{CallSequence, CallTree, InsertError};
+use comemo::internal::{CallSequence, CallTree, InsertError};
 use std::alloc::{AllocError, Global};
 
 type Tree = CallTree<u128, u8, u128, char>;

@@ -4,7 +4,8 @@ ghost use Rattle.std.proofs.Common.{rules};
 use crate::broken::Broken;
 use crate::place::{PlaceAnswer, PlaceCall};
 use crate::places::AnySaid;
-use comemo::{Accelerated, Begun, CacheData, Constraint, Fault, How, Reply, Top, Track, begin};
+use comemo::internal::Accelerated;
+use comemo::{Begun, CacheData, Constraint, Fault, How, Reply, Top, Track, begin};
 use std::alloc::{AllocError, Global};
 use std::sync::atomic::{AtomicU64, Ordering};
 

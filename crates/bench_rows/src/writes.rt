@@ -7,7 +7,7 @@ use crate::ages::aged;
 use crate::broken::Broken;
 use crate::tally::Tally;
 use comemo::{
-    CacheData, Constraint, Fault, FunctionMut, How, MemoOfMut, RecorderMut, memoized_mut,
+    CacheData, Constraint, Fault, FunctionMut, How, MemoOfMut, RecorderMut, memoized_mut_with,
 };
 use comemo_samples::{Counter, CounterCall, Emitter, EmitterCall};
 use std::alloc::Global;
@@ -96,7 +96,7 @@ impl Emitting {
         let before = self.emitter.text().len();
         let mut needs = alloc;
         let mut sink = Constraint::new(alloc);
-        let reply = memoized_mut(
+        let reply = memoized_mut_with(
             alloc,
             &mut self.cache,
             &mut needs,
@@ -273,7 +273,7 @@ fn add_by_another(
     let before = inner.len();
     let mut counter = Counter { number: 0 };
     let mut sink = Constraint::new(alloc);
-    let reply = memoized_mut(alloc, cache, inner, number, &mut counter, &mut sink, true);
+    let reply = memoized_mut_with(alloc, cache, inner, number, &mut counter, &mut sink, true);
     let is_whole = sink.is_whole();
     let went = match reply {
         Ok(reply) => Ok(reply.how),

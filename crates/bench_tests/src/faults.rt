@@ -1,7 +1,7 @@
 //! Machines that do one kind of step wrongly are found to.
 
 use bench_rows::{Anything, Machine, PlainList, compare};
-use comemo::{Step, StepReply};
+use comemo::internal::{Step, StepReply};
 use std::alloc::{AllocError, Global};
 
 /// What a machine does wrongly.

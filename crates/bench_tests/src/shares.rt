@@ -1,6 +1,6 @@
 //! A hit of a share of a cache: its reads go to the sink as reads, and its writes as writes.
 
-use comemo::{BothMut, Cache, Constraint, Hold, How, MultiAnswer, MultiCall, memoized_mut};
+use comemo::{BothMut, Cache, Constraint, Hold, How, MultiAnswer, MultiCall, memoized_mut_with};
 use comemo_guide::tally::Tally;
 use comemo_samples::{Counter, CounterCall, Town, TownCall};
 use std::alloc::Global;
@@ -17,7 +17,7 @@ fn is_tallied<H: Hold<Tally>>(alloc: Global, cache: &mut H, how: How) -> bool {
         second: &mut counter,
     };
     let mut recording = Constraint::new(alloc);
-    let became = memoized_mut(alloc, cache, &mut (), (), &mut both, &mut recording, true);
+    let became = memoized_mut_with(alloc, cache, &mut (), (), &mut both, &mut recording, true);
     let is_how = match became {
         Ok(reply) => reply.how == how,
         Err(_) => false,

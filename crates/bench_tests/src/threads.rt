@@ -5,11 +5,9 @@ use crate::overtaken::Overtaken;
 use bench_workers::{
     Meeting, Null, doubled, evictions_reach_a_cache, evictions_reach_all_keys, two_runs_of_one_key,
 };
-use comemo::evictors::evict;
-use comemo::{
-    Cache, CacheData, Evict, Evictor, Hashed, Hold, How, Memo, MemoOf, Top, Track, memoized,
-    register_evictor,
-};
+use comemo::internal::evictors::evict;
+use comemo::internal::{Evict, Evictor, Hashed, register_evictor};
+use comemo::{Cache, CacheData, Hold, How, Memo, MemoOf, Track, memoized};
 use comemo_guide::double::Double;
 use comemo_guide::shared::warmths;
 use comemo_guide::warmth::Warmth;
@@ -80,7 +78,7 @@ fn an_eviction_reaches_all_keys(rt: HostRuntime) -> Result<(), Fail> {
 fn doubles_seven<H: Hold<MemoOf<Double>>>(alloc: Global, held: &mut H, how: How) -> bool {
     let nothing = ();
     let view = nothing.track(alloc);
-    match memoized(alloc, held, &mut (), 7, &view, &mut Top::new(), true) {
+    match memoized(alloc, held, 7, &view) {
         Ok(reply) => reply.output == 14 && reply.how == how,
         Err(_) => false,
     }
@@ -183,7 +181,7 @@ impl<M: Memo, R: Wait + Drop + Clone> Numbered<M, R> {
 fn gives_nothing<H: Hold<MemoOf<Null>>>(alloc: Global, held: &mut H, how: How) -> bool {
     let nothing = ();
     let view = nothing.track(alloc);
-    match memoized(alloc, held, &mut (), (), &view, &mut Top::new(), true) {
+    match memoized(alloc, held, (), &view) {
         Ok(reply) => reply.output == 0 && reply.how == how,
         Err(_) => false,
     }

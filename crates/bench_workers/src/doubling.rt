@@ -2,7 +2,8 @@
 ghost use Rattle.std.specs.Prelude.{◌≡◌, ◌+◌, ◌%◌, ◌^◌, IfOk, IfSome};
 
 use crate::gate::{Gate, Meeting, Open, TURNS};
-use comemo::{Begun, Evict, Fault, Hold, How, Keyed, MemoOf, Reply, Top, Track, begin};
+use comemo::internal::{Evict, Keyed};
+use comemo::{Begun, Fault, Hold, How, MemoOf, Reply, Top, Track, begin};
 use comemo_guide::double::Double;
 use std::alloc::Global;
 use std::rt::Clock;

@@ -2,7 +2,8 @@
 ghost use Rattle.std.specs.Prelude.{◌≡◌};
 ghost use Rattle.std.proofs.Common.{rules};
 
-use comemo::{Evict, Fault, Function, Hold, How, MemoOf, Recorder, Top, Track, memoized};
+use comemo::internal::Evict;
+use comemo::{Fault, Function, Hold, How, MemoOf, Recorder, Track, memoized};
 use std::alloc::Global;
 
 /// Returns 0.
@@ -46,7 +47,7 @@ pub fn evictions_reach_a_cache<H: Hold<MemoOf<Null>>, E: Evict>(
         }
         let nothing = ();
         let view = nothing.track(alloc);
-        let reply = memoized(alloc, cache, &mut (), (), &view, &mut Top::new(), true)?;
+        let reply = memoized(alloc, cache, (), &view)?;
         if reply.output != 0 || reply.how != how {
             return Ok(false);
         }

@@ -3,7 +3,8 @@ ghost use Rattle.std.specs.Prelude.{◌≢◌, ⊤};
 ghost use Rattle.std.proofs.Common.{rules};
 
 use crate::gate::{Gate, Meeting, TURNS};
-use comemo::{Begun, Cache, Fault, Hold, How, Keyed, Memo, Reply, Top, Track, begin};
+use comemo::internal::Keyed;
+use comemo::{Begun, Cache, Fault, Hold, How, Memo, Reply, Top, Track, begin};
 use comemo_samples::{Context, ContextCall};
 use std::alloc::Global;
 use std::rt::Clock;

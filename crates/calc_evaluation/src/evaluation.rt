@@ -24,9 +24,9 @@ ghost use Rattle.calc_evaluation.specs.Calls.{moves, EvalReply, OnlyTouches};
 
 use calc_files::{FileCall, Files, JoinedAnswer, JoinedCall, Text};
 use calc_scripts::{CalcFault, Outcome, Part, Parts, Total};
+use comemo::internal::{Breaking, Hashed, Multi, Pending};
 use comemo::{
-    Begun, Breaking, CacheData, Constraint, Hashed, How, Memo, Multi, MultiAnswer, MultiCall,
-    Reply, Sink, Tracked, begin,
+    Begun, CacheData, Constraint, How, Memo, MultiAnswer, MultiCall, Reply, Sink, Tracked, begin,
 };
 use std::alloc::Global;
 
@@ -75,7 +75,7 @@ fn begin_script<S: Sink<Call = JoinedCall, Answer = JoinedAnswer>>(
     script: &Text,
     limit: u64,
     sink: &mut S,
-) -> Result<Begun<Eval>, EvalFault>
+) -> Result<Begun<Outcome, Pending<Eval>>, EvalFault>
     ensures begun { IfOk result (λ b. OnBegun b (λ outcome. (outcome.height ≤ limit)
         × IsReply evaluating (with_files script.now files.now) cache.old cache.old
         (S.took sink.old sink.new) (record { output = outcome; how = How.Hit }) cache.new)

@@ -8,7 +8,8 @@ ghost use Rattle.comemo.specs.Multi.{second_call, second_answer};
 ghost use Rattle.calc_files.specs.declared.files.FileCall.TheVariants.{Read};
 
 use crate::text::Text;
-use comemo::{Call, MultiAnswer, MultiCall, Second, Sink, Track, Tracked};
+use comemo::internal::Second;
+use comemo::{Call, MultiAnswer, MultiCall, Sink, Track, Tracked};
 use std::alloc::{AllocError, Global};
 use std::collections::HashMap;
 use std::hash::Hash;

@@ -9,9 +9,9 @@ ghost use Rattle.calc_files.specs.Files.{text_at, answers_of, with_key};
 
 use crate::files::{FileCall, Files, JoinedAnswer, JoinedCall};
 use crate::text::Text;
+use comemo::internal::{Breaking, Hashed, Multi, Pending};
 use comemo::{
-    Begun, Breaking, CacheData, Fault, Hashed, How, Memo, Multi, MultiAnswer, MultiCall, Pending,
-    Reply, Sink, Tracked, begin,
+    Begun, CacheData, Fault, How, Memo, MultiAnswer, MultiCall, Reply, Sink, Tracked, begin,
 };
 use std::alloc::Global;
 

@@ -1,6 +1,6 @@
 -- What was asked of a part of what is written, and written to it, told of the whole.
 use Rattle.std.specs.Prelude.{⊤}
-use Rattle.std.proofs.Common.{◌≡◌, ◌∙◌, Bool, true, false, List, [], ◌∷◌, ◌++◌, IsTrue, Result, Ok, IsErr, IsErrAnd, map, append-nil, refl, sym, ap, subst, inl, inr}
+use Rattle.std.proofs.Common.{◌⊎◌, ◌≡◌, ◌∙◌, Bool, true, false, List, [], ◌∷◌, ◌++◌, IsTrue, Result, Ok, IsErr, IsErrAnd, map, append-nil, refl, sym, ap, subst, inl, inr}
 use Rattle.std.proofs.lemmas.List.{map-append}
 use Rattle.std.specs.List.{All}
 use Rattle.std.specs.Cmp.{IsEquivalence}
@@ -19,7 +19,7 @@ use Rattle.comemo_track.specs.declared.read_and_write.ReadAndWrite.{ReadAndWrite
 use Rattle.comemo_cache.specs.Meaning.{Meaning, Invocation, Naming, invocation}
 use Rattle.comemo_cache.specs.Cache.{Entries}
 use Rattle.comemo.specs.Begin.{Reaches}
-use Rattle.comemo.specs.Called.{IsReply, IsReplyMut}
+use Rattle.comemo.specs.Called.{IsReply, IsLate, IsReplyMut}
 use Rattle.comemo.specs.Function.{Fits, OnPart}
 use Rattle.comemo.specs.FunctionMut.{Lent, HasBegun, Goes, TellsMut, TellsWrites, OnPartWrites, IsFailed}
 use Rattle.comemo.specs.declared.pending.Reply.{Reply}
@@ -73,6 +73,19 @@ module _ {K C R O : Type 0} {M : Meaning K C R O} {touches : C → C → Bool} {
     touching = b.touching;
     none = b.none;
     gives = record { given = b.gives.given; alike = b.gives.alike; agreeing = b.gives.agreeing; are_sent = f true b.gives.given b.writes b.gives.are_sent };
+    same = b.same;
+  })
+
+  -- a reply of a function that writes, of which no more is said than that its writes were done
+  pub done_alone : {mid : Entries K C R O} {soon late : List (C × R) → List C → Type 0} {did : List C → Type 0} {reply : Reply O} → (IsReply M call es mid (λ P W. soon P W × did W) reply es' ⊎ IsLate M call touches es mid (λ P W. late P W × did W) reply es') → IsReplyMut M call touches es mid (λ late P W. did W) reply es'
+  done_alone (inl a) = inl (resent (λ P W both. both.1) a)
+  done_alone (inr b) = inr (record {
+    pairs = b.pairs;
+    writes = b.writes;
+    is_late = b.is_late;
+    touching = b.touching;
+    none = b.none;
+    gives = record { given = b.gives.given; alike = b.gives.alike; agreeing = b.gives.agreeing; are_sent = b.gives.are_sent.1 };
     same = b.same;
   })
 

@@ -7,7 +7,8 @@ use Rattle.comemo_track.specs.Recording.{Recording, Took, Spoiled}
 use Rattle.comemo_track.specs.Sending.{Asks, BreaksOff}
 use Rattle.comemo_cache.specs.Meaning.{Meaning, Invocation}
 use Rattle.comemo_cache.specs.Cache.{Entries}
-use Rattle.comemo.specs.Called.{IsReply, HeldReply}
+use Rattle.comemo.specs.Called.{IsReply}
+use Rattle.comemo_cache.specs.Held.{LeadsBy}
 use Rattle.comemo_cache.proofs.Holding.{some_by}
 use Rattle.comemo.specs.Finish.{BrokeOff}
 use Rattle.comemo.specs.Function.{Recorded, IsRecorded, Fits, Tells}
@@ -127,7 +128,7 @@ module _ {K C R O : Type 0} (M : Meaning K C R O) (calls : IsEquivalence M.same_
   called_keeps touches s t before reads X (Err x) k e = broken_keeps s t before e.1
 
 -- so it is after a call by any holder
-pub held_keeps : {K C R O : Type 0} (M : Meaning K C R O) (touches : C → C → Bool) → IsEquivalence M.same_call → IsEquivalence M.same_answer → (o mid o' : Option (Entries K C R O)) (call : Invocation K C R) → Respects M.same_call M.same_answer call.answers → (s t : Recording C R) → IsRecorded M.same_answer call.answers s → ((output : O) (writes : List C) → M.def call.key call.answers output writes → writes ≡ []) → {E : Type 0} (X : Type 0) (r : Result (Reply O) E) → IfOk r (λ reply. HeldReply M call o mid (Took M.same_call touches s t) reply o') → OnErr r (X × BrokeOff M.same_answer call.answers (BreaksOff (Took M.same_call touches) Spoiled s t)) → IsRecorded M.same_answer call.answers t
+pub held_keeps : {K C R O : Type 0} (M : Meaning K C R O) (touches : C → C → Bool) → IsEquivalence M.same_call → IsEquivalence M.same_answer → (o mid o' : Option (Entries K C R O)) (call : Invocation K C R) → Respects M.same_call M.same_answer call.answers → (s t : Recording C R) → IsRecorded M.same_answer call.answers s → ((output : O) (writes : List C) → M.def call.key call.answers output writes → writes ≡ []) → {E : Type 0} (X : Type 0) (r : Result (Reply O) E) → IfOk r (λ reply. LeadsBy o mid o' (λ es mid es'. IsReply M call es mid (Took M.same_call touches s t) reply es')) → OnErr r (X × BrokeOff M.same_answer call.answers (BreaksOff (Took M.same_call touches) Spoiled s t)) → IsRecorded M.same_answer call.answers t
 held_keeps M touches calls answers o mid o' call respects s t before reads {E = E} X (Ok reply) k e =
     let is = some_by o mid o' _ k in
     called_keeps M calls answers is.0 is.1 is.2 call respects touches s t before reads {E = E} X (Ok reply) is.3 e

@@ -77,10 +77,10 @@ module _ {K C R O : Type 0} (M : Meaning K C R O) (call : Invocation K C R) wher
 abbrev pub Grows : {K C R O : Type 0} → Entries K C R O → Entries K C R O → Type 0
 Grows {K} {C} {R} {O} es es' = (more : Entries K C R O) × IsPermutation (map young (more ++ es)) (map young es')
 
--- the reply to a call that began at one telling of the entries and ended at another
-abbrev pub HeldReply : {K C R O : Type 0} → Meaning K C R O → Invocation K C R → Option (Entries K C R O) → Option (Entries K C R O) → (List (C × R) → List C → Type 0) → Reply O → Option (Entries K C R O) → Type 0
-HeldReply M call began ended sent reply after = LeadsBy began ended after (λ es mid es'. IsReply M call es mid sent reply es')
+-- the reply to a call through what told these entries before it, and those after it
+abbrev pub HeldReply : {K C R O : Type 0} → Meaning K C R O → Invocation K C R → Option (Entries K C R O) → (List (C × R) → List C → Type 0) → Reply O → Option (Entries K C R O) → Type 0
+HeldReply M call before sent reply after = LeadsBy before before after (λ es mid es'. IsReply M call es mid sent reply es')
 
 -- the same of a function that writes
-abbrev pub HeldReplyMut : {K C R O : Type 0} → Meaning K C R O → (C → C → Bool) → Invocation K C R → Option (Entries K C R O) → Option (Entries K C R O) → (Bool → List (C × R) → List C → Type 0) → Reply O → Option (Entries K C R O) → Type 0
-HeldReplyMut M touches call began ended sent reply after = LeadsBy began ended after (λ es mid es'. IsReplyMut M call touches es mid sent reply es')
+abbrev pub HeldReplyMut : {K C R O : Type 0} → Meaning K C R O → (C → C → Bool) → Invocation K C R → Option (Entries K C R O) → (Bool → List (C × R) → List C → Type 0) → Reply O → Option (Entries K C R O) → Type 0
+HeldReplyMut M touches call before sent reply after = LeadsBy before before after (λ es mid es'. IsReplyMut M call touches es mid sent reply es')

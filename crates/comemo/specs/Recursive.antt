@@ -1,4 +1,4 @@
--- What a function that calls itself tells the run around it, and how its calls start and finish.
+-- What a function that calls itself tells the run around it, and how its calls begin and finish.
 use Rattle.std.specs.Prelude.{◌≡◌, ◌↔◌, Bool, true, false, List, IsTrue, [], Result, Ok, Err, IfOk, OnOk, IfErr}
 use Rattle.comemo_track.specs.Recording.{Recording}
 use Rattle.comemo_cache.specs.Meaning.{Meaning, Invocation, Run}
@@ -9,14 +9,14 @@ use Rattle.comemo.specs.declared.pending.Fault.{Fault}
 use Rattle.comemo.specs.declared.pending.Fault.TheVariants as fault
 use Rattle.comemo.specs.declared.pending.How.{How}
 use Rattle.comemo.specs.declared.pending.How.TheVariants as how
-use Rattle.comemo.specs.declared.recursive.Start.{Start}
-use Rattle.comemo.specs.declared.recursive.Start.TheVariants.{Hit, Run as Begins}
+use Rattle.comemo.specs.declared.pending.Begun.{Begun}
+use Rattle.comemo.specs.declared.pending.Begun.TheVariants.{Hit, Run as Begins}
 
--- the first of a call that gave an output, or a fault, the second of a run that started
-abbrev pub OnStarted : {O I : Type 0} → Result (Start O I) Fault → (Result O Fault → Type 0) → (I → Type 0) → Type 0
-OnStarted (Ok (Hit output)) P Q = P (Ok output)
-OnStarted (Ok (Begins run)) P Q = Q run
-OnStarted (Err fault) P Q = P (Err fault)
+-- the first of a call that gave an output, or a fault, the second of a run that began
+abbrev pub OnCallBegun : {O I : Type 0} → Result (Begun O I) Fault → (Result O Fault → Type 0) → (I → Type 0) → Type 0
+OnCallBegun (Ok (Hit output)) P Q = P (Ok output)
+OnCallBegun (Ok (Begins run)) P Q = Q run
+OnCallBegun (Err fault) P Q = P (Err fault)
 
 -- what a function tells a run by a call, which took its recorder from s to t: of the same value, where it is answered, nothing was
 -- lost, what fits the recording fitted it before, and P holds of the answer and of whatever fits; and it never says that the
@@ -33,7 +33,7 @@ abbrev pub TellsFrom : {V C R X : Type 0} → (Recording C R → (C → R) → T
 TellsFrom {V} {C} {R} {X} fits s t P = (u : Recorded V C R) (r : Result X Fault) → TellsOwn fits t u r P → TellsOwn fits s u r P
 
 module _ {K C R O : Type 0} (M : Meaning K C R O) (es : Entries K C R O) where
-  -- a run starts, with a recorder of nothing, of the value of the recorder that started it, under a key that is equal to the
+  -- a run begins, with a recorder of nothing, of the value of the recorder that began it, under a key that is equal to the
   -- call's; no kept entry has the key and agrees
   pub record Starts {V : Type 0} (call : Invocation K C R) (outer : Recorded V C R) (own : K) (inner : Recorded V C R) : Type 0 where
     pub has_key : IsTrue (M.same_key call.key own)
@@ -43,7 +43,7 @@ module _ {K C R O : Type 0} (M : Meaning K C R O) (es : Entries K C R O) where
     pub early : inner.recording.late ≡ false
     pub none : HasNone M es call
 
-  -- a run that came to this was finished: its pairs went to the recorder that started it, and it was stored, or it is said why not;
+  -- a run that came to this was finished: its pairs went to the recorder that began it, and it was stored, or it is said why not;
   -- it was late, or not
   pub record FinishedAs (late : Bool) (sent : List (C × R) → List C → Type 0) (ran : Run K C R O) (became : How) (es' : Entries K C R O) : Type 0 where
     pub enabled : became ≡ how.Disabled → ⊥

@@ -1,4 +1,4 @@
--- What a function that calls itself and writes tells, and how its calls start and finish.
+-- What a function that calls itself and writes tells, and how its calls begin and finish.
 use Rattle.std.specs.Prelude.{◌≡◌, Bool, true, false, List, IsTrue, []}
 use Rattle.comemo_track.specs.Recording.{Recording}
 use Rattle.comemo_cache.specs.Meaning.{Meaning, Invocation}
@@ -6,8 +6,8 @@ use Rattle.comemo_cache.specs.Cache.{Entries, HasNone}
 use Rattle.comemo.specs.Begin.{Reaches}
 use Rattle.comemo.specs.FunctionMut.{Lent, Began, HasBegun, NoneTouches}
 
--- a run was started by a recorder that was lent s, and has come to t: what it recorded stands in the place of what the recorder had
--- recorded, which is kept apart. While nothing is lost of its recording, it began at the value as it was when it was started, and
+-- a run was begun by a recorder that was lent s, and has come to t: what it recorded stands in the place of what the recorder had
+-- recorded, which is kept apart. While nothing is lost of its recording, it began at the value as it was when it was begun, and
 -- isn't late where no write touches a read
 pub record Within {V C R : Type 0} (did : V → V → List C → Type 0) (touches : C → C → Bool) (same : R → R → Bool) (answers : V → C → R) (s t : Lent V C R) (around : Recording C R) : Type 0 where
   pub kept : around ≡ s.recording.now
@@ -25,7 +25,7 @@ pub record IsEmpty {C R : Type 0} (recording : Recording C R) : Type 0 where
   pub whole : recording.whole ≡ true
   pub early : recording.late ≡ false
 
--- a run starts under a key that is equal to the call's; no kept entry has the key and agrees
+-- a run begins under a key that is equal to the call's; no kept entry has the key and agrees
 pub record StartsMut {K C R O : Type 0} (M : Meaning K C R O) (es : Entries K C R O) (call : Invocation K C R) (own : K) : Type 0 where
   pub has_key : IsTrue (M.same_key call.key own)
   pub none : HasNone M es call

@@ -9,11 +9,11 @@ ghost use Rattle.comemo_track.specs.Recording.{Recording, Took, Spoiled};
 ghost use Rattle.comemo_track.specs.Sending.{Asks, BreaksOff};
 ghost use Rattle.comemo.specs.Function.{Recorded, Fits, Tells, Laws, SettlesRun};
 
-use crate::pending::{Fault, How, Looked, Pending, Reply, look_up};
+use crate::lent::LentKey;
+use crate::pending::{Begun, Fault, How, Pending, Reply, look_up};
 use comemo_cache::cache::{Meant, Memo};
 use comemo_cache::hold::Hold;
 use comemo_track::constraint::Constraint;
-use comemo_track::input::Keyed;
 use comemo_track::track::{Breaking, Call, Sink, Top, Track, Tracked};
 use std::alloc::Global;
 use std::hash::Hash;
@@ -153,7 +153,7 @@ impl<'a, T: Track> Recorder<'a, T> {
     /// Calls another memoized function of the same value, and records what it asked.
     ///
     /// A fault leaves the other's cache as it was, and the recording is spoiled: the run that is recorded can't be
-    /// finished. It costs what `memoized` costs, with the recording as its sink. This project's own: in comemo it is a
+    /// finished. It costs what `memoized_with` costs, with the recording as its sink. This project's own: in comemo it is a
     /// call like any.
     pub fn call<G: FunctionOf<T>, H: Hold<G>>(
         &mut self,
@@ -165,7 +165,7 @@ impl<'a, T: Track> Recorder<'a, T> {
             (λ output m. G.def key m output []) }
         ensures reply { IfOk result (λ output. (reply : Reply G.Out) × (reply.output ≡ output)
             × HeldReply ⟦<G as Meant>⟧.meaning (invocation key (T.answers self.old.value) true)
-            (H.entries cache.old) (H.entries cache.old)
+            (H.entries cache.old)
             (⟦<T as Told>⟧.took self.old self.new) reply (H.entries cache.new)) }
         ensures err { OnErr result (Stays (H.entries cache.old) (H.entries cache.new)
             × ⟦<T as Told>⟧.broke_off self.old self.new) }
@@ -189,12 +189,12 @@ impl<'a, T: Track> Recorder<'a, T> {
             (λ reply m. G.def key m reply.output []) }
         ensures reply { IfOk result (λ reply. HeldReply ⟦<G as Meant>⟧.meaning
             (invocation key (T.answers self.old.value) enabled)
-            (H.entries cache.old) (H.entries cache.old)
+            (H.entries cache.old)
             (⟦<T as Told>⟧.took self.old self.new) reply (H.entries cache.new)) }
         ensures err { OnErr result (Stays (H.entries cache.old) (H.entries cache.new)
             × ⟦<T as Told>⟧.broke_off self.old self.new) }
     {
-        let reply = memoized(
+        let reply = memoized_with(
             self.alloc,
             cache,
             needs,
@@ -293,7 +293,7 @@ impl<F: Function> FunctionOf<F::Of> for MemoOf<F> {
 ///
 /// A hit costs what `begin` costs, any other call what `begin`, the run and `finish` cost. This project's own: a call of
 /// a function under comemo's `#[memoize]`.
-pub fn memoized<
+pub fn memoized_with<
     M: FunctionOf<T>,
     H: Hold<M>,
     T: Track,
@@ -309,7 +309,7 @@ pub fn memoized<
 ) -> Result<Reply<M::Out>, Fault>
     ensures right { IfOk result (λ reply. M.def key (T.answers of.now) reply.output []) }
     ensures reply { IfOk result (λ reply. HeldReply ⟦<M as Meant>⟧.meaning
-        (invocation key (T.answers of.now) enabled) (H.entries cache.old) (H.entries cache.old)
+        (invocation key (T.answers of.now) enabled) (H.entries cache.old)
         (S.took sink.old sink.new) reply (H.entries cache.new)) }
     ensures fault { IfErr result
         (λ fault. (fault ≡ Fault.Memory) ⊎ Held (H.entries cache.old) (λ es.
@@ -319,19 +319,19 @@ pub fn memoized<
         × BrokeOff T.Answer.eq (T.answers of.now)
         (⟦<S as Breaking>⟧.breaks_off sink.old sink.new)) }
 {
-    let mut input = Keyed {
-        key,
+    let mut input = LentKey {
+        key: &key,
         view: of.fork(alloc),
     };
     // A hit returns at once: its reply as the value of the match would be moved twice.
     match look_up(alloc, cache, &mut input, sink, enabled) {
-        Ok(Looked::Hit(output)) => {
+        Ok(Begun::Hit(output)) => {
             return Ok(Reply {
                 output,
                 how: How::Hit,
             });
         }
-        Ok(Looked::Run(own)) => run_kept(alloc, cache, needs, own, of, sink, enabled),
+        Ok(Begun::Run(own)) => run_kept(alloc, cache, needs, own, of, sink, enabled),
         Err(fault) => Err(fault),
     }
 }
@@ -374,11 +374,11 @@ fn run_kept<M: FunctionOf<T>, H: Hold<M>, T: Track, S: Sink<Call = T::Call, Answ
     pending.end(cache, sink, ran)
 }
 
-/// Calls a memoized function that needs nothing, and that no other run is around: `memoized` for the plain case.
+/// Calls a memoized function that needs nothing, with no run around it: `memoized_with` for the plain case.
 ///
-/// It costs what `memoized` costs with a `Top` as its sink, which keeps nothing: a hit of an entry of age 0 clones its
+/// It costs what `memoized_with` costs with a `Top` as its sink, which keeps nothing: a hit of an entry of age 0 clones its
 /// output alone, and so does the end of a run. This project's own: a call of a function under comemo's `#[memoize]`.
-pub fn called<M: FunctionOf<T, Needs = ()>, H: Hold<M>, T: Track>(
+pub fn memoized<M: FunctionOf<T, Needs = ()>, H: Hold<M>, T: Track>(
     alloc: Global,
     cache: &mut H,
     key: M::Key,
@@ -386,9 +386,9 @@ pub fn called<M: FunctionOf<T, Needs = ()>, H: Hold<M>, T: Track>(
 ) -> Result<Reply<M::Out>, Fault>
     ensures right { IfOk result (λ reply. M.def key (T.answers of.now) reply.output []) }
     ensures reply { IfOk result (λ reply. HeldReply ⟦<M as Meant>⟧.meaning
-        (invocation key (T.answers of.now) true) (H.entries cache.old) (H.entries cache.old)
+        (invocation key (T.answers of.now) true) (H.entries cache.old)
         (λ _ _. ⊤) reply (H.entries cache.new)) }
     ensures err { OnErr result (Stays (H.entries cache.old) (H.entries cache.new)) }
 {
-    memoized(alloc, cache, &mut (), key, of, &mut Top::new(), true)
+    memoized_with(alloc, cache, &mut (), key, of, &mut Top::new(), true)
 }

@@ -1,24 +1,24 @@
 //! The front door of functions that write: a memoized function of a key and a tracked value that its run writes to.
-ghost use Rattle.std.specs.Prelude.{◌≡◌, [], ◌∷◌, ◌++◌, List, true, false, IsTrue, IfOk, IfErr, OnOk, OnErr, ⊤};
+ghost use Rattle.std.specs.Prelude.{◌≡◌, [], ◌∷◌, ◌++◌, ◌⊎◌, List, true, false, IsTrue, IfOk, IfErr, OnOk, OnErr, ⊤};
 ghost use Rattle.comemo.specs.Called.{HeldReply, HeldReplyMut};
 ghost use Rattle.comemo_cache.specs.Meaning.{invocation};
 ghost use Rattle.comemo_cache.specs.Held.{Leads, Stays};
 ghost use Rattle.comemo.specs.Begin.{Reaches};
 ghost use Rattle.comemo.specs.Finish.{BrokeOff};
 ghost use Rattle.comemo.specs.Function.{SettlesAs, SettlesRun};
-ghost use Rattle.comemo.specs.FunctionMut.{Lent, lent, HasBegun, NoneTouches, Goes, TellsMut, TellsWrites, LawsMut, IsFailed, FailsBy};
+ghost use Rattle.comemo.specs.FunctionMut.{Lent, lent, HasBegun, NoneTouches, Goes, TellsMut, TellsWrites, LawsMut, WasStopped, IsFailed, FailsBy};
 ghost use Rattle.comemo_base.specs.Answers.{Agrees};
 ghost use Rattle.comemo_track.specs.Recording.{Recording, Took, Spoiled, MarkedLate};
 ghost use Rattle.comemo_track.specs.Writing.{Done};
 ghost use Rattle.comemo_track.specs.Sending.{Asks, BreaksOff, SpoiledAfter, TookAs};
 
-use crate::function::{FunctionOf, Told, memoized};
+use crate::function::{FunctionOf, Told, memoized_with};
+use crate::lent::LentKeyMut;
 use crate::pending::{Begun, Fault, How, Reply, begin};
 use comemo_cache::cache::{Meant, Memo};
 use comemo_cache::hold::Hold;
 use comemo_track::constraint::Constraint;
-use comemo_track::input::KeyedMut;
-use comemo_track::track::{Breaking, Call, Sink, Track, Written};
+use comemo_track::track::{Breaking, Call, Sink, Top, Track, Written};
 use std::alloc::Global;
 use std::hash::Hash;
 use std::marker::PhantomData;
@@ -182,7 +182,7 @@ impl<'a, 'b, T: Track> RecorderMut<'a, 'b, T> {
     /// Calls another memoized function of the same value, which reads alone, and records what it asked.
     ///
     /// A fault leaves the other's cache as it was, and the recording is spoiled: the run that is recorded can't be
-    /// finished. It costs what `memoized` costs, with the recording as its sink. This project's own: in comemo it is a
+    /// finished. It costs what `memoized_with` costs, with the recording as its sink. This project's own: in comemo it is a
     /// call like any.
     pub fn call<G: FunctionOf<T>, H: Hold<G>>(
         &mut self,
@@ -200,7 +200,7 @@ impl<'a, 'b, T: Track> RecorderMut<'a, 'b, T> {
         ensures value { self.new.value ≡ self.old.value }
         ensures reply { IfOk result (λ output. (reply : Reply G.Out) × (reply.output ≡ output)
             × HeldReply ⟦<G as Meant>⟧.meaning (invocation key (T.answers self.old.value.now) true)
-            (H.entries cache.old) (H.entries cache.old)
+            (H.entries cache.old)
             (Took T.Call.eq T.Call.touches self.old.recording.now self.new.recording.now)
             reply (H.entries cache.new)) }
         ensures err { OnErr result (Stays (H.entries cache.old) (H.entries cache.new)
@@ -208,7 +208,8 @@ impl<'a, 'b, T: Track> RecorderMut<'a, 'b, T> {
             (BreaksOff (Took T.Call.eq T.Call.touches) Spoiled self.old.recording.now self.new.recording.now)) }
     {
         let view = self.value.track(self.alloc);
-        let reply = memoized(self.alloc, cache, needs, key, &view, self.recording, true)?;
+        let reply = memoized_with(self.alloc, cache, needs, key, &view, self.recording, true)?;
+        // For the proof: its pairs are reads, and its writes are writes.
         self.recording.has_reads_and_writes();
         Ok(reply.output)
     }
@@ -216,7 +217,7 @@ impl<'a, 'b, T: Track> RecorderMut<'a, 'b, T> {
     /// Calls another memoized function of the same value, which writes, and records what it asked and wrote.
     ///
     /// A fault spoils the recording: the run that is recorded can't be finished. The writes that were done before it stay
-    /// done. It costs what `memoized_mut` costs, with the recording as its sink. This project's own: in comemo it is a
+    /// done. It costs what `memoized_mut_with` costs, with the recording as its sink. This project's own: in comemo it is a
     /// call like any.
     pub fn call_mut<G: FunctionMutOf<T>, H: Hold<G>>(
         &mut self,
@@ -232,7 +233,7 @@ impl<'a, 'b, T: Track> RecorderMut<'a, 'b, T> {
         ensures reply { IfOk result (λ output. (reply : Reply G.Out) × (reply.output ≡ output)
             × HeldReplyMut ⟦<G as Meant>⟧.meaning T.Call.touches
             (invocation key (T.answers self.old.value.now) true)
-            (H.entries cache.old) (H.entries cache.old)
+            (H.entries cache.old)
             (λ late P W. TookAs (Took T.Call.eq T.Call.touches) MarkedLate late
             self.old.recording.now self.new.recording.now P W
             × ⟦<T as Written>⟧.did self.old.value.now self.new.value.now W)
@@ -245,7 +246,7 @@ impl<'a, 'b, T: Track> RecorderMut<'a, 'b, T> {
             (SpoiledAfter (Took T.Call.eq T.Call.touches) Spoiled self.old.recording.now self.new.recording.now)
             es')) }
     {
-        let reply = memoized_mut(
+        let reply = memoized_mut_with(
             self.alloc,
             cache,
             needs,
@@ -254,6 +255,7 @@ impl<'a, 'b, T: Track> RecorderMut<'a, 'b, T> {
             self.recording,
             true,
         )?;
+        // For the proof: its pairs are reads, and its writes are writes.
         self.recording.has_reads_and_writes();
         Ok(reply.output)
     }
@@ -372,7 +374,7 @@ fn run_recorded<M: FunctionMutOf<T>, T: Track>(
 ///
 /// A hit costs what `begin` costs, any other call what `begin`, the run and `finish` cost. This project's own: a call of
 /// a function under comemo's `#[memoize]` that takes a `TrackedMut`.
-pub fn memoized_mut<
+pub fn memoized_mut_with<
     M: FunctionMutOf<T>,
     H: Hold<M>,
     T: Track,
@@ -390,7 +392,7 @@ pub fn memoized_mut<
         → (writes : List T.Call) × M.def key (T.answers of.old) reply.output writes
         × ⟦<T as Written>⟧.did of.old of.new writes) }
     ensures reply { IfOk result (λ reply. HeldReplyMut ⟦<M as Meant>⟧.meaning T.Call.touches
-        (invocation key (T.answers of.old) enabled) (H.entries cache.old) (H.entries cache.old)
+        (invocation key (T.answers of.old) enabled) (H.entries cache.old)
         (λ late P W. ⟦<S as Breaking>⟧.took_as late sink.old sink.new P W
         × ⟦<T as Written>⟧.did of.old of.new W)
         reply (H.entries cache.new)) }
@@ -410,9 +412,12 @@ pub fn memoized_mut<
         (⟦<S as Breaking>⟧.breaks_off sink.old sink.new)
         (⟦<S as Breaking>⟧.spoiled_after sink.old sink.new) es')) }
 {
-    let mut input = KeyedMut { key, value: of };
+    let mut input = LentKeyMut {
+        key: &key,
+        value: of,
+    };
     let begun = begin(alloc, cache, &mut input, sink, enabled);
-    let KeyedMut { key, value } = input;
+    let LentKeyMut { key: _, value } = input;
     match begun {
         Ok(Begun::Hit(output)) => {
             return Ok(Reply {
@@ -427,4 +432,31 @@ pub fn memoized_mut<
         }
         Err(fault) => Err(fault),
     }
+}
+
+/// Calls a memoized function that writes and needs nothing, with no run around it: `memoized_mut_with` for the plain case.
+///
+/// Fails as `memoized_mut_with` fails, and then the same stands. It costs what that costs with a `Top` as its sink, which
+/// keeps nothing. This project's own: a call of a function under comemo's `#[memoize]` that takes a `TrackedMut`.
+pub fn memoized_mut<M: FunctionMutOf<T, Needs = ()>, H: Hold<M>, T: Track>(
+    alloc: Global,
+    cache: &mut H,
+    key: M::Key,
+    of: &mut T,
+) -> Result<Reply<M::Out>, Fault>
+    ensures right { IfOk result (λ reply. (reply.how ≡ How.Late → ⊥)
+        → (writes : List T.Call) × M.def key (T.answers of.old) reply.output writes
+        × ⟦<T as Written>⟧.did of.old of.new writes) }
+    ensures reply { IfOk result (λ reply. HeldReplyMut ⟦<M as Meant>⟧.meaning T.Call.touches
+        (invocation key (T.answers of.old) true) (H.entries cache.old)
+        (λ _ _ W. ⟦<T as Written>⟧.did of.old of.new W)
+        reply (H.entries cache.new)) }
+    ensures early { IfOk result (λ reply. NoneTouches T.Call.touches → reply.how ≡ How.Late → ⊥) }
+    ensures reached { Reaches ⟦<T as Written>⟧.did of.old of.new }
+    ensures err { OnErr result (Leads (H.entries cache.old) (H.entries cache.new) (λ es es'.
+        (es' ≡ es) ⊎ WasStopped ⟦<M as Meant>⟧.meaning es
+        (invocation key (T.answers of.old) true)
+        (⟦<T as Written>⟧.did of.old of.new) (λ _ _. ⊤) es')) }
+{
+    memoized_mut_with(alloc, cache, &mut (), key, of, &mut Top::new(), true)
 }

@@ -5,7 +5,7 @@
 //! call is answered from the cache, though more people live there now, and the third is not:
 //!
 //! ```rust
-//! use comemo::{CacheData, How, MemoOf, Top, Track, memoized};
+//! use comemo::{CacheData, How, MemoOf, Track, memoized};
 //! use comemo_samples::Town;
 //! use std::test::Fail;
 //!
@@ -19,8 +19,7 @@
 //!     ];
 //!     for (people, degrees, how) in calls {
 //!         let town = Town { people, degrees };
-//!         let view = town.track(alloc);
-//!         let reply = memoized(alloc, &mut cache, &mut (), (), &view, &mut Top::new(), true)?;
+//!         let reply = memoized(alloc, &mut cache, (), &town.track(alloc))?;
 //!         assert_eq!(rt; reply.output, degrees);
 //!         assert_eq!(rt; reply.how, how);
 //!     }
@@ -32,30 +31,28 @@
 //! `src/examples.rt`, where `Warmth` stands too; how such a function is written says `docs/GUIDE.md`.
 #![tactic(auto)]
 
-pub mod closure;
-pub mod function;
-pub mod function_mut;
-pub mod parts;
-pub mod parts_mut;
-pub mod pending;
-pub mod recursive;
-pub mod recursive_mut;
+mod closure;
+mod function;
+mod function_mut;
+pub mod internal;
+mod lent;
+mod parts;
+mod parts_mut;
+mod pending;
+mod recursive;
+mod recursive_mut;
 
-pub use closure::{Record, memoize};
-pub use comemo_base::{CallSequence, InsertError, Prehashed, SipHasher13, Tagged, hash, hash_any};
-pub use comemo_cache::{
-    Cache, CacheData, Caches, Evict, Evictor, Found, Hold, Meant, Memo, Peeked, Reads, Shared,
-    Step, StepReply, evictors, register_evictor,
-};
-pub use comemo_settled::{Asks, Keep, Settled, TreeOp, TreeReply};
+pub use closure::memoize;
+pub use comemo_base::{Prehashed, hash};
+pub use comemo_cache::{Cache, CacheData, Caches, Hold, Memo};
 pub use comemo_track::{
-    Accelerated, Both, BothMut, Breaking, Call, CallMap, Constraint, First, Hashed, Input, Keyed,
-    KeyedMut, MappedSink, Multi, MultiAnswer, MultiCall, ReadAndWrite, Second, Sink, Top, Track,
-    Tracked, TrackedMut, TrackedMutWith, TrackedWith, Written,
+    Both, BothMut, Call, Constraint, MultiAnswer, MultiCall, ReadAndWrite, Sink, Top, Track,
+    Tracked,
 };
-pub use comemo_tree::CallTree;
-pub use function::{Function, FunctionOf, MemoOf, Recorder, Told, called, memoized};
-pub use function_mut::{FunctionMut, FunctionMutOf, MemoOfMut, RecorderMut, ToldMut, memoized_mut};
-pub use pending::{Begun, Fault, How, Invoked, Pending, Reply, begin};
-pub use recursive::{Inner, MemoOfRecursive, ReadsAlone, Recursive, Start};
-pub use recursive_mut::{InnerMut, MemoOfRecursiveMut, RecursiveMut};
+pub use function::{Function, FunctionOf, MemoOf, Recorder, memoized, memoized_with};
+pub use function_mut::{
+    FunctionMut, FunctionMutOf, MemoOfMut, RecorderMut, memoized_mut, memoized_mut_with,
+};
+pub use pending::{Begun, Fault, How, Reply, begin};
+pub use recursive::{MemoOfRecursive, Recursive};
+pub use recursive_mut::{MemoOfRecursiveMut, RecursiveMut};

@@ -7,7 +7,7 @@ ghost use Rattle.comemo_track.specs.Sending.{Asks};
 ghost use Rattle.comemo_track.specs.Mapped.{Through};
 ghost use Rattle.comemo.specs.Function.{Tells, OnPart};
 
-use crate::function::{FunctionOf, Recorder, Told, memoized};
+use crate::function::{FunctionOf, Recorder, Told, memoized_with};
 use crate::pending::{Fault, Reply};
 use comemo_cache::cache::Meant;
 use comemo_cache::hold::Hold;
@@ -41,7 +41,7 @@ impl<'a, T: Track> Recorder<'a, T> {
             (λ part. G.def key part output [])) }
         ensures reply { IfOk result (λ output. (reply : Reply G.Out) × (reply.output ≡ output)
             × HeldReply ⟦<G as Meant>⟧.meaning
-            (invocation key (A.answers of.now) true) (H.entries cache.old) (H.entries cache.old)
+            (invocation key (A.answers of.now) true) (H.entries cache.old)
             (Through (P.maps map) (P.maps_answer map) (⟦<T as Told>⟧.took self.old self.new))
             reply (H.entries cache.new)) }
         ensures err { OnErr result (Stays (H.entries cache.old) (H.entries cache.new)
@@ -49,7 +49,7 @@ impl<'a, T: Track> Recorder<'a, T> {
     {
         let alloc = self.alloc;
         let mut sink = MappedSink::new(&mut self.recording, map);
-        let reply = memoized(alloc, cache, needs, key, of, &mut sink, true)?;
+        let reply = memoized_with(alloc, cache, needs, key, of, &mut sink, true)?;
         Ok(reply.output)
     }
 }
@@ -111,7 +111,7 @@ impl<'a, 'b, A: Track, B: Track> Recorder<'a, Both<'b, A, B>> {
         ensures reply { IfOk result (λ output. (reply : Reply G.Out) × (reply.output ≡ output)
             × HeldReply ⟦<G as Meant>⟧.meaning
             (invocation key (A.answers self.old.value.first) true)
-            (H.entries cache.old) (H.entries cache.old)
+            (H.entries cache.old)
             (Through first_call first_answer
             (⟦<Both<'b, A, B> as Told>⟧.took self.old self.new)) reply (H.entries cache.new)) }
         ensures err { OnErr result (Stays (H.entries cache.old) (H.entries cache.new)
@@ -134,7 +134,7 @@ impl<'a, 'b, A: Track, B: Track> Recorder<'a, Both<'b, A, B>> {
         ensures reply { IfOk result (λ output. (reply : Reply G.Out) × (reply.output ≡ output)
             × HeldReply ⟦<G as Meant>⟧.meaning
             (invocation key (B.answers self.old.value.second) true)
-            (H.entries cache.old) (H.entries cache.old)
+            (H.entries cache.old)
             (Through second_call second_answer
             (⟦<Both<'b, A, B> as Told>⟧.took self.old self.new)) reply (H.entries cache.new)) }
         ensures err { OnErr result (Stays (H.entries cache.old) (H.entries cache.new)

@@ -9,8 +9,8 @@ ghost use Rattle.comemo_track.specs.Mapped.{Through, mapped_pairs};
 ghost use Rattle.comemo_track.specs.Recording.{Spoiled, MarkedLate};
 ghost use Rattle.comemo_track.specs.Sending.{Asks, BreaksOff, SpoiledAfter, TookAs};
 
-use crate::function::{FunctionOf, Told, memoized};
-use crate::function_mut::{FunctionMutOf, RecorderMut, ToldMut, memoized_mut};
+use crate::function::{FunctionOf, Told, memoized_with};
+use crate::function_mut::{FunctionMutOf, RecorderMut, ToldMut, memoized_mut_with};
 use crate::pending::{Fault, Reply};
 use comemo_cache::cache::Meant;
 use comemo_cache::hold::Hold;
@@ -117,8 +117,8 @@ impl<'a, 'b, 'c, A: Track, B: Track> RecorderMut<'a, 'b, ReadAndWrite<'c, A, B>>
 
     /// Calls a memoized function of the first value, which only reads, and records its calls.
     ///
-    /// Fails if `memoized` fails. The cache of the called function is unchanged then, and the recording is spoiled, so
-    /// the run can't be finished. It costs what `memoized` costs.
+    /// Fails if `memoized_with` fails. The cache of the called function is unchanged then, and the recording is spoiled, so
+    /// the run can't be finished. It costs what `memoized_with` costs.
     pub fn call_first<G: FunctionOf<A>, H: Hold<G>>(
         &mut self,
         cache: &mut H,
@@ -139,7 +139,7 @@ impl<'a, 'b, 'c, A: Track, B: Track> RecorderMut<'a, 'b, ReadAndWrite<'c, A, B>>
         ensures reply { IfOk result (λ output. (reply : Reply G.Out) × (reply.output ≡ output)
             × HeldReply ⟦<G as Meant>⟧.meaning
             (invocation key (A.answers self.old.value.now.first) true)
-            (H.entries cache.old) (H.entries cache.old)
+            (H.entries cache.old)
             (Through first_call first_answer (⟦<ReadAndWrite<'c, A, B> as ToldMut>⟧.took
             self.old.recording.now self.new.recording.now)) reply (H.entries cache.new)) }
         ensures err { OnErr result (Stays (H.entries cache.old) (H.entries cache.new)
@@ -149,16 +149,17 @@ impl<'a, 'b, 'c, A: Track, B: Track> RecorderMut<'a, 'b, ReadAndWrite<'c, A, B>>
     {
         let view = self.value.first.fork(self.alloc);
         let mut sink = MappedSink::new(&mut *self.recording, First::new());
-        let reply = memoized(self.alloc, cache, needs, key, &view, &mut sink, true)?;
+        let reply = memoized_with(self.alloc, cache, needs, key, &view, &mut sink, true)?;
         drop(sink);
+        // For the proof: its pairs are reads, and its writes are writes.
         self.recording.has_reads_and_writes();
         Ok(reply.output)
     }
 
     /// Calls a memoized function of the second value, which may write, and records its calls and writes.
     ///
-    /// Fails if `memoized_mut` fails. The recording is spoiled then, so the run can't be finished. The writes that were
-    /// done before the failure stay done. It costs what `memoized_mut` costs.
+    /// Fails if `memoized_mut_with` fails. The recording is spoiled then, so the run can't be finished. The writes that were
+    /// done before the failure stay done. It costs what `memoized_mut_with` costs.
     pub fn call_mut_second<G: FunctionMutOf<B>, H: Hold<G>>(
         &mut self,
         cache: &mut H,
@@ -177,7 +178,7 @@ impl<'a, 'b, 'c, A: Track, B: Track> RecorderMut<'a, 'b, ReadAndWrite<'c, A, B>>
         ensures reply { IfOk result (λ output. (reply : Reply G.Out) × (reply.output ≡ output)
             × HeldReplyMut ⟦<G as Meant>⟧.meaning B.Call.touches
             (invocation key (B.answers self.old.value.now.second.now) true)
-            (H.entries cache.old) (H.entries cache.old)
+            (H.entries cache.old)
             (λ late. Through second_call second_answer (λ P W.
             TookAs ⟦<ReadAndWrite<'c, A, B> as ToldMut>⟧.took MarkedLate late
             self.old.recording.now self.new.recording.now P W
@@ -198,7 +199,7 @@ impl<'a, 'b, 'c, A: Track, B: Track> RecorderMut<'a, 'b, ReadAndWrite<'c, A, B>>
     {
         let value = &mut *self.value;
         let mut sink = MappedSink::new(&mut *self.recording, Second::new());
-        let reply = memoized_mut(
+        let reply = memoized_mut_with(
             self.alloc,
             cache,
             needs,
@@ -208,6 +209,7 @@ impl<'a, 'b, 'c, A: Track, B: Track> RecorderMut<'a, 'b, ReadAndWrite<'c, A, B>>
             true,
         )?;
         drop(sink);
+        // For the proof: its pairs are reads, and its writes are writes.
         self.recording.has_reads_and_writes();
         Ok(reply.output)
     }

@@ -4,11 +4,11 @@ ghost use Rattle.std.specs.Prelude.{◌≡◌, ◌≤◌, [], ◌∷◌, ◌++�
 ghost use Rattle.std.specs.List.{All};
 ghost use Rattle.comemo_base.specs.Tree.{IsSamePath};
 ghost use Rattle.comemo_cache.specs.Meaning.{Invocation, SameWrites, IsNamedRun, exactly, invocation, run};
-ghost use Rattle.comemo_cache.specs.Cache.{Stands, HasNone, Touches};
+ghost use Rattle.comemo_cache.specs.Cache.{Stands, HasNone};
 ghost use Rattle.comemo_cache.specs.Found.{TouchesFound};
 ghost use Rattle.comemo_tree.specs.Change.{HasAnswers};
-ghost use Rattle.comemo.specs.Begin.{Reaches, HasToRun, IsHit, IsRun, IsBrokenOff, IsStopped, came_to};
-ghost use Rattle.comemo.specs.Begun.{OnBegun, OnFault, OnLooked};
+ghost use Rattle.comemo.specs.Begin.{Reaches, HasToRun, IsRun, came_to};
+ghost use Rattle.comemo.specs.Begun.{OnBegun, OnFault, BeganByHit, FailedToBegin};
 ghost use Rattle.comemo.specs.Finish.{Ends, Gives, Finished, BreaksOffRun};
 ghost use Rattle.comemo_cache.specs.Held.{Held, Leads, Stays};
 
@@ -78,14 +78,14 @@ pub struct Reply<Out> {
     pub how: How,
 }
 
-/// How a call of a memoized function began.
+/// How a call of a memoized function began: by a hit, or by a run that is to be done.
 ///
 /// This project's own.
-pub enum Begun<M: Memo> {
+pub enum Begun<Out, Run> {
     /// An entry agreed: its output.
-    Hit(M::Out),
-    /// None did: the run that is to be done.
-    Run(Pending<M>),
+    Hit(Out),
+    /// None did, or none was looked for: the run.
+    Run(Run),
 }
 
 /// A call at an input, as one value, for contracts to cite: `⟦<In as Invoked>⟧.invoked`.
@@ -653,23 +653,18 @@ fn look_hit<
     requires { IsTrue (M.Key.eq (In.key_of input.now) key.now) }
     ensures hit { IfOk result (λ found. IfSome found (λ output.
         (s : In) → In.did s input.old []
-        → Leads (H.entries cache.old) (H.entries cache.new) (λ es es'.
-        IsHit ⟦<M as Meant>⟧.meaning es (⟦<In as Invoked>⟧.invoked s true)
-        (In.did s input.new) (S.took sink.old sink.new) output
-        × Touches ⟦<M as Meant>⟧.meaning es (⟦<In as Invoked>⟧.invoked s true) es'))) }
+        → BeganByHit ⟦<M as Meant>⟧.meaning (⟦<In as Invoked>⟧.invoked s true)
+        (H.entries cache.old) (In.did s input.new) (S.took sink.old sink.new)
+        output (H.entries cache.new))) }
     ensures none { IfOk result (λ found. IfNone found (Held (H.entries cache.old) (λ es.
         HasNone ⟦<M as Meant>⟧.meaning es (⟦<In as Invoked>⟧.invoked input.old true))
         × In.did input.old input.new [] × (sink.new ≡ sink.old)
         × Stays (H.entries cache.old) (H.entries cache.new))) }
-    ensures err { IfErr result (λ fault. (s : In) → In.did s input.old [] → OnFault fault
-        (Stays (H.entries cache.old) (H.entries cache.new) × In.did s input.new []
-        × Held (H.entries cache.old) (λ es. IsBrokenOff ⟦<M as Meant>⟧.meaning es
-        (⟦<In as Invoked>⟧.invoked s true)
-        (⟦<S as Breaking>⟧.breaks_off sink.old sink.new)))
-        (Leads (H.entries cache.old) (H.entries cache.new) (λ es es'.
-        Touches ⟦<M as Meant>⟧.meaning es (⟦<In as Invoked>⟧.invoked s true) es'
-        × IsStopped ⟦<M as Meant>⟧.meaning es (⟦<In as Invoked>⟧.invoked s true)
-        (In.did s input.new) (⟦<S as Breaking>⟧.spoiled_after sink.old sink.new)))) }
+    ensures err { IfErr result (λ fault. (s : In) → In.did s input.old []
+        → FailedToBegin ⟦<M as Meant>⟧.meaning
+        (⟦<In as Invoked>⟧.invoked s true) (H.entries cache.old) (In.did s input.new)
+        (⟦<S as Breaking>⟧.breaks_off sink.old sink.new)
+        (⟦<S as Breaking>⟧.spoiled_after sink.old sink.new) fault (H.entries cache.new)) }
 {
     match cache.look(key, input) {
         Ok(Some(found)) => {
@@ -702,24 +697,18 @@ fn find_hit<
 ) -> Result<Option<M::Out>, Fault>
     requires { IsTrue (M.Key.eq (In.key_of input.now) key.now) }
     ensures hit { IfOk result (λ found. IfSome found (λ output.
-        Leads (H.entries cache.old) (H.entries cache.new) (λ es es'.
-        IsHit ⟦<M as Meant>⟧.meaning es (⟦<In as Invoked>⟧.invoked input.old true)
-        (In.did input.old input.new) (S.took sink.old sink.new) output
-        × Touches ⟦<M as Meant>⟧.meaning es
-        (⟦<In as Invoked>⟧.invoked input.old true) es'))) }
+        BeganByHit ⟦<M as Meant>⟧.meaning (⟦<In as Invoked>⟧.invoked input.old true)
+        (H.entries cache.old) (In.did input.old input.new) (S.took sink.old sink.new)
+        output (H.entries cache.new))) }
     ensures none { IfOk result (λ found. IfNone found (Held (H.entries cache.old) (λ es.
         HasNone ⟦<M as Meant>⟧.meaning es (⟦<In as Invoked>⟧.invoked input.old true))
         × In.did input.old input.new [] × (sink.new ≡ sink.old)
         × Stays (H.entries cache.old) (H.entries cache.new))) }
-    ensures err { IfErr result (λ fault. OnFault fault
-        (Stays (H.entries cache.old) (H.entries cache.new) × In.did input.old input.new []
-        × Held (H.entries cache.old) (λ es. IsBrokenOff ⟦<M as Meant>⟧.meaning es
-        (⟦<In as Invoked>⟧.invoked input.old true)
-        (⟦<S as Breaking>⟧.breaks_off sink.old sink.new)))
-        (Leads (H.entries cache.old) (H.entries cache.new) (λ es es'.
-        Touches ⟦<M as Meant>⟧.meaning es (⟦<In as Invoked>⟧.invoked input.old true) es'
-        × IsStopped ⟦<M as Meant>⟧.meaning es (⟦<In as Invoked>⟧.invoked input.old true)
-        (In.did input.old input.new) (⟦<S as Breaking>⟧.spoiled_after sink.old sink.new)))) }
+    ensures err { IfErr result (λ fault. FailedToBegin ⟦<M as Meant>⟧.meaning
+        (⟦<In as Invoked>⟧.invoked input.old true) (H.entries cache.old)
+        (In.did input.old input.new)
+        (⟦<S as Breaking>⟧.breaks_off sink.old sink.new)
+        (⟦<S as Breaking>⟧.spoiled_after sink.old sink.new) fault (H.entries cache.new)) }
 {
     if !sink.keeps_nothing() {
         return look_hit(alloc, cache, key, input, sink);
@@ -739,14 +728,6 @@ fn find_hit<
     Ok(Some(output))
 }
 
-/// What a look-up for a call came to.
-pub(crate) enum Looked<Out, Key> {
-    /// An entry agreed: its output.
-    Hit(Out),
-    /// None did, or none was looked for: the key of the run that is to be done.
-    Run(Key),
-}
-
 /// Looks for an entry that agrees, and gives its output as a hit does; or gives the key of a run that is to be done.
 ///
 /// It is what `begin` does before it makes a recording, for which a call that hits needs no room.
@@ -761,40 +742,34 @@ pub(crate) fn look_up<
     input: &mut In,
     sink: &mut S,
     enabled: bool,
-) -> Result<Looked<M::Out, M::Key>, Fault>
-    ensures hit { IfOk result (λ l. OnLooked l
-        (λ output. Leads (H.entries cache.old) (H.entries cache.new) (λ es es'.
-        IsHit ⟦<M as Meant>⟧.meaning es (⟦<In as Invoked>⟧.invoked input.old enabled)
-        (In.did input.old input.new) (S.took sink.old sink.new) output
-        × Touches ⟦<M as Meant>⟧.meaning es
-        (⟦<In as Invoked>⟧.invoked input.old enabled) es'))
+) -> Result<Begun<M::Out, M::Key>, Fault>
+    ensures hit { IfOk result (λ b. OnBegun b
+        (λ output. BeganByHit ⟦<M as Meant>⟧.meaning (⟦<In as Invoked>⟧.invoked input.old enabled)
+        (H.entries cache.old) (In.did input.old input.new) (S.took sink.old sink.new)
+        output (H.entries cache.new))
         (λ _. ⊤)) }
-    ensures run { IfOk result (λ l. OnLooked l (λ _. ⊤)
+    ensures run { IfOk result (λ b. OnBegun b (λ _. ⊤)
         (λ own. Held (H.entries cache.old) (λ es.
         HasToRun ⟦<M as Meant>⟧.meaning es (⟦<In as Invoked>⟧.invoked input.old enabled) own)
         × In.did input.old input.new [] × (sink.new ≡ sink.old)
         × Stays (H.entries cache.old) (H.entries cache.new))) }
     ensures reached { Reaches In.did input.old input.new }
-    ensures err { IfErr result (λ fault. OnFault fault
-        (Stays (H.entries cache.old) (H.entries cache.new) × In.did input.old input.new []
-        × Held (H.entries cache.old) (λ es. IsBrokenOff ⟦<M as Meant>⟧.meaning es
-        (⟦<In as Invoked>⟧.invoked input.old enabled)
-        (⟦<S as Breaking>⟧.breaks_off sink.old sink.new)))
-        (Leads (H.entries cache.old) (H.entries cache.new) (λ es es'.
-        Touches ⟦<M as Meant>⟧.meaning es (⟦<In as Invoked>⟧.invoked input.old enabled) es'
-        × IsStopped ⟦<M as Meant>⟧.meaning es (⟦<In as Invoked>⟧.invoked input.old enabled)
-        (In.did input.old input.new) (⟦<S as Breaking>⟧.spoiled_after sink.old sink.new)))) }
+    ensures err { IfErr result (λ fault. FailedToBegin ⟦<M as Meant>⟧.meaning
+        (⟦<In as Invoked>⟧.invoked input.old enabled) (H.entries cache.old)
+        (In.did input.old input.new)
+        (⟦<S as Breaking>⟧.breaks_off sink.old sink.new)
+        (⟦<S as Breaking>⟧.spoiled_after sink.old sink.new) fault (H.entries cache.new)) }
 {
     let Ok(key) = input.key() else {
         sink.spoil();
         return Err(Fault::Memory);
     };
     if !enabled {
-        return Ok(Looked::Run(key));
+        return Ok(Begun::Run(key));
     }
     match find_hit(alloc, cache, &key, input, sink) {
-        Ok(Some(output)) => Ok(Looked::Hit(output)),
-        Ok(None) => Ok(Looked::Run(key)),
+        Ok(Some(output)) => Ok(Begun::Hit(output)),
+        Ok(None) => Ok(Begun::Run(key)),
         Err(fault) => Err(fault),
     }
 }
@@ -825,13 +800,11 @@ pub fn begin<
     input: &mut In,
     sink: &mut S,
     enabled: bool,
-) -> Result<Begun<M>, Fault>
+) -> Result<Begun<M::Out, Pending<M>>, Fault>
     ensures hit { IfOk result (λ b. OnBegun b
-        (λ output. Leads (H.entries cache.old) (H.entries cache.new) (λ es es'.
-        IsHit ⟦<M as Meant>⟧.meaning es (⟦<In as Invoked>⟧.invoked input.old enabled)
-        (In.did input.old input.new) (S.took sink.old sink.new) output
-        × Touches ⟦<M as Meant>⟧.meaning es
-        (⟦<In as Invoked>⟧.invoked input.old enabled) es'))
+        (λ output. BeganByHit ⟦<M as Meant>⟧.meaning (⟦<In as Invoked>⟧.invoked input.old enabled)
+        (H.entries cache.old) (In.did input.old input.new) (S.took sink.old sink.new)
+        output (H.entries cache.new))
         (λ _. ⊤)) }
     ensures run { IfOk result (λ b. OnBegun b (λ _. ⊤)
         (λ run. Held (H.entries cache.old) (λ es.
@@ -839,20 +812,16 @@ pub fn begin<
         × In.did input.old input.new [] × (sink.new ≡ sink.old)
         × Stays (H.entries cache.old) (H.entries cache.new))) }
     ensures reached { Reaches In.did input.old input.new }
-    ensures err { IfErr result (λ fault. OnFault fault
-        (Stays (H.entries cache.old) (H.entries cache.new) × In.did input.old input.new []
-        × Held (H.entries cache.old) (λ es. IsBrokenOff ⟦<M as Meant>⟧.meaning es
-        (⟦<In as Invoked>⟧.invoked input.old enabled)
-        (⟦<S as Breaking>⟧.breaks_off sink.old sink.new)))
-        (Leads (H.entries cache.old) (H.entries cache.new) (λ es es'.
-        Touches ⟦<M as Meant>⟧.meaning es (⟦<In as Invoked>⟧.invoked input.old enabled) es'
-        × IsStopped ⟦<M as Meant>⟧.meaning es (⟦<In as Invoked>⟧.invoked input.old enabled)
-        (In.did input.old input.new) (⟦<S as Breaking>⟧.spoiled_after sink.old sink.new)))) }
+    ensures err { IfErr result (λ fault. FailedToBegin ⟦<M as Meant>⟧.meaning
+        (⟦<In as Invoked>⟧.invoked input.old enabled) (H.entries cache.old)
+        (In.did input.old input.new)
+        (⟦<S as Breaking>⟧.breaks_off sink.old sink.new)
+        (⟦<S as Breaking>⟧.spoiled_after sink.old sink.new) fault (H.entries cache.new)) }
 {
     // A hit returns at once: as the value of the match it would be moved with the room of a `Pending`.
     match look_up(alloc, cache, input, sink, enabled) {
-        Ok(Looked::Hit(output)) => return Ok(Begun::Hit(output)),
-        Ok(Looked::Run(key)) => Ok(Begun::Run(Pending {
+        Ok(Begun::Hit(output)) => return Ok(Begun::Hit(output)),
+        Ok(Begun::Run(key)) => Ok(Begun::Run(Pending {
             alloc,
             key,
             enabled,

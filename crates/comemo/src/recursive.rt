@@ -1,21 +1,18 @@
 //! Memoized functions that call themselves: a call by hand, for a recorder.
 ghost use Rattle.std.specs.Prelude.{◌≡◌, ◌↔◌, [], true, false, List, IsTrue, refl, IfOk, IfErr, OnErr, ⊤};
-ghost use Rattle.std.proofs.Common.{◌∙◌, ap};
 ghost use Rattle.comemo.specs.Called.{HeldReply};
 ghost use Rattle.comemo_cache.specs.Meaning.{IsNamedRun, reading, invocation, run};
 ghost use Rattle.comemo.specs.MeaningLaws.{none_alike};
 ghost use Rattle.comemo_cache.specs.Held.{Held, Leads, Stays};
 ghost use Rattle.comemo.specs.Function.{Laws};
-ghost use Rattle.comemo.specs.Recursive.{TellsOwn, TellsFrom, OnStarted, Starts, FinishedAs};
-ghost use Rattle.comemo_track.specs.InputLaws.{equal_if_one};
+ghost use Rattle.comemo.specs.Recursive.{TellsOwn, TellsFrom, OnCallBegun, Starts, FinishedAs};
 
 use crate::function::{Recorder, Told};
-use crate::pending::{Begun, Fault, How, Pending, Reply, begin};
+use crate::lent::LentKey;
+use crate::pending::{Begun, Fault, How, Pending, Reply, look_up};
 use comemo_cache::cache::{Meant, Memo};
 use comemo_cache::hold::Hold;
-use comemo_track::input::Input;
-use comemo_track::track::{Call, Track, Tracked};
-use std::alloc::AllocError;
+use comemo_track::track::{Call, Track};
 use std::hash::Hash;
 use std::marker::PhantomData;
 
@@ -34,7 +31,7 @@ pub trait ReadsAlone: Memo {
 
 /// A memoized function that calls itself through its own cache: what it means, of a key and a tracked value.
 ///
-/// It is a `Function` without a run, which is an ordinary function of the user's, from `Recorder::start` to
+/// It is a `Function` without a run, which is an ordinary function of the user's, from `Recorder::begin` to
 /// `Recorder::finish`. This project's own: in comemo it is a function like any.
 pub trait Recursive {
     /// What isn't tracked of the arguments: what a call is kept under.
@@ -88,16 +85,6 @@ impl<F: Recursive> ReadsAlone for MemoOfRecursive<F> {
     ghost reads = { λ key m output writes. (λ right. right, λ right. right) };
 }
 
-/// How a call by hand started.
-///
-/// This project's own.
-pub enum Start<Out, Run> {
-    /// An entry agreed: its output.
-    Hit(Out),
-    /// None did: the run that is to be done.
-    Run(Run),
-}
-
 /// A run within a run, with a recorder of its own.
 ///
 /// Where it is dropped, as by `?`, nothing is kept, and the run around it is told nothing. This project's own.
@@ -106,78 +93,32 @@ pub struct Inner<'a, K, T: Track> {
     /// What the run asks through.
     pub recorder: Recorder<'a, T>,
     /// A clone of the key, for the cache.
-    pub(crate) own: K,
-}
-
-/// A key that is lent, and a view.
-#[derive(Drop)]
-struct LentKey<'a, 'b, K: Clone + Eq + Hash, T> {
-    key: &'b K,
-    view: Tracked<'a, T>,
-    // a clone of a key is equal
-    ghost clones: { (x y : K) → K.is_clone x y → IsTrue (K.eq x y) },
-}
-
-impl<'a, 'b, K: Clone + Eq + Hash, T: Track> Input for LentKey<'a, 'b, K, T> {
-    type Call = T::Call;
-
-    type Key = K;
-
-    type Answer = T::Answer;
-
-    ghost key_of = { λ s. s.key.now };
-
-    ghost answers = { λ s. T.answers s.view };
-
-    ghost did = { λ s t _. (t.key.now ≡ s.key.now) × (t.view ≡ s.view) };
-
-    ghost alike = { λ s. T.alike s.view };
-
-    ghost starts = { λ s. (refl, refl) };
-
-    ghost joins = { λ s t u V W a b. (b.0 ∙ a.0, b.1 ∙ a.1) };
-
-    ghost keeps = { λ s t W a call reads un. equal_if_one T.Answer.Eq.laws _ _
-        (ap (λ view. T.answers view call) a.1) };
-
-    ghost keeps_key = { λ s t W a. equal_if_one K.Eq.laws _ _ a.0 };
-
-    fn key(&self) -> Result<K, AllocError> {
-        self.key.clone()
-    }
-
-    fn call(&mut self, call: &T::Call) -> Result<T::Answer, AllocError> {
-        self.view.call(call)
-    }
-
-    fn call_mut(&mut self, _call: &T::Call) -> Result<(), AllocError> {
-        Ok(())
-    }
+    pub own: K,
 }
 
 impl<'a, T: Track> Recorder<'a, T> {
-    /// Starts a call of a memoized function: gives the output that its cache keeps where an entry agrees, or a run to
+    /// Begins a call of a memoized function: gives the output that its cache keeps where an entry agrees, or a run to
     /// be done.
     ///
     /// On a hit this recorder takes what the entry rests on. A run has a recorder of its own, of the same value, and
     /// this one takes nothing yet. The one fault is `Memory`: then the cache is as it was, and this recording is
     /// spoiled. It costs what `begin` costs, with a clone of the key, also for a hit. This project's own: the first half of
     /// a call of a function under comemo's `#[memoize]`.
-    pub fn start<G: ReadsAlone<Call = T::Call, Answer = T::Answer>, H: Hold<G>>(
+    pub fn begin<G: ReadsAlone<Call = T::Call, Answer = T::Answer>, H: Hold<G>>(
         &mut self,
         cache: &mut H,
         key: &G::Key,
-    ) -> Result<Start<G::Out, Inner<'a, G::Key, T>>, Fault>
-        ensures tells { OnStarted result (λ reply. TellsOwn ⟦<T as Told>⟧.fits
+    ) -> Result<Begun<G::Out, Inner<'a, G::Key, T>>, Fault>
+        ensures tells { OnCallBegun result (λ reply. TellsOwn ⟦<T as Told>⟧.fits
             self.old self.new reply (λ output m. G.means key.now m output))
             (λ _. TellsFrom ⟦<T as Told>⟧.fits
             self.old self.new (λ output m. G.means key.now m output)) }
-        ensures hit { OnStarted result (λ told. IfOk told (λ output.
+        ensures hit { OnCallBegun result (λ told. IfOk told (λ output.
             (reply : Reply G.Out) × (reply.output ≡ output) × (reply.how ≡ How.Hit)
             × HeldReply ⟦<G as Meant>⟧.meaning (invocation key.now (T.answers self.old.value) true)
-            (H.entries cache.old) (H.entries cache.old)
+            (H.entries cache.old)
             (⟦<T as Told>⟧.took self.old self.new) reply (H.entries cache.new))) (λ _. ⊤) }
-        ensures run { OnStarted result (λ _. ⊤)
+        ensures run { OnCallBegun result (λ _. ⊤)
             (λ inner. Held (H.entries cache.old) (λ es. Starts ⟦<G as Meant>⟧.meaning es
             (invocation key.now (T.answers self.old.value) true) self.old inner.own
             inner.recorder) × (self.new ≡ self.old)
@@ -191,24 +132,18 @@ impl<'a, T: Track> Recorder<'a, T> {
             key,
             view: self.view.fork(alloc),
         };
-        let pending = match begin(alloc, cache, &mut input, &mut self.recording, true) {
-            Ok(Begun::Hit(output)) => return Ok(Start::Hit(output)),
-            Ok(Begun::Run(pending)) => pending,
+        let own = match look_up(alloc, cache, &mut input, &mut self.recording, true) {
+            Ok(Begun::Hit(output)) => return Ok(Begun::Hit(output)),
+            Ok(Begun::Run(own)) => own,
             Err(fault) => return Err(fault),
         };
-        let Pending {
-            alloc: _,
-            key: own,
-            enabled: _,
-            recording: _,
-        } = pending;
-        Ok(Start::Run(Inner {
+        Ok(Begun::Run(Inner {
             recorder: Recorder::new(alloc, self.view.fork(alloc)),
             own,
         }))
     }
 
-    /// Finishes a run that was started here, with its output, and keeps it.
+    /// Finishes a run that was begun here, with its output, and keeps it.
     ///
     /// The output has to be right for all answers that agree with what the run recorded, of which nothing may be lost.
     /// This recorder takes what the run recorded. The one fault is `Memory`: then the cache is as it was, and this
@@ -242,7 +177,7 @@ impl<'a, T: Track> Recorder<'a, T> {
         Ok(reply.output)
     }
 
-    /// Finishes a run that was started here, as `finish` does, and gives its reply: whether it was stored, or why not.
+    /// Finishes a run that was begun here, as `finish` does, and gives its reply: whether it was stored, or why not.
     ///
     /// A fault is as of `finish`, and it costs the same.
     pub fn finish_reply<G: ReadsAlone<Call = T::Call, Answer = T::Answer>, H: Hold<G>>(

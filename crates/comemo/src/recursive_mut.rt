@@ -1,36 +1,31 @@
 //! Memoized functions that call themselves and write: a call by hand, for a recorder that writes.
 ghost use Rattle.std.specs.Prelude.{◌≡◌, ◌↔◌, [], true, false, List, IsTrue, refl, IfOk, IfErr, OnErr, ⊤};
-ghost use Rattle.std.proofs.Common.{◌∙◌};
 ghost use Rattle.comemo.specs.Called.{HeldReply};
 ghost use Rattle.comemo.specs.Begun.{OnFault};
 ghost use Rattle.comemo.specs.Finish.{BreaksOffRun, BrokeOff};
 ghost use Rattle.comemo.specs.FunctionMut.{Lent, LawsMut, TellsWrites, WasStopped, lent};
-ghost use Rattle.comemo.specs.Recursive.{OnStarted, FinishedAs};
+ghost use Rattle.comemo.specs.Recursive.{OnCallBegun, FinishedAs};
 ghost use Rattle.comemo.specs.RecursiveMut.{IsEmpty, Within, StartsMut};
 ghost use Rattle.comemo_cache.specs.Meaning.{IsNamedRun, invocation, run};
 ghost use Rattle.comemo_cache.specs.Held.{Held, Leads, Stays};
-ghost use Rattle.comemo_track.specs.InputLaws.{equal_if_one};
 ghost use Rattle.comemo_track.specs.Recording.{Took, Spoiled, MarkedLate};
 ghost use Rattle.comemo_track.specs.Sending.{BreaksOff, SpoiledAfter, TookAs};
-ghost use Rattle.comemo_track.specs.WritingLaws.{done_both, done_keeps};
 
 use crate::function::Told;
 use crate::function_mut::{RecorderMut, ToldMut};
-use crate::pending::{Begun, Fault, How, Pending, Reply, begin};
-use crate::recursive::Start;
+use crate::lent::LentKeyMut;
+use crate::pending::{Begun, Fault, How, Pending, Reply, look_up};
 use comemo_cache::cache::{Meant, Memo};
 use comemo_cache::hold::Hold;
 use comemo_track::constraint::Constraint;
-use comemo_track::input::Input;
 use comemo_track::track::{Call, Track, Written};
-use std::alloc::AllocError;
 use std::hash::Hash;
 use std::marker::PhantomData;
 use std::mem;
 
 /// A memoized function that calls itself through its own cache, and writes: what it means, of a key and a tracked value.
 ///
-/// It is a `FunctionMut` without a run, which is an ordinary function of the user's, between `RecorderMut::start` and
+/// It is a `FunctionMut` without a run, which is an ordinary function of the user's, between `RecorderMut::begin` and
 /// `RecorderMut::finish`. This project's own: in comemo it is a function like any.
 pub trait RecursiveMut {
     /// What isn't tracked of the arguments: what a call is kept under.
@@ -83,65 +78,13 @@ impl<F: RecursiveMut> Memo for MemoOfRecursiveMut<F> {
 /// It can't be dropped: a run that failed is finished too, with its fault. This project's own.
 pub struct InnerMut<K, T: Track> {
     /// A clone of the key, for the cache.
-    pub(crate) own: K,
+    pub own: K,
     /// The recording of the run around this one.
-    pub(crate) around: Constraint<T::Call, T::Answer>,
-}
-
-/// A key that is lent, and a tracked value that is lent to be written.
-#[derive(Drop)]
-struct LentKeyMut<'a, 'b, K: Clone + Eq + Hash, T> {
-    key: &'b K,
-    value: &'a mut T,
-    // a clone of a key is equal
-    ghost clones: { (x y : K) → K.is_clone x y → IsTrue (K.eq x y) },
-}
-
-impl<'a, 'b, K: Clone + Eq + Hash, T: Track> Input for LentKeyMut<'a, 'b, K, T> {
-    type Call = T::Call;
-
-    type Key = K;
-
-    type Answer = T::Answer;
-
-    ghost key_of = { λ s. s.key.now };
-
-    ghost answers = { λ s. T.answers s.value.now };
-
-    ghost did = { λ s t W. ⟦<T as Written>⟧.did s.value.now t.value.now W
-        × (t.value.ghost_name ≡ s.value.ghost_name) × (t.key.now ≡ s.key.now) };
-
-    ghost alike = { λ s. T.alike s.value.now };
-
-    ghost starts = { λ s. (refl, refl, refl) };
-
-    ghost joins = { λ s t u V W a b. (
-      done_both T.wrote T.Call.is_write T.Call.touches T.Answer.eq T.answers
-          s.value.now t.value.now u.value.now V W a.0 b.0,
-      b.1 ∙ a.1,
-      b.2 ∙ a.2,
-    ) };
-
-    ghost keeps = { λ s t W a. done_keeps T.wrote T.Call.is_write T.Call.touches
-        T.Answer.eq T.answers T.Answer.Eq.laws s.value.now t.value.now W a.0 };
-
-    ghost keeps_key = { λ s t W a. equal_if_one K.Eq.laws _ _ a.2 };
-
-    fn key(&self) -> Result<K, AllocError> {
-        self.key.clone()
-    }
-
-    fn call(&mut self, call: &T::Call) -> Result<T::Answer, AllocError> {
-        self.value.ask(call)
-    }
-
-    fn call_mut(&mut self, call: &T::Call) -> Result<(), AllocError> {
-        T::call_mut(self.value, call)
-    }
+    pub around: Constraint<T::Call, T::Answer>,
 }
 
 impl<'a, 'b, T: Track> RecorderMut<'a, 'b, T> {
-    /// Starts a call of a memoized function that writes: gives the output that its cache keeps where an entry agrees, and
+    /// Begins a call of a memoized function that writes: gives the output that its cache keeps where an entry agrees, and
     /// does its writes again, or a run to be done.
     ///
     /// On a hit this recorder takes what the entry rests on, and its writes. For a run it records what the run does, from
@@ -149,30 +92,30 @@ impl<'a, 'b, T: Track> RecorderMut<'a, 'b, T> {
     /// after `Memory` the cache and the value are as they were, after `Write` the value refused a write of a hit, and those
     /// before it are done. It costs what `begin` costs, with a clone of the key, also
     /// for a hit. This project's own: the first half of a call of a function under comemo's `#[memoize]`.
-    pub fn start<G: Memo<Call = T::Call, Answer = T::Answer>, H: Hold<G>>(
+    pub fn begin<G: Memo<Call = T::Call, Answer = T::Answer>, H: Hold<G>>(
         &mut self,
         cache: &mut H,
         key: &G::Key,
-    ) -> Result<Start<G::Out, InnerMut<G::Key, T>>, Fault>
+    ) -> Result<Begun<G::Out, InnerMut<G::Key, T>>, Fault>
         requires agrees { ⟦<T as ToldMut>⟧.agrees (lent self.old.value self.old.recording) }
         ensures agrees { ⟦<T as ToldMut>⟧.agrees (lent self.new.value self.new.recording) }
-        ensures tells { OnStarted result (λ reply.
+        ensures tells { OnCallBegun result (λ reply.
             TellsWrites ⟦<T as ToldMut>⟧.goes ⟦<T as Told>⟧.fits
             (lent self.old.value self.old.recording) (lent self.new.value self.new.recording) reply
             (λ output m writes. G.def key.now m output writes))
             (λ inner. Within ⟦<T as Written>⟧.did T.Call.touches T.Answer.eq T.answers
             (lent self.old.value self.old.recording) (lent self.new.value self.new.recording)
             inner.around) }
-        ensures hit { OnStarted result (λ told. IfOk told (λ output.
+        ensures hit { OnCallBegun result (λ told. IfOk told (λ output.
             (reply : Reply G.Out) × (reply.output ≡ output) × (reply.how ≡ How.Hit)
             × HeldReply ⟦<G as Meant>⟧.meaning
             (invocation key.now (T.answers self.old.value.now) true)
-            (H.entries cache.old) (H.entries cache.old)
+            (H.entries cache.old)
             (λ P W. Took T.Call.eq T.Call.touches self.old.recording.now self.new.recording.now P W
             × ⟦<T as Written>⟧.did self.old.value.now self.new.value.now W)
             reply (H.entries cache.new))) (λ _. ⊤) }
-        ensures begins { OnStarted result (λ _. ⊤) (λ _. IsEmpty self.new.recording.now) }
-        ensures run { OnStarted result (λ _. ⊤)
+        ensures begins { OnCallBegun result (λ _. ⊤) (λ _. IsEmpty self.new.recording.now) }
+        ensures run { OnCallBegun result (λ _. ⊤)
             (λ inner. Held (H.entries cache.old) (λ es. StartsMut ⟦<G as Meant>⟧.meaning es
             (invocation key.now (T.answers self.old.value.now) true) inner.own)
             × (self.new.value ≡ self.old.value)
@@ -194,27 +137,22 @@ impl<'a, 'b, T: Track> RecorderMut<'a, 'b, T> {
             key,
             value: self.value,
         };
-        let pending = match begin(alloc, cache, &mut input, self.recording, true) {
+        let own = match look_up(alloc, cache, &mut input, self.recording, true) {
             Ok(Begun::Hit(output)) => {
+                // For the proof: its pairs are reads, and its writes are writes.
                 self.recording.has_reads_and_writes();
-                return Ok(Start::Hit(output));
+                return Ok(Begun::Hit(output));
             }
-            Ok(Begun::Run(pending)) => pending,
+            Ok(Begun::Run(own)) => own,
             Err(fault) => return Err(fault),
         };
-        let Pending {
-            alloc: _,
-            key: own,
-            enabled: _,
-            recording,
-        } = pending;
-        let around = mem::replace(self.recording, recording);
-        Ok(Start::Run(InnerMut { own, around }))
+        let around = mem::replace(self.recording, Constraint::new(alloc));
+        Ok(Begun::Run(InnerMut { own, around }))
     }
 
-    /// Finishes a run that was started here, as it went: with its output, and keeps it, or with its fault.
+    /// Finishes a run that was begun here, as it went: with its output, and keeps it, or with its fault.
     ///
-    /// Output and writes have to be right for all answers that agree with what was recorded since the start. This recorder
+    /// Output and writes have to be right for all answers that agree with what was recorded since it began. This recorder
     /// has what it had recorded before, and takes what the run recorded. A fault of the run is handed on; of a run that
     /// gave an output, `Incomplete` comes where its recording is spoiled, and `Memory` where there was none for what this
     /// recorder takes. Every fault spoils the recording and leaves the cache as it was; the writes that the run did stay
@@ -263,6 +201,7 @@ impl<'a, 'b, T: Track> RecorderMut<'a, 'b, T> {
             self.old.recording.now.pairs) }
     {
         let InnerMut { own, around } = inner;
+        // For the proof: its pairs are reads, and its writes are writes.
         self.recording.has_reads_and_writes();
         let recording = mem::replace(self.recording, around);
         let pending: Pending<G> = Pending {
@@ -273,6 +212,7 @@ impl<'a, 'b, T: Track> RecorderMut<'a, 'b, T> {
         };
         match pending.end(cache, self.recording, ran) {
             Ok(reply) => {
+                // For the proof: its pairs are reads, and its writes are writes.
                 self.recording.has_reads_and_writes();
                 Ok(reply.output)
             }

@@ -4,7 +4,8 @@ ghost use Rattle.std.proofs.Common.{rules};
 ghost use Rattle.comemo.specs.Function.{Tells};
 ghost use Rattle.comemo_samples.specs.declared.town.TownCall.TheVariants.{People, Degrees};
 
-use comemo::{Fault, Function, Recorder, Told};
+use comemo::internal::Told;
+use comemo::{Fault, Function, Recorder};
 use comemo_samples::{Town, TownCall};
 
 /// How many live in a town, and how many degrees it has.

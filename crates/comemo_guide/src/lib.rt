@@ -4,17 +4,17 @@
 //! How warm a town is, asked before the town has grown and after it:
 //!
 //! ```rust
-//! use comemo::{CacheData, How, MemoOf, Track, called};
+//! use comemo::{CacheData, How, MemoOf, Track, memoized};
 //! use comemo_guide::warmth::Warmth;
 //! use comemo_samples::Town;
 //!
 //! let mut cache: CacheData<MemoOf<Warmth>> = CacheData::new(alloc);
 //! let mut town = Town { people: 900, degrees: 21 };
-//! let first = called(alloc, &mut cache, (), &town.track(alloc))?;
+//! let first = memoized(alloc, &mut cache, (), &town.track(alloc))?;
 //! assert_eq!(rt; (first.output, first.how), (21, How::Stored));
 //!
 //! town.people = 7000;
-//! let grown = called(alloc, &mut cache, (), &town.track(alloc))?;
+//! let grown = memoized(alloc, &mut cache, (), &town.track(alloc))?;
 //! assert_eq!(rt; (grown.output, grown.how), (21, How::Hit));
 //! ```
 //!

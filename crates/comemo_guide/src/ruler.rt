@@ -6,11 +6,8 @@ ghost use Rattle.comemo.specs.MeaningLaws.{exact_laws};
 ghost use Rattle.comemo_guide.specs.Rulers.{marks};
 ghost use Rattle.comemo_samples.specs.declared.notebook.NotebookCall.TheVariants.{Owner};
 
-use comemo::function::Told;
-use comemo::function_mut::ToldMut;
-use comemo::{
-    Constraint, Fault, Hold, MemoOfRecursiveMut, RecorderMut, RecursiveMut, Start, Written,
-};
+use comemo::internal::{Told, ToldMut, Written};
+use comemo::{Begun, Constraint, Fault, Hold, MemoOfRecursiveMut, RecorderMut, RecursiveMut};
 use comemo_samples::{Notebook, NotebookCall};
 use std::alloc::Global;
 
@@ -43,9 +40,9 @@ pub fn ruled<H: Hold<MemoOfRecursiveMut<Ruler>>>(
         (lent book.old.value book.old.recording) (lent book.new.value book.new.recording) result
         (λ _ m writes. writes ≡ marks (m Owner) height) }
 {
-    let run = match book.start(cache, &height)? {
-        Start::Hit(()) => return Ok(()),
-        Start::Run(run) => run,
+    let run = match book.begin(cache, &height)? {
+        Begun::Hit(()) => return Ok(()),
+        Begun::Run(run) => run,
     };
     let ran = draw(cache, height, book);
     book.finish(cache, &height, run, ran)

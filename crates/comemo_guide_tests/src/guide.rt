@@ -3,7 +3,7 @@
 //!
 //! Some helpers say how many of some calls, from the first on, are as said.
 
-use comemo::{CacheData, Caches, Function, How, MemoOf, Top, Track, memoized};
+use comemo::{CacheData, Caches, Function, How, MemoOf, Top, Track, memoized, memoized_with};
 use comemo_guide::both_pass::BothPass;
 use comemo_guide::numbers::{DoubleFlat, Flat};
 use comemo_guide::orders::{Both, Either, Exceeds, Turn};
@@ -35,7 +35,7 @@ fn gives<O: Copy + PartialEq, F: Function<Of = Town, Out = O>>(
     let town = town(of);
     let view = town.track(alloc);
     let enabled = how != How::Disabled;
-    match memoized(alloc, cache, needs, key, &view, &mut Top::new(), enabled) {
+    match memoized_with(alloc, cache, needs, key, &view, &mut Top::new(), enabled) {
         Ok(reply) => reply.output == output && reply.how == how,
         Err(_) => false,
     }
@@ -148,7 +148,7 @@ fn doubles(alloc: Global, calls: &[(u32, How)]) -> usize {
     let mut held: usize = 0;
     for (n, how) in calls {
         let sink = &mut Top::new();
-        let is_so = match memoized(alloc, &mut cache, &mut (), Flat(*n), &view, sink, true) {
+        let is_so = match memoized_with(alloc, &mut cache, &mut (), Flat(*n), &view, sink, true) {
             Ok(reply) => reply.output == n.wrapping_mul(2) && reply.how == *how,
             Err(_) => false,
         };
@@ -215,7 +215,7 @@ fn compares(
         second: other.track(alloc),
     };
     let view = towns.track(alloc);
-    match memoized(alloc, cache, &mut (), (), &view, &mut Top::new(), true) {
+    match memoized(alloc, cache, (), &view) {
         Ok(reply) => reply.output == is_warmer && reply.how == how,
         Err(_) => false,
     }
@@ -255,7 +255,7 @@ fn leads(
         second: other.track(alloc),
     };
     let view = towns.track(alloc);
-    match memoized(alloc, cache, kept, (), &view, &mut Top::new(), true) {
+    match memoized_with(alloc, cache, kept, (), &view, &mut Top::new(), true) {
         Ok(reply) => reply.output == lead && reply.how == how,
         Err(_) => false,
     }
@@ -297,7 +297,7 @@ fn is_warmest(
         hill: &hill,
     };
     let view = region.track(alloc);
-    match memoized(alloc, cache, &mut (), (), &view, &mut Top::new(), true) {
+    match memoized(alloc, cache, (), &view) {
         Ok(reply) => reply.output == degrees && reply.how == how,
         Err(_) => false,
     }

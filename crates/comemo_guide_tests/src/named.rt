@@ -1,6 +1,6 @@
 //! The functions that name their calls, at work.
 
-use comemo::{CacheData, How, MemoOf, Top, Track, memoized};
+use comemo::{CacheData, How, MemoOf, Top, Track, memoized_with};
 use comemo_guide::named::{IsOver, Sum};
 use comemo_samples::{Context, ContextCall};
 use std::alloc::Global;
@@ -19,7 +19,7 @@ fn sums(
 ) -> bool {
     let context = Context { location, styles };
     let view = context.track(alloc);
-    match memoized(alloc, cache, &mut first, (), &view, &mut Top::new(), true) {
+    match memoized_with(alloc, cache, &mut first, (), &view, &mut Top::new(), true) {
         Ok(reply) => reply.output == sum && reply.how == how,
         Err(_) => false,
     }
@@ -54,7 +54,7 @@ fn is_over(
 ) -> bool {
     let context = Context { location, styles };
     let view = context.track(alloc);
-    match memoized(alloc, cache, kept, 4, &view, &mut Top::new(), true) {
+    match memoized_with(alloc, cache, kept, 4, &view, &mut Top::new(), true) {
         Ok(reply) => reply.output == is_over && reply.how == how,
         Err(_) => false,
     }

@@ -1,6 +1,9 @@
 //! The functions that write at work: what a run writes, a hit writes again.
 
-use comemo::{BothMut, CacheData, How, MemoOf, MemoOfMut, ReadAndWrite, Top, Track, memoized_mut};
+use comemo::{
+    BothMut, CacheData, How, MemoOf, MemoOfMut, ReadAndWrite, Top, Track, memoized_mut,
+    memoized_mut_with,
+};
 use comemo_guide::adding::{Adds, AddsTwice};
 use comemo_guide::listing::Listing;
 use comemo_guide::read_and_write::{AddsDegrees, AddsOneMore, TallyWarmth};
@@ -18,15 +21,7 @@ fn adds(
     counter: &mut Counter,
     how: How,
 ) -> bool {
-    match memoized_mut(
-        alloc,
-        cache,
-        &mut (),
-        number,
-        counter,
-        &mut Top::new(),
-        true,
-    ) {
+    match memoized_mut(alloc, cache, number, counter) {
         Ok(reply) => reply.output == number.wrapping_add(1) && reply.how == how,
         Err(_) => false,
     }
@@ -59,7 +54,7 @@ fn adds_twice(
     counter: &mut Counter,
     how: How,
 ) -> bool {
-    match memoized_mut(alloc, cache, kept, number, counter, &mut Top::new(), true) {
+    match memoized_mut_with(alloc, cache, kept, number, counter, &mut Top::new(), true) {
         Ok(reply) => reply.output == number.wrapping_add(2) && reply.how == how,
         Err(_) => false,
     }
@@ -99,7 +94,7 @@ fn tallies(
         first: &mut town,
         second: counter,
     };
-    let is_so = match memoized_mut(alloc, cache, &mut (), (), &mut both, &mut Top::new(), true) {
+    let is_so = match memoized_mut(alloc, cache, (), &mut both) {
         Ok(reply) => reply.output == degrees && reply.how == how,
         Err(_) => false,
     };
@@ -141,7 +136,7 @@ fn a_town_is_read_by_another_function_and_a_counter_written(rt: HostRuntime) -> 
             first: town.track(alloc),
             second: &mut counter,
         };
-        let reply = memoized_mut(
+        let reply = memoized_mut_with(
             alloc,
             &mut cache,
             &mut kept,
@@ -177,15 +172,7 @@ fn a_counter_that_is_written_is_read_too(rt: HostRuntime) -> Result<(), Fail> {
             first: town.track(alloc),
             second: &mut counter,
         };
-        let reply = memoized_mut(
-            alloc,
-            &mut cache,
-            &mut (),
-            (),
-            &mut both,
-            &mut Top::new(),
-            true,
-        )?;
+        let reply = memoized_mut(alloc, &mut cache, (), &mut both)?;
         assert_eq!(rt; (reply.output, reply.how), (number, how));
         drop(both);
         assert_eq!(rt; counter.number, sum);
@@ -214,7 +201,7 @@ fn a_counter_is_written_by_another_function(rt: HostRuntime) -> Result<(), Fail>
             first: town.track(alloc),
             second: &mut counter,
         };
-        let reply = memoized_mut(
+        let reply = memoized_mut_with(
             alloc,
             &mut cache,
             &mut kept,
@@ -254,15 +241,7 @@ fn a_hit_writes_each_line_again(rt: HostRuntime) -> Result<(), Fail> {
     let mut log = Log::new(alloc);
     for (how, lines) in [(How::Stored, 2_usize), (How::Hit, 4)] {
         let texts = two_texts(alloc)?;
-        let reply = memoized_mut(
-            alloc,
-            &mut cache,
-            &mut (),
-            texts,
-            &mut log,
-            &mut Top::new(),
-            true,
-        )?;
+        let reply = memoized_mut(alloc, &mut cache, texts, &mut log)?;
         assert_eq!(rt; reply.how, how);
         assert!(rt; ends_with_day(&log, lines));
     }

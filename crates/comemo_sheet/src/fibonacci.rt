@@ -4,8 +4,8 @@ ghost use Rattle.std.proofs.Common.{rules};
 ghost use Rattle.comemo.specs.Recursive.{TellsOwn};
 ghost use Rattle.comemo_sheet.specs.Fibonacci.{fib};
 
-use comemo::function::Told;
-use comemo::{Fault, Hold, MemoOfRecursive, Recorder, Recursive, Start};
+use comemo::internal::Told;
+use comemo::{Begun, Fault, Hold, MemoOfRecursive, Recorder, Recursive};
 
 /// The number of Fibonacci at a place, modulo 2 to the 64th.
 pub struct Fib;
@@ -36,9 +36,9 @@ pub fn numbered<H: Hold<MemoOfRecursive<Fib>>>(
     if place < 2 {
         return Ok(place);
     }
-    let mut run = match of.start(cache, &place)? {
-        Start::Hit(number) => return Ok(number),
-        Start::Run(run) => run,
+    let mut run = match of.begin(cache, &place)? {
+        Begun::Hit(number) => return Ok(number),
+        Begun::Run(run) => run,
     };
     let one = numbered(cache, place - 1, &mut run.recorder)?;
     let other = numbered(cache, place - 2, &mut run.recorder)?;

@@ -9,8 +9,8 @@ ghost use Rattle.comemo_sheet.specs.ValueLaws.{range_alike};
 
 use crate::sheet::{Content, Sheet, SheetCall};
 use crate::value::{Value, sum};
-use comemo::function::Told;
-use comemo::{CacheData, Fault, Hold, MemoOfRecursive, Recorder, Recursive, Start};
+use comemo::internal::Told;
+use comemo::{Begun, CacheData, Fault, Hold, MemoOfRecursive, Recorder, Recursive};
 
 /// The cells of these names, with the limit down to which their values go.
 #[derive(Clone, Drop, Debug, PartialEq, Eq, Hash)]
@@ -65,9 +65,9 @@ pub fn ranged<H: Hold<MemoOfRecursive<Value>>, G: Hold<MemoOfRecursive<RangeTota
         return Ok(None);
     }
     let key = (name, limit);
-    let mut run = match of.start(&mut kept.0, &key)? {
-        Start::Hit(value) => return Ok(value),
-        Start::Run(run) => run,
+    let mut run = match of.begin(&mut kept.0, &key)? {
+        Begun::Hit(value) => return Ok(value),
+        Begun::Run(run) => run,
     };
     let content = run.recorder.ask(SheetCall::Cell(key.0.clone()?))?;
     let value = match content {
@@ -91,9 +91,9 @@ pub fn range_total<H: Hold<MemoOfRecursive<Value>>, G: Hold<MemoOfRecursive<Rang
     ensures { TellsOwn ⟦<Sheet as Told>⟧.fits of.old of.new result
         (λ total m. total ≡ sum_of (value_of m range.limit) (Some (pos 0)) range.names.items) }
 {
-    let mut run = match of.start(&mut kept.1, &range)? {
-        Start::Hit(total) => return Ok(total),
-        Start::Run(run) => run,
+    let mut run = match of.begin(&mut kept.1, &range)? {
+        Begun::Hit(total) => return Ok(total),
+        Begun::Run(run) => run,
     };
     let recorder = &mut run.recorder;
     let mut total = Some(0);

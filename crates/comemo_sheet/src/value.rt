@@ -8,8 +8,8 @@ ghost use Rattle.comemo_sheet.specs.ValueLaws.{value_alike};
 
 use crate::row::add;
 use crate::sheet::{Sheet, SheetCall};
-use comemo::function::Told;
-use comemo::{Fault, Hold, MemoOfRecursive, Recorder, Recursive, Start, Track};
+use comemo::internal::Told;
+use comemo::{Begun, Fault, Hold, MemoOfRecursive, Recorder, Recursive, Track};
 use std::alloc::Global;
 
 /// The value of a cell: the number that stands there, or the sum of the values of the cells whose names do.
@@ -57,9 +57,9 @@ pub fn valued<H: Hold<MemoOfRecursive<Value>>>(
         return Ok(None);
     }
     let key = (name, limit);
-    let mut run = match of.start(cache, &key)? {
-        Start::Hit(value) => return Ok(value),
-        Start::Run(run) => run,
+    let mut run = match of.begin(cache, &key)? {
+        Begun::Hit(value) => return Ok(value),
+        Begun::Run(run) => run,
     };
     let recorder = &mut run.recorder;
     let content = recorder.ask(SheetCall::Cell(key.0.clone()?))?;

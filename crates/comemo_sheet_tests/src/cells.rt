@@ -2,7 +2,7 @@
 
 use Step::{Kept, Number, Plain, Ranged, Row, Set, Show, Sum, Third, Total};
 use comemo::{
-    Both, CacheData, How, MemoOf, MemoOfRecursive, Recorder, Top, Track, called, memoized,
+    Both, CacheData, How, MemoOf, MemoOfRecursive, Recorder, Top, Track, memoized, memoized_with,
 };
 use comemo_sheet::number::NumberIn;
 use comemo_sheet::plain::{NoNumber, PlainNumber};
@@ -61,7 +61,7 @@ fn is_number(
     let Ok(key) = String::from_str(alloc, "A1") else {
         return false;
     };
-    match called(alloc, cache, key, &sheet.track(alloc)) {
+    match memoized(alloc, cache, key, &sheet.track(alloc)) {
         Ok(reply) => reply.output == number && reply.how == how,
         Err(_) => false,
     }
@@ -79,7 +79,7 @@ fn is_plain(
     let Ok(key) = String::from_str(alloc, name) else {
         return false;
     };
-    match called(alloc, cache, key, &sheet.track(alloc)) {
+    match memoized(alloc, cache, key, &sheet.track(alloc)) {
         Ok(reply) => reply.output == number && reply.how == how,
         Err(_) => false,
     }
@@ -96,7 +96,7 @@ fn is_total(
     let Ok(row) = names(alloc, &["A1", "A2", "A3", "B1"]) else {
         return false;
     };
-    match called(alloc, cache, row, &sheet.track(alloc)) {
+    match memoized(alloc, cache, row, &sheet.track(alloc)) {
         Ok(reply) => reply.output == total && reply.how == how,
         Err(_) => false,
     }
@@ -119,7 +119,7 @@ fn is_shown(
         second: settings.track(alloc),
     };
     let view = both.track(alloc);
-    match memoized(alloc, cache, numbers, key, &view, &mut Top::new(), true) {
+    match memoized_with(alloc, cache, numbers, key, &view, &mut Top::new(), true) {
         Ok(reply) => reply.output == shown && reply.how == how,
         Err(_) => false,
     }

@@ -1,6 +1,6 @@
 //! A function that calls itself: each number is kept once, and each call after that is answered from the cache.
 
-use comemo::{Cache, CacheData, Fault, Hold, How, MemoOfRecursive, Recorder, Start, Track};
+use comemo::{Begun, Cache, CacheData, Fault, Hold, How, MemoOfRecursive, Recorder, Track};
 use comemo_sheet::fibonacci::{Fib, numbered};
 use std::alloc::Global;
 use std::test::Fail;
@@ -48,9 +48,9 @@ fn a_shared_cache_keeps_them_too(rt: HostRuntime) {
 /// What becomes of a call of the number at place 0, by hand.
 fn how_it_went(alloc: Global, cache: &mut CacheData<MemoOfRecursive<Fib>>) -> Result<How, Fault> {
     let mut recorder = Recorder::new(alloc, ().track(alloc));
-    match recorder.start(cache, &0)? {
-        Start::Hit(_) => Ok(How::Hit),
-        Start::Run(run) => {
+    match recorder.begin(cache, &0)? {
+        Begun::Hit(_) => Ok(How::Hit),
+        Begun::Run(run) => {
             let reply = recorder.finish_reply(cache, &0, run, 0)?;
             Ok(reply.how)
         }

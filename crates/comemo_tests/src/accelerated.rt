@@ -4,9 +4,8 @@ ghost use Rattle.std.specs.Prelude.{◌≡◌, IfOk, false, refl};
 ghost use Rattle.std.proofs.Common.{rules};
 
 use crate::inputs::LocationMemo;
-use comemo::{
-    Accelerated, Begun, CacheData, Call, Constraint, Fault, How, Reply, Sink, Top, Track, begin,
-};
+use comemo::internal::Accelerated;
+use comemo::{Begun, CacheData, Call, Constraint, Fault, How, Reply, Sink, Top, Track, begin};
 use comemo_samples::{Context, ContextCall};
 use std::alloc::{AllocError, Global};
 use std::hash::Hash;

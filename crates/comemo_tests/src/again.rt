@@ -1,11 +1,11 @@
-//! Calls that follow one another: what a call that was stored says of the next one, proved from the contracts of `memoized`
+//! Calls that follow one another: what a call that was stored says of the next one, proved from the contracts of `memoized_with`
 //! and `validate` alone.
 ghost use Rattle.std.specs.Prelude.{◌≡◌, IfOk, IsTrue};
 ghost use Rattle.std.proofs.Common.{rules};
 
 use comemo::{
     CacheData, Constraint, Fault, Function, FunctionOf, How, MemoOf, Recorder, Reply, Top, Track,
-    Tracked, memoized,
+    Tracked, memoized_with,
 };
 use comemo_samples::{Context, ContextCall};
 use std::alloc::Global;
@@ -48,8 +48,8 @@ pub fn call_twice<M: FunctionOf<T>, T: Track>(
         × M.Out.is_clone replies.0.output kept × M.Out.is_clone kept replies.1.output) }
 {
     let again = key.clone()?;
-    let first = memoized(alloc, cache, needs, key, of, &mut Top::new(), true)?;
-    let second = memoized(alloc, cache, needs, again, of, &mut Top::new(), true)?;
+    let first = memoized_with(alloc, cache, needs, key, of, &mut Top::new(), true)?;
+    let second = memoized_with(alloc, cache, needs, again, of, &mut Top::new(), true)?;
     Ok((first, second))
 }
 
@@ -77,7 +77,7 @@ pub fn call_around<M: FunctionOf<T>, T: Track>(
 {
     let again = key.clone()?;
     let mut asked = Constraint::new(alloc);
-    let first = memoized(
+    let first = memoized_with(
         alloc,
         cache,
         needs,
@@ -87,7 +87,7 @@ pub fn call_around<M: FunctionOf<T>, T: Track>(
         true,
     )?;
     let valid = asked.validate(after)?;
-    let second = memoized(
+    let second = memoized_with(
         alloc,
         cache,
         needs,

@@ -2,7 +2,7 @@
 ghost use Rattle.std.specs.Prelude.{◌≡◌};
 ghost use Rattle.std.proofs.Common.{rules};
 
-use comemo::{CacheData, Constraint, Fault, Function, How, MemoOf, Recorder, Top, Track, memoized};
+use comemo::{CacheData, Constraint, Fault, Function, How, MemoOf, Recorder, Track, memoized};
 use comemo_samples::{Town, TownCall};
 use std::test::Fail;
 
@@ -59,8 +59,7 @@ fn a_town_that_grows_is_as_warm(rt: HostRuntime) -> Result<(), Fail> {
     ];
     for (people, degrees, how) in calls {
         let town = Town { people, degrees };
-        let view = town.track(alloc);
-        let reply = memoized(alloc, &mut cache, &mut (), (), &view, &mut Top::new(), true)?;
+        let reply = memoized(alloc, &mut cache, (), &town.track(alloc))?;
         assert_eq!(rt; reply.output, degrees);
         assert_eq!(rt; reply.how, how);
     }

@@ -6,7 +6,7 @@ ghost use Rattle.comemo.specs.Meaning.{reading};
 use crate::inputs::LocationMemo;
 use comemo::{
     Both, CacheData, Constraint, Fault, Function, FunctionOf, Memo, MemoOf, MultiAnswer, MultiCall,
-    Recorder, Sink, Top, Track, Tracked, memoize, memoized,
+    Recorder, Sink, Top, Track, Tracked, memoize, memoized_with,
 };
 use comemo_samples::{Context, ContextCall};
 use std::alloc::Global;
@@ -176,7 +176,7 @@ fn is_told<F: Function<Key = bool, Of = Context, Out = u64>>(
 ) -> bool {
     let mut cache: CacheData<MemoOf<F>> = CacheData::new(alloc);
     let mut outer: Constraint<ContextCall, u64> = Constraint::new(alloc);
-    let reply = memoized(
+    let reply = memoized_with(
         alloc,
         &mut cache,
         needs,
@@ -197,7 +197,7 @@ fn is_told_of_part(alloc: Global, key: (bool, bool), fault: Fault) -> bool {
     };
     let mut cache: CacheData<CallingOfPart> = CacheData::new(alloc);
     let mut kept = (CacheData::new(alloc), CacheData::new(alloc));
-    let reply = memoized(
+    let reply = memoized_with(
         alloc,
         &mut cache,
         &mut kept,

@@ -3,9 +3,8 @@ ghost use Rattle.std.specs.Prelude.{◌≡◌, IfOk, OnErr};
 ghost use Rattle.std.proofs.Common.{rules};
 ghost use Rattle.comemo_tests.specs.Broken.{IsBroken};
 
-use comemo::{
-    Begun, Breaking, CacheData, Fault, How, Memo, Reply, Sink, Top, Track, Tracked, begin,
-};
+use comemo::internal::Breaking;
+use comemo::{Begun, CacheData, Fault, How, Memo, Reply, Sink, Top, Track, Tracked, begin};
 use comemo_samples::{Context, ContextCall};
 use std::alloc::Global;
 

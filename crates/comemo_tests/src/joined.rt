@@ -5,9 +5,9 @@ ghost use Rattle.comemo.specs.Multi.{OnParts};
 ghost use Rattle.comemo.specs.Meaning.{reading};
 ghost use Rattle.comemo.specs.MeaningLaws.{none_alike};
 
+use comemo::internal::{First, Hashed, Input, Multi, Second};
 use comemo::{
-    Begun, CacheData, Fault, First, Hashed, How, Input, Memo, Multi, MultiAnswer, MultiCall, Reply,
-    Second, Top, Track, Tracked, begin,
+    Begun, CacheData, Fault, How, Memo, MultiAnswer, MultiCall, Reply, Top, Track, Tracked, begin,
 };
 use comemo_samples::{Context, ContextCall};
 use std::alloc::Global;

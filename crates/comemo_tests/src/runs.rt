@@ -1,7 +1,8 @@
 //! Runs that are begun, finished and given up by hand.
 ghost use Rattle.std.proofs.Common.{rules};
 
-use comemo::{Begun, CacheData, Constraint, Fault, How, Keyed, Memo, Pending, Sink, Track, begin};
+use comemo::internal::{Keyed, Pending};
+use comemo::{Begun, CacheData, Constraint, Fault, How, Memo, Sink, Track, begin};
 use comemo_samples::{Context, ContextCall};
 use std::alloc::{AllocError, Global};
 
@@ -36,7 +37,7 @@ fn begin_any(
     cache: &mut CacheData<AnyMemo>,
     context: &Context,
     outer: &mut Recording,
-) -> Result<Begun<AnyMemo>, Fault> {
+) -> Result<Begun<u64, Pending<AnyMemo>>, Fault> {
     let mut input = Keyed {
         key: 7,
         view: context.track(alloc),

@@ -5,10 +5,8 @@ ghost use Rattle.std.specs.List.{All};
 ghost use Rattle.std.proofs.Common.{rules};
 ghost use Rattle.comemo.specs.Steps.{IsStep};
 
-use comemo::{
-    Begun, CacheData, Call, Constraint, Fault, How, Keyed, Meant, Memo, Pending, Reply, Sink, Step,
-    StepReply, Track, begin,
-};
+use comemo::internal::{Keyed, Meant, Pending, Step, StepReply};
+use comemo::{Begun, CacheData, Call, Constraint, Fault, How, Memo, Reply, Sink, Track, begin};
 use std::alloc::{AllocError, Global};
 use std::hash::{Hash, Hasher};
 use std::sync::Arc;

@@ -1,9 +1,10 @@
 //! Views that write, and functions whose runs write: what is done, what is recorded, and what a hit does again.
 
 use crate::notes::{AddsThree, NotesThree};
+use comemo::internal::TrackedMut;
 use comemo::{
     BothMut, CacheData, Constraint, Fault, How, MemoOfMut, MultiAnswer, MultiCall, Sink, Top,
-    Track, TrackedMut, memoize, memoized_mut,
+    Track, memoize, memoized_mut_with,
 };
 use comemo_samples::{Counter, CounterCall, Notebook, NotebookCall, Town, TownCall};
 use std::alloc::Global;
@@ -121,7 +122,7 @@ fn is_noted(
     let mut book = Notebook::new(alloc, owner, room);
     let mut recording = Constraint::new(alloc);
     let enabled = how != Ok(How::Disabled);
-    let reply = memoized_mut(
+    let reply = memoized_mut_with(
         alloc,
         cache,
         &mut (),

@@ -2,7 +2,7 @@
 ghost use Rattle.std.specs.Prelude.{⊤};
 ghost use Rattle.std.proofs.Common.{rules};
 
-use comemo::{Fault, Function, Hold, MemoOf, Recorder, Tracked, called};
+use comemo::{Fault, Function, Hold, MemoOf, Recorder, Tracked, memoized};
 use comemo_samples::{Cells, Get};
 use std::alloc::Global;
 
@@ -53,6 +53,6 @@ pub fn sum<H: Hold<SumMemo>>(
     key: SumKey,
     cells: &Tracked<'_, Cells>,
 ) -> Result<u64, Fault> {
-    let reply = called(alloc, cache, key, cells)?;
+    let reply = memoized(alloc, cache, key, cells)?;
     Ok(reply.output)
 }

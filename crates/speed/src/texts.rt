@@ -3,7 +3,8 @@ ghost use Rattle.std.specs.Prelude.{⊤};
 ghost use Rattle.std.proofs.Common.{rules};
 
 use crate::stopwatch::{Seen, Stopwatch};
-use comemo::{Begun, CacheData, Fault, Hashed, Memo, Prehashed, Top, begin, hash};
+use comemo::internal::Hashed;
+use comemo::{Begun, CacheData, Fault, Memo, Prehashed, Top, begin, hash};
 use std::alloc::{AllocError, Global};
 use std::hash::Hash;
 use std::rt::Clock;

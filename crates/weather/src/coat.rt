@@ -3,7 +3,7 @@ ghost use Rattle.std.specs.Prelude.{◌≡◌, nat_lt, IfOk};
 ghost use Rattle.std.proofs.Common.{rules};
 
 use crate::weather::{Weather, WeatherCall};
-use comemo::{CacheData, Fault, Function, MemoOf, Recorder, Track, called};
+use comemo::{CacheData, Fault, Function, MemoOf, Recorder, Track, memoized};
 use std::alloc::Global;
 
 /// Whether it is colder than so many degrees.
@@ -39,6 +39,6 @@ pub fn takes_coat(
 ) -> Result<bool, Fault>
     ensures { IfOk result (λ takes. takes ≡ nat_lt weather.now.degrees least) }
 {
-    let reply = called(alloc, cache, least, &weather.track(alloc))?;
+    let reply = memoized(alloc, cache, least, &weather.track(alloc))?;
     Ok(reply.output)
 }

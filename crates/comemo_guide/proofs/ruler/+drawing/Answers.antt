@@ -16,10 +16,10 @@ draw-returns-clause-tells g t c =
     rw (h.2, h.3, h.4.2, h.4.3.0, h.4.4.2, h.4.4.3, h.4.4.4.2, h.4.4.4.3, h.4.4.4.4) (search (rules, low, h.4.3.1)))
 
 pub ruled-finish-requires-clause-right : goal.ruled-finish-requires-clause-right
-ruled-finish-requires-clause-right g t c = right_alone c.draw-ran.result c.draw-ran.ensures.tells (rw c.in-Run.is at c.in_ok-start.ensures.begins).writes
+ruled-finish-requires-clause-right g t c = right_alone c.draw-ran.result c.draw-ran.ensures.tells (rw c.in-Run.is at c.in_ok-begin.ensures.begins).writes
 
 pub ruled-returns-clause-agrees : goal.ruled-returns-clause-agrees
-ruled-returns-clause-agrees g t c = c.finish.ensures.agrees _ (within_goes (rw c.in-Run.is at c.in_ok-start.ensures.tells) c.draw-ran.ensures.tells.goes)
+ruled-returns-clause-agrees g t c = c.finish.ensures.agrees _ (within_goes (rw c.in-Run.is at c.in_ok-begin.ensures.tells) c.draw-ran.ensures.tells.goes)
 
 pub ruled-returns-clause-tells : goal.ruled-returns-clause-tells
-ruled-returns-clause-tells g t c = c.finish.ensures.tells _ (within_goes (rw c.in-Run.is at c.in_ok-start.ensures.tells) c.draw-ran.ensures.tells.goes)
+ruled-returns-clause-tells g t c = c.finish.ensures.tells _ (within_goes (rw c.in-Run.is at c.in_ok-begin.ensures.tells) c.draw-ran.ensures.tells.goes)

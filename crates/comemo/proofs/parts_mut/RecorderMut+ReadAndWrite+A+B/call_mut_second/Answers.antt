@@ -41,22 +41,22 @@ joined g = record {
 pub shape_of-self : goal.shape_of-self
 shape_of-self g c =
     let j = joined g in
-    sym (reply_loan (λ _. second_call) (λ _. second_answer) (Took j.calls (part_touches j.first_touches j.second_touches)) MarkedLate c.new-sink.result c.memoized_mut.new.sink (some_by (g.H.Hold.entries c.args.cache.now) (g.H.Hold.entries c.args.cache.now) (g.H.Hold.entries c.memoized_mut.new.cache) _ c.in_ok-reply.ensures.reply).3 ∙ c.new-sink.ensures.same_reference)
+    sym (reply_loan (λ _. second_call) (λ _. second_answer) (Took j.calls (part_touches j.first_touches j.second_touches)) MarkedLate c.new-sink.result c.memoized_mut_with.new.sink (some_by (g.H.Hold.entries c.args.cache.now) (g.H.Hold.entries c.args.cache.now) (g.H.Hold.entries c.memoized_mut_with.new.cache) _ c.in_ok-reply.ensures.reply).3 ∙ c.new-sink.ensures.same_reference)
 
 pub returns-clause-agrees : goal.returns-clause-agrees
-returns-clause-agrees g c = called_second_begun (joined g) refl refl c.requires.agrees g.G.Key.PartialEq.eq g.G.Out.Clone.is_clone g.G.Memo.def g.G.Memo.naming c.has_reads_and_writes.ensures.reads c.args.key c.in_ok-reply.reply (second_reply (joined g) c.args.self.now.value.now c.memoized_mut.new.of c.new-sink.result c.memoized_mut.new.sink c.new-sink.ensures.value c.drop.ensures (some_by (g.H.Hold.entries c.args.cache.now) (g.H.Hold.entries c.args.cache.now) (g.H.Hold.entries c.memoized_mut.new.cache) _ c.in_ok-reply.ensures.reply).3)
+returns-clause-agrees g c = called_second_begun (joined g) refl refl c.requires.agrees g.G.Key.PartialEq.eq g.G.Out.Clone.is_clone g.G.Memo.def g.G.Memo.naming c.has_reads_and_writes.ensures.reads c.args.key c.in_ok-reply.reply (second_reply (joined g) c.args.self.now.value.now c.memoized_mut_with.new.of c.new-sink.result c.memoized_mut_with.new.sink c.new-sink.ensures.value c.drop.ensures (some_by (g.H.Hold.entries c.args.cache.now) (g.H.Hold.entries c.args.cache.now) (g.H.Hold.entries c.memoized_mut_with.new.cache) _ c.in_ok-reply.ensures.reply).3)
 
 pub returns-clause-tells : goal.returns-clause-tells
-returns-clause-tells g c = tells_called_second (joined g) refl refl c.requires.agrees g.G.Key.PartialEq.eq g.G.Out.Clone.is_clone g.G.Memo.def g.G.Memo.naming c.has_reads_and_writes.ensures.reads c.args.key c.in_ok-reply.reply (second_reply (joined g) c.args.self.now.value.now c.memoized_mut.new.of c.new-sink.result c.memoized_mut.new.sink c.new-sink.ensures.value c.drop.ensures (some_by (g.H.Hold.entries c.args.cache.now) (g.H.Hold.entries c.args.cache.now) (g.H.Hold.entries c.memoized_mut.new.cache) _ c.in_ok-reply.ensures.reply).3)
+returns-clause-tells g c = tells_called_second (joined g) refl refl c.requires.agrees g.G.Key.PartialEq.eq g.G.Out.Clone.is_clone g.G.Memo.def g.G.Memo.naming c.has_reads_and_writes.ensures.reads c.args.key c.in_ok-reply.reply (second_reply (joined g) c.args.self.now.value.now c.memoized_mut_with.new.of c.new-sink.result c.memoized_mut_with.new.sink c.new-sink.ensures.value c.drop.ensures (some_by (g.H.Hold.entries c.args.cache.now) (g.H.Hold.entries c.args.cache.now) (g.H.Hold.entries c.memoized_mut_with.new.cache) _ c.in_ok-reply.ensures.reply).3)
 
 pub returns-clause-reply : goal.returns-clause-reply
-returns-clause-reply g c = (c.in_ok-reply.reply, refl, by_map (g.H.Hold.entries c.args.cache.now) (g.H.Hold.entries c.args.cache.now) (g.H.Hold.entries c.memoized_mut.new.cache) _ _ (λ es mid es' k. second_reply (joined g) c.args.self.now.value.now c.memoized_mut.new.of c.new-sink.result c.memoized_mut.new.sink c.new-sink.ensures.value c.drop.ensures k) c.in_ok-reply.ensures.reply)
+returns-clause-reply g c = (c.in_ok-reply.reply, refl, by_map (g.H.Hold.entries c.args.cache.now) (g.H.Hold.entries c.args.cache.now) (g.H.Hold.entries c.memoized_mut_with.new.cache) _ _ (λ es mid es' k. second_reply (joined g) c.args.self.now.value.now c.memoized_mut_with.new.of c.new-sink.result c.memoized_mut_with.new.sink c.new-sink.ensures.value c.drop.ensures k) c.in_ok-reply.ensures.reply)
 
 pub returns-in_err-reply-clause-err : goal.returns-in_err-reply-clause-err
-returns-in_err-reply-clause-err g c = on_err c.from_residual.result (leads_map (g.H.Hold.entries c.args.cache.now) (g.H.Hold.entries c.memoized_mut.new.cache) _ _ (λ es es' k. failed_as (λ W d. second_done (joined g) c.args.self.now.value.now c.memoized_mut.new.of W d) (λ P b. rw c.drop-sink.ensures (rw c.new-sink.ensures.value at (broken_as (λ _. second_call) (λ _. second_answer) c.new-sink.result c.memoized_mut.new.sink P b))) (λ P W b. rw c.drop-sink.ensures (rw c.new-sink.ensures.value at (spoiled_as (λ _. second_call) (λ _. second_answer) c.new-sink.result c.memoized_mut.new.sink P W b))) k) c.in_err-reply.ensures.err)
+returns-in_err-reply-clause-err g c = on_err c.from_residual.result (leads_map (g.H.Hold.entries c.args.cache.now) (g.H.Hold.entries c.memoized_mut_with.new.cache) _ _ (λ es es' k. failed_as (λ W d. second_done (joined g) c.args.self.now.value.now c.memoized_mut_with.new.of W d) (λ P b. rw c.drop-sink.ensures (rw c.new-sink.ensures.value at (broken_as (λ _. second_call) (λ _. second_answer) c.new-sink.result c.memoized_mut_with.new.sink P b))) (λ P W b. rw c.drop-sink.ensures (rw c.new-sink.ensures.value at (spoiled_as (λ _. second_call) (λ _. second_answer) c.new-sink.result c.memoized_mut_with.new.sink P W b))) k) c.in_err-reply.ensures.err)
 
 pub returns-in_err-reply-clause-tells : goal.returns-in_err-reply-clause-tells
-returns-in_err-reply-clause-tells g c = writes_failed_part (joined g) refl refl (second_reached (joined g) c.args.self.now.value.now c.memoized_mut.new.of c.memoized_mut.ensures.reached) (rw c.drop-sink.ensures (mapped_spoils c.new-sink.result c.memoized_mut.new.sink (some_led (g.H.Hold.entries c.args.cache.now) (g.H.Hold.entries c.memoized_mut.new.cache) _ c.in_err-reply.ensures.err).2)) c.from_residual.result c.from_residual.ensures.0
+returns-in_err-reply-clause-tells g c = writes_failed_part (joined g) refl refl (second_reached (joined g) c.args.self.now.value.now c.memoized_mut_with.new.of c.memoized_mut_with.ensures.reached) (rw c.drop-sink.ensures (mapped_spoils c.new-sink.result c.memoized_mut_with.new.sink (some_led (g.H.Hold.entries c.args.cache.now) (g.H.Hold.entries c.memoized_mut_with.new.cache) _ c.in_err-reply.ensures.err).2)) c.from_residual.result c.from_residual.ensures.0
 
 pub returns-in_err-reply-clause-agrees : goal.returns-in_err-reply-clause-agrees
-returns-in_err-reply-clause-agrees g c = spoiled_any _ (rw c.drop-sink.ensures (mapped_spoils c.new-sink.result c.memoized_mut.new.sink (some_led (g.H.Hold.entries c.args.cache.now) (g.H.Hold.entries c.memoized_mut.new.cache) _ c.in_err-reply.ensures.err).2))
+returns-in_err-reply-clause-agrees g c = spoiled_any _ (rw c.drop-sink.ensures (mapped_spoils c.new-sink.result c.memoized_mut_with.new.sink (some_led (g.H.Hold.entries c.args.cache.now) (g.H.Hold.entries c.memoized_mut_with.new.cache) _ c.in_err-reply.ensures.err).2))

@@ -4,7 +4,7 @@ use Rattle.comemo.proofs.Calls.{reply_by_hit, reply_by_own_run, broke_at_begin, 
 use Rattle.comemo_cache.proofs.Sendings.{mapped}
 use Rattle.comemo.proofs.Closures.{err_with}
 use Rattle.comemo_cache.proofs.Holding.{held_map, some_held, some_led, of_led, stayed, led_by, led_from}
-use Rattle.comemo.proofs.function.memoized.Goals as goal
+use Rattle.comemo.proofs.function.memoized_with.Goals as goal
 
 pub returns-in-Ok-Hit-clause-reply : goal.returns-in-Ok-Hit-clause-reply
 returns-in-Ok-Hit-clause-reply g c =
