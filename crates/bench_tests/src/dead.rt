@@ -9,5 +9,5 @@ ghost use Rattle.comemo.specs.Cache.{Entries, Stands};
 ghost use Rattle.comemo.specs.Storing.{Stores};
 ghost use Rattle.comemo.specs.Held.{Held, Leads, Stays};
 
-use comemo::internal::{Explanation, Found, Input, InsertError, Meant, Peeked, Reads, Shared};
-use comemo::{CacheData, Call, Hold, Memo};
+use comemo::internal::{Found, Input, InsertError, Meant, Peeked, Reads, Shared};
+use comemo::{CacheData, Call, Explanation, Hold, Memo};

@@ -32,6 +32,7 @@
 #![tactic(auto)]
 
 mod closure;
+mod explanation;
 mod function;
 mod function_mut;
 pub mod internal;
@@ -44,11 +45,12 @@ mod recursive_mut;
 
 pub use closure::memoize;
 pub use comemo_base::{Prehashed, hash};
-pub use comemo_cache::{Cache, CacheData, Caches, Hold, Memo};
+pub use comemo_cache::{Cache, CacheData, Caches, Explanation, Hold, Memo};
 pub use comemo_track::{
     Both, BothMut, Call, Constraint, MultiAnswer, MultiCall, ReadAndWrite, Sink, Top, Track,
     Tracked,
 };
+pub use explanation::explain;
 pub use function::{Function, FunctionOf, MemoOf, Recorder, memoized, memoized_with};
 pub use function_mut::{
     FunctionMut, FunctionMutOf, MemoOfMut, RecorderMut, memoized_mut, memoized_mut_with,

@@ -1,0 +1,32 @@
+//! Why a call of a memoized function is a hit or a run.
+ghost use Rattle.std.specs.Prelude.{true, IfOk};
+ghost use Rattle.comemo_cache.specs.Meaning.{invocation};
+ghost use Rattle.comemo_cache.specs.Explaining.{Explains};
+ghost use Rattle.comemo_cache.specs.Held.{Held, Stays};
+
+use crate::lent::LentKey;
+use comemo_cache::cache::{Meant, Memo};
+use comemo_cache::explain::Explanation;
+use comemo_cache::hold::Hold;
+use comemo_track::track::{Track, Tracked};
+use std::alloc::{AllocError, Global};
+
+/// Says why a call of a memoized function with these arguments is a hit or a run. Nothing is run, and nothing changes.
+///
+/// Fails if an answer of the value, or a clone of what was asked, fails to allocate.
+pub fn explain<M: Memo<Call = T::Call, Answer = T::Answer>, H: Hold<M>, T: Track>(
+    alloc: Global,
+    cache: &mut H,
+    key: &M::Key,
+    of: &Tracked<'_, T>,
+) -> Result<Explanation<T::Call, T::Answer>, AllocError>
+    ensures explains { IfOk result (λ said. Held (H.entries cache.old) (λ es.
+        Explains ⟦<M as Meant>⟧.meaning es (invocation key.now (T.answers of.now) true) said)) }
+    ensures stays { Stays (H.entries cache.old) (H.entries cache.new) }
+{
+    let mut input = LentKey {
+        key,
+        view: of.fork(alloc),
+    };
+    cache.explain(alloc, key, &mut input)
+}
