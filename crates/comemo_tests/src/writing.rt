@@ -2,11 +2,12 @@
 
 use crate::notes::{AddsThree, NotesThree};
 use comemo::{
-    BothMut, CacheData, Constraint, Fault, How, MemoOfMut, MultiAnswer, MultiCall, Sink, Top,
-    Track, TrackedMut, memoize, memoized_mut,
+    BothMut, CacheData, Constraint, Fault, How, MemoOfMut, MultiAnswer, MultiCall, RecorderMut,
+    Sink, Start, Top, Track, TrackedMut, memoize, memoized_mut,
 };
 use comemo_samples::{Counter, CounterCall, Notebook, NotebookCall, Town, TownCall};
 use std::alloc::Global;
+use std::test::Fail;
 
 /// Whether a recording has the one read of a notebook's owner, and these lines as its writes.
 fn is_recorded(recording: Constraint<NotebookCall, u64>, owner: u64, lines: &[u64]) -> bool {
@@ -224,4 +225,33 @@ fn a_closure_writes_and_its_hit_writes_again(rt: HostRuntime) {
         assert!(rt; is_so, "for {how:?}");
         assert_eq!(rt; counter.number, *sum);
     }
+}
+
+/// What becomes of a call by hand that adds 3.
+fn add_three_by_hand(
+    alloc: Global,
+    cache: &mut CacheData<AddsThree>,
+    counter: &mut Counter,
+) -> Result<How, Fault> {
+    let mut recording = Constraint::new(alloc);
+    let mut recorder = RecorderMut::new(alloc, counter, &mut recording);
+    let run = match recorder.start(cache, &())? {
+        Start::Hit(()) => return Ok(How::Hit),
+        Start::Run(run) => run,
+    };
+    let ran = recorder.write(CounterCall::Add(3));
+    let reply = recorder.finish_reply(cache, &(), run, ran)?;
+    Ok(reply.how)
+}
+
+#[test]
+fn a_call_by_hand_that_writes_says_what_became_of_it(rt: HostRuntime) -> Result<(), Fail> {
+    let alloc = rt.alloc();
+    let mut cache: CacheData<AddsThree> = CacheData::new(alloc);
+    let mut counter = Counter { number: 0 };
+    for (how, sum) in [(How::Stored, 3_u64), (How::Hit, 6)] {
+        let went = add_three_by_hand(alloc, &mut cache, &mut counter)?;
+        assert_eq!(rt; (went, counter.number), (how, sum));
+    }
+    Ok(())
 }
