@@ -81,6 +81,18 @@ module _ {V C R : Type 0} {did : V → V → List C → Type 0} {touches : C →
   pub called : {X : Type 0} {s t : Lent V C R} {x : X} {P : X → (C → R) → Type 0} → TellsMut (Goes did touches same answers) fits s t (Ok x) P → t.recording.now.writes ≡ s.recording.now.writes → TellsWrites (Goes did touches same answers) fits s t (Ok x) (λ y n W. (W ≡ []) × P y n)
   called {s = s} a none = record { goes = a.goes; before = a.before; told = λ n f. ([], none ∙ sym (append-nil s.recording.now.writes), (refl, a.told n f)); whole = a.whole; fault = tt }
 
+  -- what is told of a reply is what is told of its output
+  pub of_output : {O : Type 0} (reply : Reply O) {s t : Lent V C R} (P : O → (C → R) → List C → Type 0) → TellsWrites (Goes did touches same answers) fits s t (Ok reply) (λ r m W. P r.output m W) → TellsWrites (Goes did touches same answers) fits s t (Ok reply.output) P
+  of_output reply P a = record { goes = a.goes; before = a.before; told = a.told; whole = a.whole; fault = tt }
+
+  pub of_reply : {O : Type 0} (reply : Reply O) {s t : Lent V C R} (P : O → (C → R) → List C → Type 0) → TellsWrites (Goes did touches same answers) fits s t (Ok reply.output) P → TellsWrites (Goes did touches same answers) fits s t (Ok reply) (λ r m W. P r.output m W)
+  of_reply reply P a = record { goes = a.goes; before = a.before; told = a.told; whole = a.whole; fault = tt }
+
+  -- a fault that was handed on tells what it told
+  pub handed_on : {X Y : Type 0} (f : Fault) (r : Result Y Fault) {s t : Lent V C R} {P : X → (C → R) → List C → Type 0} {Q : Y → (C → R) → List C → Type 0} → (let failed : Result X Fault = Err f in TellsWrites (Goes did touches same answers) fits s t failed P) → IsErrAnd r (λ g. g ≡ f) → TellsWrites (Goes did touches same answers) fits s t r Q
+  handed_on f (Ok y) a h = absurd h
+  handed_on f (Err g) a e = record { goes = a.goes; before = tt; told = tt; whole = tt; fault = λ is. a.fault (sym e ∙ is) }
+
   -- what was told tells what follows from it
   pub writes_as : {X : Type 0} (r : Result X Fault) {s t : Lent V C R} {P Q : X → (C → R) → List C → Type 0} → TellsWrites (Goes did touches same answers) fits s t r P → ((x : X) (m : C → R) (W : List C) → fits t.recording.now m → P x m W → Q x m W) → TellsWrites (Goes did touches same answers) fits s t r Q
   writes_as (Ok x) a so = record { goes = a.goes; before = a.before; told = λ m f. let one = a.told m f in (one.0, one.1, so x m one.0 f one.2); whole = a.whole; fault = tt }
@@ -107,6 +119,15 @@ incomplete_as A B X (Err g) f h = tt
 pub fault_on : {O : Type 0} (A B : Type 0) (Y : Fault → Type 0) (ran : Result O Fault) (f : Fault) → IfErr ran (λ g. (let r : Result A Fault = Err f in r ≡ Err g) × Y g) → IfErr ran (λ g. let r : Result B Fault = Err f in r ≡ Err g)
 fault_on A B Y (Ok x) f h = tt
 fault_on A B Y (Err g) f h = same_fault A B f g h.0
+
+pub fault_with : {O : Type 0} (A B : Type 0) (ran : Result O Fault) (f : Fault) → IfErr ran (λ g. let r : Result A Fault = Err f in r ≡ Err g) → IfErr ran (λ g. let r : Result B Fault = Err f in r ≡ Err g)
+fault_with A B (Ok x) f h = tt
+fault_with A B (Err g) f h = same_fault A B f g h
+
+-- what failed with a fault is that fault
+pub is_failure : {A : Type 0} (r : Result A Fault) (f : Fault) → IsErrAnd r (λ g. g ≡ f) → (let failed : Result A Fault = Err f in r ≡ failed)
+is_failure (Ok x) f h = absurd h
+is_failure (Err g) f h = ap (λ x. Err x) h
 
 -- a run that is to be stored was finished so
 pub finished_with : {K C R O : Type 0} (M : Meaning K C R O) (es es' : Entries K C R O) (pending : PendingRun K C R) {sent : List (C × R) → List C → Type 0} (output : O) (reply : Reply O) → pending.enabled ≡ true → Finished M es pending sent output reply es' → FinishedAs M es pending.recording.late sent (run pending.key pending.recording.pairs reply.output pending.recording.writes) reply.how es'

@@ -200,6 +200,55 @@ impl<'a, 'b, T: Track> RecorderMut<'a, 'b, T> {
             (BreaksOff (Took T.Call.eq T.Call.touches) Spoiled inner.around self.new.recording.now)
             self.old.recording.now.pairs) }
     {
+        let reply = self.finish_reply(cache, key, inner, ran)?;
+        Ok(reply.output)
+    }
+
+    /// Finishes a run that was started here, as `finish` does, and gives its reply: whether it was stored, or why not.
+    ///
+    /// A fault is as of `finish`, and it costs the same.
+    pub fn finish_reply<G: Memo<Call = T::Call, Answer = T::Answer>, H: Hold<G>>(
+        &mut self,
+        cache: &mut H,
+        key: &G::Key,
+        inner: InnerMut<G::Key, T>,
+        ran: Result<G::Out, Fault>,
+    ) -> Result<Reply<G::Out>, Fault>
+        requires own { IsTrue (G.Key.eq key.now inner.own) }
+        requires agrees { ⟦<T as ToldMut>⟧.agrees (lent self.old.value self.old.recording) }
+        requires right { IfOk ran (λ output. (m : T.Call → T.Answer)
+            → ⟦<T as Told>⟧.fits self.old.recording.now m
+            → G.def key.now m output self.old.recording.now.writes) }
+        requires settled { IfOk ran (λ _. self.old.recording.now.whole ≡ true
+            → self.old.recording.now.late ≡ false
+            → IsNamedRun ⟦<G as Meant>⟧.meaning key.now self.old.recording.now.pairs) }
+        ensures agrees { (s : Lent T T.Call T.Answer)
+            → Within ⟦<T as Written>⟧.did T.Call.touches T.Answer.eq T.answers
+            s (lent self.old.value self.old.recording) inner.around
+            → ⟦<T as ToldMut>⟧.agrees (lent self.new.value self.new.recording) }
+        ensures tells { (s : Lent T T.Call T.Answer)
+            → Within ⟦<T as Written>⟧.did T.Call.touches T.Answer.eq T.answers
+            s (lent self.old.value self.old.recording) inner.around
+            → TellsWrites ⟦<T as ToldMut>⟧.goes ⟦<T as Told>⟧.fits
+            s (lent self.new.value self.new.recording) result
+            (λ reply m writes. G.def key.now m reply.output writes) }
+        ensures finished { IfOk result (λ reply. (ran ≡ Ok reply.output)
+            × Leads (H.entries cache.old) (H.entries cache.new) (λ es es'.
+            FinishedAs ⟦<G as Meant>⟧.meaning es self.old.recording.now.late
+            (TookAs (Took T.Call.eq T.Call.touches) MarkedLate self.old.recording.now.late
+            inner.around self.new.recording.now)
+            (run inner.own self.old.recording.now.pairs reply.output
+            self.old.recording.now.writes) reply.how es')) }
+        ensures value { self.new.value ≡ self.old.value }
+        ensures incomplete { IfOk ran
+            (λ _. (result ≡ Err Fault.Incomplete) ↔ (self.old.recording.now.whole ≡ false)) }
+        ensures write { IfOk ran (λ _. IfErr result (λ fault. fault ≡ Fault.Write → ⊥)) }
+        ensures fault { IfErr ran (λ fault. result ≡ Err fault) }
+        ensures err { OnErr result (Stays (H.entries cache.old) (H.entries cache.new)
+            × BreaksOffRun ⟦<G as Meant>⟧.meaning
+            (BreaksOff (Took T.Call.eq T.Call.touches) Spoiled inner.around self.new.recording.now)
+            self.old.recording.now.pairs) }
+    {
         let InnerMut { own, around } = inner;
         // For the proof: its pairs are reads, and its writes are writes.
         self.recording.has_reads_and_writes();
@@ -214,7 +263,7 @@ impl<'a, 'b, T: Track> RecorderMut<'a, 'b, T> {
             Ok(reply) => {
                 // For the proof: its pairs are reads, and its writes are writes.
                 self.recording.has_reads_and_writes();
-                Ok(reply.output)
+                Ok(reply)
             }
             Err(fault) => Err(fault),
         }

@@ -8,3 +8,4 @@ pub mod LoadLaws
 pub mod Regions
 pub mod RegionLaws
 pub mod Rulers
+pub mod Totals

@@ -44,4 +44,5 @@ pub mod several;
 pub mod shared;
 pub mod tally;
 pub mod texts;
+pub mod totals;
 pub mod warmth;

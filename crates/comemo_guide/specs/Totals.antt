@@ -1,0 +1,15 @@
+-- Running totals of cells.
+use Rattle.std.specs.Prelude.{ℕ, zero, suc, ◌+◌, ◌%◌, ◌^◌, List, [], ◌∷◌, ◌++◌}
+use Rattle.comemo_samples.specs.declared.cells.Get.{Get}
+use Rattle.comemo_samples.specs.declared.notebook.NotebookCall.{NotebookCall}
+use Rattle.comemo_samples.specs.declared.notebook.NotebookCall.TheVariants.{Note}
+
+-- the total of the first cells, so many of them, modulo 2 to the 64th
+abbrev pub total : (Get → ℕ) → ℕ → ℕ
+total cells zero = 0
+total cells (suc count) = (total cells count + cells (record { place = count })) % 2 ^ 64
+
+-- the notes of the totals up to that one, from that of the first cell on
+abbrev pub notes : (Get → ℕ) → ℕ → List NotebookCall
+notes cells zero = []
+notes cells (suc count) = notes cells count ++ Note (total cells (suc count)) ∷ []

@@ -1,0 +1,118 @@
+//! A function that calls itself, reads one value, cells, and writes another, a notebook.
+ghost use Rattle.std.specs.Prelude.{◌≡◌, map};
+ghost use Rattle.std.proofs.Common.{rules};
+ghost use Rattle.comemo.specs.FunctionMut.{TellsWrites, lent};
+ghost use Rattle.comemo.specs.MeaningLaws.{exact_memo_laws};
+ghost use Rattle.comemo_guide.specs.Totals.{total, notes};
+
+use comemo::function::Told;
+use comemo::function_mut::ToldMut;
+use comemo::{
+    CacheData, Fault, FunctionMutOf, Hold, Memo, MultiAnswer, MultiCall, ReadAndWrite, RecorderMut,
+    Begun,
+};
+use comemo_samples::{Cells, Get, Notebook, NotebookCall};
+
+/// The total of the first cells, modulo 2^64, with the totals up to it noted in a notebook.
+pub struct RunningTotal;
+
+impl Memo for RunningTotal {
+    type Call = MultiCall<Get, NotebookCall>;
+
+    type Key = u32;
+
+    type Answer = MultiAnswer<u64, u64>;
+
+    type Out = u64;
+
+    ghost use Rattle.comemo.specs.Multi.{OnParts, second_call};
+
+    ghost def = { λ count m out writes. OnParts m (λ cells _. (out ≡ total cells count)
+        × (writes ≡ map second_call (notes cells count))) };
+
+    ghost laws = { exact_memo_laws (λ x y h. Prim.search rules) (λ x y h. Prim.search rules)
+        (λ x y h. Prim.search rules) (λ a b h. Prim.search rules) (λ x y h. Prim.search rules) };
+}
+
+/// The total of so many cells, which is kept: a later call notes the totals up to it again by a hit, while these cells
+/// are as they were.
+#[cycle(totalling)]
+pub fn totalled<'a, H: Hold<RunningTotal>>(
+    cache: &mut H,
+    count: u32,
+    both: &mut RecorderMut<'_, '_, ReadAndWrite<'a, Cells, Notebook>>,
+) -> Result<u64, Fault>
+    requires agrees { ⟦<ReadAndWrite<'a, Cells, Notebook> as ToldMut>⟧.agrees
+        (lent both.now.value both.now.recording) }
+    ensures agrees { ⟦<ReadAndWrite<'a, Cells, Notebook> as ToldMut>⟧.agrees
+        (lent both.new.value both.new.recording) }
+    ensures tells { TellsWrites ⟦<ReadAndWrite<'a, Cells, Notebook> as ToldMut>⟧.goes
+        ⟦<ReadAndWrite<'a, Cells, Notebook> as Told>⟧.fits
+        (lent both.old.value both.old.recording) (lent both.new.value both.new.recording) result
+        (λ out m writes. ⟦<RunningTotal as Memo>⟧.def count m out writes) }
+{
+    let run = match both.begin(cache, &count)? {
+        Begun::Hit(total) => return Ok(total),
+        Begun::Run(run) => run,
+    };
+    let ran = add_up(cache, count, both);
+    both.finish(cache, &count, run, ran)
+}
+
+/// The run of it.
+#[cycle(totalling)]
+fn add_up<'a, H: Hold<RunningTotal>>(
+    cache: &mut H,
+    count: u32,
+    both: &mut RecorderMut<'_, '_, ReadAndWrite<'a, Cells, Notebook>>,
+) -> Result<u64, Fault>
+    requires agrees { ⟦<ReadAndWrite<'a, Cells, Notebook> as ToldMut>⟧.agrees
+        (lent both.now.value both.now.recording) }
+    ensures agrees { ⟦<ReadAndWrite<'a, Cells, Notebook> as ToldMut>⟧.agrees
+        (lent both.new.value both.new.recording) }
+    ensures tells { TellsWrites ⟦<ReadAndWrite<'a, Cells, Notebook> as ToldMut>⟧.goes
+        ⟦<ReadAndWrite<'a, Cells, Notebook> as Told>⟧.fits
+        (lent both.old.value both.old.recording) (lent both.new.value both.new.recording) result
+        (λ out m writes. ⟦<RunningTotal as Memo>⟧.def count m out writes) }
+{
+    if count == 0 {
+        return Ok(0);
+    }
+    let before = totalled(cache, count - 1, both)?;
+    let cell = both.ask_first(Get { place: count - 1 })?;
+    let total = before.wrapping_add(cell);
+    both.write_second(NotebookCall::Note(total))?;
+    Ok(total)
+}
+
+/// The total of the first cells, with the totals up to it noted, as a function that is called like any.
+///
+/// The run calls `totalled`. After a fault the notebook has a beginning of the totals.
+pub struct NotesTotals;
+
+impl Memo for NotesTotals {
+    type Call = MultiCall<Get, NotebookCall>;
+
+    type Key = u32;
+
+    type Answer = MultiAnswer<u64, u64>;
+
+    type Out = u64;
+
+    ghost def = { ⟦<RunningTotal as Memo>⟧.def };
+
+    ghost laws = { exact_memo_laws (λ x y h. Prim.search rules) (λ x y h. Prim.search rules)
+        (λ x y h. Prim.search rules) (λ a b h. Prim.search rules) (λ x y h. Prim.search rules) };
+}
+
+impl<'a> FunctionMutOf<ReadAndWrite<'a, Cells, Notebook>> for NotesTotals {
+    type Needs = CacheData<RunningTotal>;
+
+    fn run(
+        count: &u32,
+        both: &mut RecorderMut<'_, '_, ReadAndWrite<'a, Cells, Notebook>>,
+        kept: &mut CacheData<RunningTotal>,
+    ) -> Result<u64, Fault> {
+        totalled(kept, *count, both)
+    }
+}
