@@ -11,8 +11,8 @@ use crate::cache::{CacheData, Meant, Memo};
 use comemo_track::input::Input;
 use comemo_track::track::Call;
 use comemo_tree::CallTree;
-use std::hash::Hash;
 use std::alloc::{AllocError, Global};
+use std::hash::Hash;
 
 /// Why a call of a memoized function is a hit or a run.
 #[derive(Debug, Drop)]

@@ -8,8 +8,8 @@ ghost use Rattle.comemo_guide.specs.Totals.{total, notes};
 use comemo::function::Told;
 use comemo::function_mut::ToldMut;
 use comemo::{
-    CacheData, Fault, FunctionMutOf, Hold, Memo, MultiAnswer, MultiCall, ReadAndWrite, RecorderMut,
-    Begun,
+    Begun, CacheData, Fault, FunctionMutOf, Hold, Memo, MultiAnswer, MultiCall, ReadAndWrite,
+    RecorderMut,
 };
 use comemo_samples::{Cells, Get, Notebook, NotebookCall};
 

@@ -3,5 +3,6 @@
 use crate::notes::{AddsThree, NotesThree};
 use comemo::internal::TrackedMut;
 use comemo::{
-    Begun, BothMut, CacheData, Constraint, Fault, How, MemoOfMut, MultiAnswer, MultiCall, RecorderMut,
-    Sink, Top, Track, memoize, memoized_mut_with,
+    Begun, BothMut, CacheData, Constraint, Fault, How, MemoOfMut, MultiAnswer, MultiCall,
+    RecorderMut, Sink, Top, Track, memoize, memoized_mut_with,
+};

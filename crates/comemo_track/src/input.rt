@@ -163,8 +163,8 @@ impl<'a, K: Clone + Eq + Hash, T: Track> Input for KeyedMut<'a, K, T> {
       b.2 ∙ a.2,
     ) };
 
-    ghost keeps = { λ s t W a. done_keeps T.wrote T.Call.is_write T.Call.touches T.Answer.eq T.answers
-        T.Answer.Eq.laws s.value.now t.value.now W a.0 };
+    ghost keeps = { λ s t W a. done_keeps T.wrote T.Call.is_write T.Call.touches
+        T.Answer.eq T.answers T.Answer.Eq.laws s.value.now t.value.now W a.0 };
 
     ghost keeps_key = { λ s t W a. equal_if_one K.Eq.laws _ _ a.2 };
 
