@@ -1,5 +1,5 @@
 -- What a look-up that notes what it asks comes to know.
-use Rattle.std.proofs.Common.{◌≡◌, ◌∙◌, ◌⊎◌, inl, inr, zero, suc, Bool, true, false, is_some, List, [], ◌∷◌, ◌++◌, IsTrue, Option, Some, None, Result, Ok, Err, IfOk, option_map, refl, sym, ap, subst, arith}
+use Rattle.std.proofs.Common.{◌≡◌, ◌∙◌, inl, inr, Bool, true, false, is_some, List, [], ◌∷◌, ◌++◌, IsTrue, Option, Some, None, Result, Ok, Err, IfOk, option_map, refl, sym, ap, subst, arith}
 use Rattle.std.proofs.Math.Seq.{append_snoc}
 use Rattle.std.proofs.lemmas.List.{append-nil}
 use Rattle.std.specs.List.{All, Any}

@@ -1,5 +1,4 @@
 use Rattle.std.proofs.Common.{rules, ◌≡◌, ◌++◌, ◌∷◌, []}
-use Rattle.comemo_base.specs.Tree.{IsSamePath}
 use Rattle.comemo_cache.proofs.Sendings.{on_err}
 use Rattle.comemo_cache.proofs.Explaining.{agreeing, kept_none, diverges}
 use Rattle.comemo_cache.proofs.cache.CacheData.explain.Goals as goal

@@ -1,4 +1,4 @@
-use Rattle.std.proofs.Common.{rules, ◌≡◌, ◌++◌, ◌∷◌, [], refl}
+use Rattle.std.proofs.Common.{rules}
 use Rattle.comemo_cache.proofs.explain.fn.note_agreeing.get.Goals as goal
 
 pub returns : goal.returns
