@@ -5,8 +5,7 @@ ghost use Rattle.comemo.specs.FunctionMut.{TellsWrites, lent};
 ghost use Rattle.comemo.specs.MeaningLaws.{exact_memo_laws};
 ghost use Rattle.comemo_guide.specs.Totals.{total, notes};
 
-use comemo::function::Told;
-use comemo::function_mut::ToldMut;
+use comemo::internal::{Told, ToldMut};
 use comemo::{
     Begun, CacheData, Fault, FunctionMutOf, Hold, Memo, MultiAnswer, MultiCall, ReadAndWrite,
     RecorderMut,

@@ -1,0 +1,98 @@
+//! Why a call is a hit or a run.
+
+use comemo::{Cache, CacheData, Explanation, Hold, MemoOf, Top, Track, explain, memoized_with};
+use comemo_guide::named::Sum;
+use comemo_samples::{Context, ContextCall};
+use std::alloc::Global;
+
+/// What an explanation says.
+#[derive(Drop)]
+enum Said<'a> {
+    Hit,
+    NeverKept,
+    /// These answers still stand, and this call has another one.
+    Changed(&'a [(ContextCall, u64)], ContextCall, u64),
+}
+
+/// Whether this is said of a call at a context.
+fn says<H: Hold<MemoOf<Sum>>>(
+    alloc: Global,
+    cache: &mut H,
+    (location, styles): (u64, u64),
+    wanted: &Said<'_>,
+) -> bool {
+    let context = Context { location, styles };
+    match (explain(alloc, cache, &(), &context.track(alloc)), wanted) {
+        (Ok(Explanation::Hit), Said::Hit) => true,
+        (Ok(Explanation::NeverKept), Said::NeverKept) => true,
+        (
+            Ok(
+                Explanation::Changed {
+                    asked,
+                    call,
+                    answer,
+                },
+            ),
+            Said::Changed(pairs, next, now),
+        ) => asked.as_slice() == *pairs && call == *next && answer == *now,
+        _ => false,
+    }
+}
+
+/// Whether the sum of a context is this, where its location is asked first.
+fn sums<H: Hold<MemoOf<Sum>>>(
+    alloc: Global,
+    cache: &mut H,
+    (location, styles): (u64, u64),
+    sum: u64,
+) -> bool {
+    let context = Context { location, styles };
+    let mut first = ContextCall::Location;
+    let view = context.track(alloc);
+    match memoized_with(alloc, cache, &mut first, (), &view, &mut Top::new(), true) {
+        Ok(reply) => reply.output == sum,
+        Err(_) => false,
+    }
+}
+
+/// Whether each answer is explained, before and after a run of (1, 2) and one of (1, 5), through any holder.
+fn is_explained<H: Hold<MemoOf<Sum>>>(alloc: Global, cache: &mut H) -> bool {
+    let location = ContextCall::Location;
+    let styles = ContextCall::Styles;
+    says(alloc, cache, (1, 2), &Said::NeverKept)
+        && sums(alloc, cache, (1, 2), 3)
+        && says(alloc, cache, (1, 2), &Said::Hit)
+        && says(alloc, cache, (4, 2), &Said::Changed(&[], location, 4))
+        && says(
+            alloc,
+            cache,
+            (1, 5),
+            &Said::Changed(&[(location, 1)], styles, 5),
+        )
+        && sums(alloc, cache, (1, 5), 6)
+        && says(alloc, cache, (1, 5), &Said::Hit)
+        && says(
+            alloc,
+            cache,
+            (1, 6),
+            &Said::Changed(&[(location, 1)], styles, 6),
+        )
+}
+
+#[test]
+fn an_owned_cache_says_why(rt: HostRuntime) {
+    let alloc = rt.alloc();
+    let mut cache: CacheData<MemoOf<Sum>> = CacheData::new(alloc);
+    assert!(rt; is_explained(alloc, &mut cache));
+    assert_eq!(rt; cache.len(), 2);
+    cache.evict(0);
+    assert!(rt; says(alloc, &mut cache, (1, 2), &Said::NeverKept));
+}
+
+#[test]
+fn a_shared_cache_says_why(rt: HostRuntime) {
+    let alloc = rt.alloc();
+    let cache: Cache<MemoOf<Sum>> = Cache::new(alloc);
+    assert!(rt; is_explained(alloc, &mut cache.hold(&rt)));
+    assert!(rt; says(alloc, &mut cache.hold(&rt), (1, 2), &Said::Hit));
+}
