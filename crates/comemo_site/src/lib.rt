@@ -2,6 +2,7 @@
 #![tactic(auto)]
 
 pub mod line;
+pub mod link;
 pub mod log;
 pub mod render;
 pub mod site;

@@ -48,6 +48,13 @@ impl Text {
         Ok(Text { string })
     }
 
+    /// The `String` of the text. It copies nothing.
+    pub fn into_string(self) -> String
+        ensures { string_bytes result ≡ self }
+    {
+        self.string
+    }
+
     /// The text.
     pub fn as_str(&self) -> &str
         ensures { result.now ≡ self.now }
