@@ -1,0 +1,4 @@
+pub mod Exact
+pub mod Sites
+pub mod SiteLaws
+pub mod Pages

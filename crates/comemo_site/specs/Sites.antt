@@ -1,0 +1,39 @@
+-- What a site answers, and what is to be read in an answer.
+use Rattle.std.specs.Prelude.{ℕ, List, String, Option, None, Some}
+use Rattle.std.specs.Global.{Global}
+use Rattle.std.specs.HashMap.{HashMap, get_by_text}
+use Rattle.comemo_site.specs.declared.line.Line.{Line}
+use Rattle.comemo_site.specs.declared.site.Page.{Page}
+use Rattle.comemo_site.specs.declared.site.SiteCall.{SiteCall}
+use Rattle.comemo_site.specs.declared.site.SiteCall.TheVariants.{TitleOf, LinesOf}
+use Rattle.comemo_site.specs.declared.site.SiteAnswer.{SiteAnswer}
+use Rattle.comemo_site.specs.declared.site.SiteAnswer.TheVariants.{Missing, Title, Lines}
+
+-- the page of a name
+abbrev pub page_of : {H : Type 0} → HashMap (String Global) Page H → List ℕ → Option Page
+page_of pages name = get_by_text pages name
+
+abbrev pub title_answer : Option Page → SiteAnswer
+title_answer None = Missing
+title_answer (Some page) = Title page.title
+
+abbrev pub lines_answer : Option Page → SiteAnswer
+lines_answer None = Missing
+lines_answer (Some page) = Lines page.lines
+
+-- what a site answers to a call
+abbrev pub site_answer : {H : Type 0} → HashMap (String Global) Page H → SiteCall → SiteAnswer
+site_answer pages (TitleOf name) = title_answer (page_of pages name)
+site_answer pages (LinesOf name) = lines_answer (page_of pages name)
+
+-- the title of a page; none where there is no such page
+abbrev pub title_in : SiteAnswer → Option (List ℕ)
+title_in Missing = None
+title_in (Title title) = Some title
+title_in (Lines lines) = None
+
+-- the lines of a page; none where there is no such page
+abbrev pub lines_in : SiteAnswer → Option (List Line)
+lines_in Missing = None
+lines_in (Title title) = None
+lines_in (Lines lines) = Some lines.items

@@ -1,0 +1,133 @@
+//! A page as it is printed: a function that reads alone, and calls itself through its own cache and another function.
+ghost use Rattle.std.specs.Prelude.{◌≡◌, ◌++◌, ◌∷◌, [], string_bytes, unwrap_or, IfOk};
+ghost use Rattle.std.proofs.Common.{rules};
+ghost use Rattle.comemo.specs.Recursive.{TellsOwn};
+ghost use Rattle.comemo_site.specs.Sites.{site_answer, title_in};
+ghost use Rattle.comemo_site.specs.declared.site.SiteCall.TheVariants.{TitleOf};
+ghost use Rattle.comemo_site.specs.Pages.{line_text, page_text};
+
+use crate::line::Line;
+use crate::site::{Site, SiteCall};
+use crate::text::Text;
+use crate::title::Title;
+use comemo::internal::Told;
+use comemo::{Begun, CacheData, Fault, Hold, MemoOf, MemoOfRecursive, Recorder, Recursive, Track};
+use std::alloc::{AllocError, Global};
+
+/// The text of a page, with the pages that it includes down to a limit.
+pub struct Render;
+
+impl Recursive for Render {
+    type Key = (Text, u64);
+
+    type Of = Site;
+
+    type Out = Text;
+
+    ghost means = { λ key m out. out ≡ page_text m key.1 key.0 };
+
+    ghost laws = { Prim.search rules };
+}
+
+/// What rendering keeps: the pages and the titles.
+pub type Kept = (CacheData<MemoOfRecursive<Render>>, CacheData<MemoOf<Title>>);
+
+/// The text of the page of a name, kept, with the pages that it includes down to a limit.
+#[cycle(rendering)]
+pub fn rendered<P: Hold<MemoOfRecursive<Render>>, T: Hold<MemoOf<Title>>>(
+    alloc: Global,
+    kept: &mut (P, T),
+    name: Text,
+    limit: u64,
+    site: &mut Recorder<'_, Site>,
+) -> Result<Text, Fault>
+    ensures { TellsOwn ⟦<Site as Told>⟧.fits site.old site.new result
+        (λ text m. text ≡ page_text m limit name) }
+{
+    if limit == 0 {
+        return Ok(Text::new(String::new(alloc)));
+    }
+    let key = (name, limit);
+    let mut run = match site.begin(&mut kept.0, &key)? {
+        Begun::Hit(text) => return Ok(text),
+        Begun::Run(run) => run,
+    };
+    let recorder = &mut run.recorder;
+    let answer = recorder.ask(SiteCall::LinesOf(key.0.clone()?))?;
+    let mut text = String::new(alloc);
+    for line in answer.lines() {
+        let part = line_rendered(alloc, kept, line, limit - 1, recorder)?;
+        text.push_str(part.as_str())?;
+    }
+    site.finish(&mut kept.0, &key, run, Text::new(text))
+}
+
+/// The text of a line, with the page that it includes down to a limit.
+#[cycle(rendering)]
+fn line_rendered<P: Hold<MemoOfRecursive<Render>>, T: Hold<MemoOf<Title>>>(
+    alloc: Global,
+    kept: &mut (P, T),
+    line: &Line,
+    limit: u64,
+    site: &mut Recorder<'_, Site>,
+) -> Result<Text, Fault>
+    ensures { TellsOwn ⟦<Site as Told>⟧.fits site.old site.new result
+        (λ text m. text ≡ line_text m (page_text m limit) line.now) }
+{
+    match line {
+        Line::Words(words) => Ok(ended(alloc, words)?),
+        Line::Include(name) => rendered(alloc, kept, name.clone()?, limit, site),
+        Line::Link(name) => {
+            let title = titled(&mut kept.1, name, site)?;
+            Ok(linked(alloc, title, name)?)
+        }
+    }
+}
+
+/// The title of a page.
+fn titled<T: Hold<MemoOf<Title>>>(
+    titles: &mut T,
+    name: &Text,
+    site: &mut Recorder<'_, Site>,
+) -> Result<Option<Text>, Fault>
+    ensures { TellsOwn ⟦<Site as Told>⟧.fits site.old site.new result
+        (λ title m. title ≡ title_in (m (TitleOf name.now))) }
+{
+    match site.call(titles, &mut (), (name.clone()?, ())) {
+        Ok(title) => Ok(title),
+        Err(_) => Err(Fault::Memory),
+    }
+}
+
+/// A text with the end of its line.
+pub fn ended(alloc: Global, text: &Text) -> Result<Text, AllocError>
+    ensures { IfOk result (λ line. line ≡ text.now ++ 10 ∷ []) }
+{
+    let mut line = String::from_str(alloc, text.as_str())?;
+    line.push('\n')?;
+    Ok(Text::new(line))
+}
+
+/// The line of a link to a page of this title: the title, or the name where there is no such page.
+fn linked(alloc: Global, title: Option<Text>, name: &Text) -> Result<Text, AllocError>
+    ensures { IfOk result (λ line. line ≡ unwrap_or title name.now ++ 10 ∷ []) }
+{
+    match title {
+        Some(title) => ended(alloc, &title),
+        None => ended(alloc, name),
+    }
+}
+
+/// The text of a page of a site as it is, with the pages that it includes down to a limit.
+pub fn page_now<P: Hold<MemoOfRecursive<Render>>, T: Hold<MemoOf<Title>>>(
+    alloc: Global,
+    kept: &mut (P, T),
+    site: &Site,
+    name: Text,
+    limit: u64,
+) -> Result<Text, Fault>
+    ensures { IfOk result (λ text. text ≡ page_text (site_answer site.now.pages) limit name) }
+{
+    let mut recorder = Recorder::new(alloc, site.track(alloc));
+    rendered(alloc, kept, name, limit, &mut recorder)
+}

@@ -1,0 +1,157 @@
+//! A site of pages by name, as a tracked value that is read.
+ghost use Rattle.std.specs.Prelude.{◌≡◌, ℕ, List, None, Some, false, refl, bytes_eq, if◌then◌else◌, string_bytes, unwrap_or, [], IsTrue, IfOk, OnOk, OnErr};
+ghost use Rattle.std.proofs.Common.{rules};
+ghost use Rattle.comemo_site.specs.Sites.{page_of, title_answer, lines_answer, title_in, lines_in};
+
+use crate::line::Line;
+use crate::text::Text;
+use comemo::{Call, Track};
+use std::alloc::{AllocError, Global};
+use std::collections::HashMap;
+
+/// What can be asked of a site.
+#[derive(Clone, Drop, Debug, PartialEq, Eq, Hash)]
+pub enum SiteCall {
+    /// The title of the page of a name.
+    TitleOf(Text),
+    /// The lines of the page of a name.
+    LinesOf(Text),
+}
+
+impl Call for SiteCall {
+    ghost is_write = { λ _. false };
+
+    ghost touches = { λ _ _. false };
+
+    ghost same_kind = { λ x y h. refl };
+
+    ghost clones = { λ x y h. Prim.search rules };
+
+    fn is_mutable(&self) -> bool {
+        false
+    }
+
+    fn touches(&self, _read: &SiteCall) -> bool {
+        false
+    }
+}
+
+/// What a site answers.
+#[derive(Clone, Drop, Debug, PartialEq, Eq, PartialOrd, Ord)]
+pub enum SiteAnswer {
+    /// No page has that name.
+    Missing,
+    /// Its title.
+    Title(Text),
+    /// Its lines.
+    Lines(Vec<Line>),
+}
+
+impl SiteAnswer {
+    /// The title; none where there is no such page.
+    pub fn into_title(self) -> Option<Text>
+        ensures { result ≡ title_in self }
+    {
+        match self {
+            SiteAnswer::Title(title) => Some(title),
+            SiteAnswer::Missing | SiteAnswer::Lines(_) => None,
+        }
+    }
+
+    /// The lines; none where there is no such page.
+    pub fn lines(&self) -> &[Line]
+        ensures { result.now ≡ unwrap_or (lines_in self.now) [] }
+    {
+        match self {
+            SiteAnswer::Lines(lines) => lines.as_slice(),
+            SiteAnswer::Missing | SiteAnswer::Title(_) => &[],
+        }
+    }
+}
+
+/// A page.
+#[derive(Clone, Drop, Debug)]
+pub struct Page {
+    /// Its title.
+    pub title: Text,
+    /// Its lines.
+    pub lines: Vec<Line>,
+}
+
+/// A site: the pages by their names.
+#[derive(Drop)]
+pub struct Site {
+    pages: HashMap<String, Page>,
+}
+
+impl Site {
+    /// A site of no page. It takes no memory.
+    pub fn new(alloc: Global) -> Self
+        ensures { (name : List ℕ) → page_of result.pages name ≡ None }
+    {
+        Site {
+            pages: HashMap::new(alloc),
+        }
+    }
+
+    #[tactic(auto, using(std::proofs::lemmas::Map::Text::text_keys))]
+    /// Sets a page.
+    ///
+    /// Fails if there is no memory for it. The site is unchanged then.
+    pub fn set(&mut self, name: String, page: Page) -> Result<(), AllocError>
+        ensures ok { OnOk result ((q : List ℕ) → page_of self.new.pages q
+            ≡ (if bytes_eq q (string_bytes name) then Some page else page_of self.old.pages q)) }
+        ensures err { OnErr result
+            ((q : List ℕ) → page_of self.new.pages q ≡ page_of self.old.pages q) }
+    {
+        match self.pages.insert(name, page) {
+            Ok(_) => Ok(()),
+            Err(_) => Err(AllocError),
+        }
+    }
+
+    /// The title of a page.
+    fn title(&self, name: &str) -> Result<SiteAnswer, AllocError>
+        ensures { IfOk result (λ answer. answer ≡ title_answer (page_of self.now.pages name.now)) }
+    {
+        let Some(page) = self.pages.get(name) else {
+            return Ok(SiteAnswer::Missing);
+        };
+        let title = page.title.clone()?;
+        Ok(SiteAnswer::Title(title))
+    }
+
+    /// The lines of a page.
+    fn lines(&self, name: &str) -> Result<SiteAnswer, AllocError>
+        ensures { IfOk result (λ answer. IsTrue (⟦<SiteAnswer as PartialEq>⟧.eq
+            (lines_answer (page_of self.now.pages name.now)) answer)) }
+    {
+        let Some(page) = self.pages.get(name) else {
+            return Ok(SiteAnswer::Missing);
+        };
+        let lines = page.lines.clone()?;
+        Ok(SiteAnswer::Lines(lines))
+    }
+}
+
+impl Track for Site {
+    type Call = SiteCall;
+
+    type Answer = SiteAnswer;
+
+    ghost use Rattle.comemo_site.specs.Sites.{site_answer};
+    ghost use Rattle.comemo_site.specs.SiteLaws.{site_alike, answer_clones};
+
+    ghost answers = { λ s call. site_answer s.pages call };
+
+    ghost alike = { λ s. site_alike s.pages };
+
+    ghost clones = { answer_clones };
+
+    fn ask(&self, call: &SiteCall) -> Result<SiteAnswer, AllocError> {
+        match call {
+            SiteCall::TitleOf(name) => self.title(name.as_str()),
+            SiteCall::LinesOf(name) => self.lines(name.as_str()),
+        }
+    }
+}

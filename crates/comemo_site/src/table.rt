@@ -1,0 +1,54 @@
+//! Pages that threads render, through caches that they share.
+ghost use Rattle.std.specs.Prelude.{◌≡◌, ℕ, ◌<◌, length, IfOk, slice_index_or};
+ghost use Rattle.comemo_site.specs.Sites.{site_answer};
+ghost use Rattle.comemo_site.specs.Pages.{page_text};
+
+use crate::render::{Render, page_now};
+use crate::site::Site;
+use crate::text::Text;
+use crate::title::Title;
+use comemo::{Cache, Fault, MemoOf, MemoOfRecursive};
+use std::alloc::{AllocError, Global};
+use std::sync::Wait;
+use std::thread::{Threads, map_indices};
+
+/// What threads share: the pages and the titles that are kept.
+pub type SharedPages = (Cache<MemoOfRecursive<Render>>, Cache<MemoOf<Title>>);
+
+/// The text of a page of a site as it is, kept in caches that other threads use too.
+pub fn shared_page<R: Wait>(
+    rt: &R,
+    alloc: Global,
+    shared: &SharedPages,
+    site: &Site,
+    name: &Text,
+    limit: u64,
+) -> Result<Text, Fault>
+    ensures { IfOk result (λ text. text ≡ page_text (site_answer site.now.pages) limit name.now) }
+{
+    let mut kept = (shared.0.hold(rt), shared.1.hold(rt));
+    page_now(alloc, &mut kept, site, name.clone()?, limit)
+}
+
+/// The texts of the pages of these names, in their order: a table that threads render.
+///
+/// Fails if there is no memory for the table. A page whose call failed has its fault in the table.
+pub fn table<R: Threads + Wait + Sync>(
+    rt: &R,
+    alloc: Global,
+    shared: &SharedPages,
+    site: &Site,
+    names: &[Text],
+    limit: u64,
+) -> Result<Vec<Result<Text, Fault>>, AllocError>
+    ensures { IfOk result (λ texts. (i : ℕ) (d : _) (e : _) → i < length names.now
+        → IfOk (slice_index_or texts.items i e) (λ text. text
+        ≡ page_text (site_answer site.now.pages) limit (slice_index_or names.now i d))) }
+{
+    map_indices(
+        rt,
+        alloc,
+        names.len(),
+        &|i| shared_page(rt, alloc, shared, site, &names[i], limit),
+    )
+}

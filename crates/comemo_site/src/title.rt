@@ -1,0 +1,35 @@
+//! The title of a page: a memoized function.
+ghost use Rattle.std.specs.Prelude.{◌≡◌};
+ghost use Rattle.std.proofs.Common.{rules};
+ghost use Rattle.comemo_site.specs.Sites.{title_in};
+ghost use Rattle.comemo_site.specs.declared.site.SiteCall.TheVariants.{TitleOf};
+
+use crate::site::{Site, SiteCall};
+use crate::text::Text;
+use comemo::{Fault, Function, Recorder};
+
+/// The title of the page of a name; none where there is no such page.
+pub struct Title;
+
+impl Function for Title {
+    type Key = (Text, ());
+
+    type Of = Site;
+
+    type Out = Option<Text>;
+
+    type Needs = ();
+
+    ghost means = { λ key m out. out ≡ title_in (m (TitleOf key.0)) };
+
+    ghost laws = { Prim.search rules };
+
+    fn run(
+        key: &(Text, ()),
+        site: &mut Recorder<'_, Site>,
+        _needs: &mut (),
+    ) -> Result<Option<Text>, Fault> {
+        let answer = site.ask(SiteCall::TitleOf(key.0.clone()?))?;
+        Ok(answer.into_title())
+    }
+}
