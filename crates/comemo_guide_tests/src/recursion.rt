@@ -1,9 +1,11 @@
-//! The function that calls itself and writes, at work.
+//! The functions that call themselves and write, at work.
 
-use comemo::{CacheData, Fault, MemoOfRecursiveMut};
+use comemo::{CacheData, Fault, MemoOfRecursiveMut, ReadAndWrite, Top, Track, memoized_mut};
 use comemo_guide::ruler::{Ruler, rule};
-use comemo_samples::Notebook;
+use comemo_guide::totals::{NotesTotals, RunningTotal};
+use comemo_samples::{Cells, Notebook};
 use std::alloc::Global;
+use std::test::Fail;
 
 /// Whether a ruler of this height, drawn in a new notebook that has this owner and so much room, ends so, and these marks
 /// stand there then.
@@ -54,4 +56,88 @@ fn a_ruler_that_has_no_room_is_begun(rt: HostRuntime) {
         assert!(rt; is_so, "for {marks:?}");
         assert_eq!(rt; cache.len(), 2);
     }
+}
+
+/// Whether the total of so many cells ends so, noted in a new notebook that has so much room, and these totals stand there
+/// then.
+fn is_totalled(
+    alloc: Global,
+    cache: &mut CacheData<RunningTotal>,
+    (cells, count): (&Cells, u32),
+    room: usize,
+    ended: Result<u64, Fault>,
+    totals: &[u64],
+) -> bool {
+    let mut book = Notebook::new(alloc, 7, room);
+    let mut both = ReadAndWrite {
+        first: cells.track(alloc),
+        second: &mut book,
+    };
+    let mut own: CacheData<NotesTotals> = CacheData::new(alloc);
+    let is_so = match memoized_mut(
+        alloc,
+        &mut own,
+        cache,
+        count,
+        &mut both,
+        &mut Top::new(),
+        true,
+    ) {
+        Ok(reply) => ended == Ok(reply.output),
+        Err(fault) => ended == Err(fault),
+    };
+    is_so && both.second.lines() == totals
+}
+
+#[test]
+fn a_total_is_noted_by_the_totals_before(rt: HostRuntime) -> Result<(), Fail> {
+    let alloc = rt.alloc();
+    let mut cache: CacheData<RunningTotal> = CacheData::new(alloc);
+    // The cells hold 1, 4, 7 and 10.
+    let mut cells = Cells::new(alloc, 4)?;
+    // The number that the last cell is set to, how many cells are totalled, the totals, and how many are kept then.
+    let calls: &[(u64, u32, &[u64], usize)] = &[
+        // The totals of 0, 1, 2 and 3 cells are kept, each once.
+        (10, 3, &[1, 5, 12], 4),
+        // All but the total of 4 cells is noted by a hit.
+        (10, 4, &[1, 5, 12, 22], 5),
+        (90, 4, &[1, 5, 12, 102], 6),
+        // The last cell was not asked.
+        (91, 3, &[1, 5, 12], 6),
+        (10, 4, &[1, 5, 12, 22], 6),
+    ];
+    for (last, count, totals, len) in calls {
+        cells.set(3, *last);
+        let total = totals[totals.len() - 1];
+        let is_so = is_totalled(alloc, &mut cache, (&cells, *count), 9, Ok(total), *totals);
+        assert!(rt; is_so, "for {count} and {last}");
+        assert_eq!(rt; cache.len(), *len);
+    }
+    Ok(())
+}
+
+#[test]
+fn totals_that_have_no_room_are_begun(rt: HostRuntime) -> Result<(), Fail> {
+    let alloc = rt.alloc();
+    let mut cache: CacheData<RunningTotal> = CacheData::new(alloc);
+    let cells = Cells::new(alloc, 4)?;
+    let calls: &[(Fault, &[u64])] = &[
+        // The third total is refused to the run of 3 cells; those of fewer were kept.
+        (Fault::Memory, &[1, 5]),
+        // The second is refused to the hit of 2 cells.
+        (Fault::Write, &[1]),
+    ];
+    for (fault, totals) in calls {
+        let is_so = is_totalled(
+            alloc,
+            &mut cache,
+            (&cells, 3),
+            totals.len(),
+            Err(*fault),
+            *totals,
+        );
+        assert!(rt; is_so, "for {totals:?}");
+        assert_eq!(rt; cache.len(), 3);
+    }
+    Ok(())
 }
