@@ -1,6 +1,6 @@
 //! The functions that call themselves and write, at work.
 
-use comemo::{CacheData, Fault, MemoOfRecursiveMut, ReadAndWrite, Top, Track, memoized_mut};
+use comemo::{CacheData, Fault, MemoOfRecursiveMut, ReadAndWrite, Top, Track, memoized_mut_with};
 use comemo_guide::ruler::{Ruler, rule};
 use comemo_guide::totals::{NotesTotals, RunningTotal};
 use comemo_samples::{Cells, Notebook};
@@ -74,7 +74,7 @@ fn is_totalled(
         second: &mut book,
     };
     let mut own: CacheData<NotesTotals> = CacheData::new(alloc);
-    let is_so = match memoized_mut(
+    let is_so = match memoized_mut_with(
         alloc,
         &mut own,
         cache,
