@@ -153,8 +153,8 @@ impl<'a, T: Track> Recorder<'a, T> {
     /// Calls another memoized function of the same value, and records what it asked.
     ///
     /// A fault leaves the other's cache as it was, and the recording is spoiled: the run that is recorded can't be
-    /// finished. It costs what `memoized_with` costs, with the recording as its sink. This project's own: in comemo it is a
-    /// call like any.
+    /// finished. It costs what `memoized_with` costs, with the recording as its sink. This project's own: in comemo it
+    /// is a call like any.
     pub fn call<G: FunctionOf<T>, H: Hold<G>>(
         &mut self,
         cache: &mut H,
@@ -376,8 +376,9 @@ fn run_kept<M: FunctionOf<T>, H: Hold<M>, T: Track, S: Sink<Call = T::Call, Answ
 
 /// Calls a memoized function that needs nothing, with no run around it: `memoized_with` for the plain case.
 ///
-/// It costs what `memoized_with` costs with a `Top` as its sink, which keeps nothing: a hit of an entry of age 0 clones its
-/// output alone, and so does the end of a run. This project's own: a call of a function under comemo's `#[memoize]`.
+/// It costs what `memoized_with` costs with a `Top` as its sink, which keeps nothing: a hit of an entry of age 0 clones
+/// its output alone, and so does the end of a run. This project's own: a call of a function under comemo's
+/// `#[memoize]`.
 pub fn memoized<M: FunctionOf<T, Needs = ()>, H: Hold<M>, T: Track>(
     alloc: Global,
     cache: &mut H,

@@ -182,8 +182,8 @@ impl<'a, 'b, T: Track> RecorderMut<'a, 'b, T> {
     /// Calls another memoized function of the same value, which reads alone, and records what it asked.
     ///
     /// A fault leaves the other's cache as it was, and the recording is spoiled: the run that is recorded can't be
-    /// finished. It costs what `memoized_with` costs, with the recording as its sink. This project's own: in comemo it is a
-    /// call like any.
+    /// finished. It costs what `memoized_with` costs, with the recording as its sink. This project's own: in comemo it
+    /// is a call like any.
     pub fn call<G: FunctionOf<T>, H: Hold<G>>(
         &mut self,
         cache: &mut H,
@@ -216,9 +216,9 @@ impl<'a, 'b, T: Track> RecorderMut<'a, 'b, T> {
 
     /// Calls another memoized function of the same value, which writes, and records what it asked and wrote.
     ///
-    /// A fault spoils the recording: the run that is recorded can't be finished. The writes that were done before it stay
-    /// done. It costs what `memoized_mut_with` costs, with the recording as its sink. This project's own: in comemo it is a
-    /// call like any.
+    /// A fault spoils the recording: the run that is recorded can't be finished. The writes that were done before it
+    /// stay done. It costs what `memoized_mut_with` costs, with the recording as its sink. This project's own: in
+    /// comemo it is a call like any.
     pub fn call_mut<G: FunctionMutOf<T>, H: Hold<G>>(
         &mut self,
         cache: &mut H,
@@ -434,7 +434,8 @@ pub fn memoized_mut_with<
     }
 }
 
-/// Calls a memoized function that writes and needs nothing, with no run around it: `memoized_mut_with` for the plain case.
+/// Calls a memoized function that writes and needs nothing, with no run around it: `memoized_mut_with` for the plain
+/// case.
 ///
 /// Fails as `memoized_mut_with` fails, and then the same stands. It costs what that costs with a `Top` as its sink, which
 /// keeps nothing. This project's own: a call of a function under comemo's `#[memoize]` that takes a `TrackedMut`.

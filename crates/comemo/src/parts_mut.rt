@@ -117,8 +117,8 @@ impl<'a, 'b, 'c, A: Track, B: Track> RecorderMut<'a, 'b, ReadAndWrite<'c, A, B>>
 
     /// Calls a memoized function of the first value, which only reads, and records its calls.
     ///
-    /// Fails if `memoized_with` fails. The cache of the called function is unchanged then, and the recording is spoiled, so
-    /// the run can't be finished. It costs what `memoized_with` costs.
+    /// Fails if `memoized_with` fails. The cache of the called function is unchanged then, and the recording is
+    /// spoiled, so the run can't be finished. It costs what `memoized_with` costs.
     pub fn call_first<G: FunctionOf<A>, H: Hold<G>>(
         &mut self,
         cache: &mut H,
@@ -158,8 +158,8 @@ impl<'a, 'b, 'c, A: Track, B: Track> RecorderMut<'a, 'b, ReadAndWrite<'c, A, B>>
 
     /// Calls a memoized function of the second value, which may write, and records its calls and writes.
     ///
-    /// Fails if `memoized_mut_with` fails. The recording is spoiled then, so the run can't be finished. The writes that were
-    /// done before the failure stay done. It costs what `memoized_mut_with` costs.
+    /// Fails if `memoized_mut_with` fails. The recording is spoiled then, so the run can't be finished. The writes that
+    /// were done before the failure stay done. It costs what `memoized_mut_with` costs.
     pub fn call_mut_second<G: FunctionMutOf<B>, H: Hold<G>>(
         &mut self,
         cache: &mut H,

@@ -1,5 +1,5 @@
-//! Calls that follow one another: what a call that was stored says of the next one, proved from the contracts of `memoized_with`
-//! and `validate` alone.
+//! Calls that follow one another: what a call that was stored says of the next one, proved from the contracts of
+//! `memoized_with` and `validate` alone.
 ghost use Rattle.std.specs.Prelude.{◌≡◌, IfOk, IsTrue};
 ghost use Rattle.std.proofs.Common.{rules};
 
