@@ -60,9 +60,8 @@ impl<C: Call, R: Clone + Ord> Record for Constraint<C, R> {
 /// Calls a memoized function whose run is a closure: returns the output of an entry that agrees, or calls the closure
 /// and stores the run.
 ///
-/// The closure gets the input, and the recording to which all that it asks must go. Unless that is late, the output
-/// must be right for all answers that agree with it. With `enabled` false there is no look-up, and nothing is stored. A
-/// function that calls itself uses `begin` and `Pending::finish` instead.
+/// All that the closure asks must go to its recording. Unless that is late, the output must be right for all answers
+/// that agree with it. With `enabled` false there is no look-up, and nothing is stored.
 pub fn memoize<
     M: Memo,
     H: Hold<M>,

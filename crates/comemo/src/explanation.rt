@@ -11,9 +11,8 @@ use comemo_cache::hold::Hold;
 use comemo_track::track::{Track, Tracked};
 use std::alloc::{AllocError, Global};
 
-/// Says why a call with these arguments is a hit or a run. Runs nothing, and changes nothing.
-///
-/// Fails if an answer, or a clone of it or of its call, fails to allocate.
+/// Returns why a call with these arguments is a hit or a run, without running anything. Nothing changes. Fails if an
+/// answer or a clone fails to allocate.
 pub fn explain<M: Memo<Call = T::Call, Answer = T::Answer>, H: Hold<M>, T: Track>(
     alloc: Global,
     cache: &mut H,

@@ -71,10 +71,10 @@ pub trait Function {
     // another order of its calls
     ghost naming: { Naming Self.Key Self.Of.Call Self.Of.Answer } = { unnamed };
 
-    /// Does the function. It asks the value through the recorder.
+    /// Does the function, and asks the value through the recorder.
     ///
     /// The output must be right for all answers that agree with the recording. `Incomplete` may be returned only if the
-    /// recording is incomplete, as after a failed call. After a fault nothing is stored.
+    /// recording is incomplete.
     fn run(
         key: &Self::Key,
         of: &mut Recorder<'_, Self::Of>,
@@ -129,10 +129,7 @@ impl<'a, T: Track> Recorder<'a, T> {
         }
     }
 
-    /// Asks the value a read, and records the call with its answer.
-    ///
-    /// The value is asked once, even if the read is recorded already. Fails if the answer, its clone or the recording
-    /// fails to allocate; the recording is then unchanged.
+    /// Asks the value a read, and records it with its answer. The value is asked even if the read is recorded already.
     pub fn ask(&mut self, call: T::Call) -> Result<T::Answer, Fault>
         requires { T.Call.is_write call ≡ false }
         ensures tells { Tells ⟦<T as Told>⟧.fits self.old self.new result
@@ -273,8 +270,8 @@ impl<F: Function> FunctionOf<F::Of> for MemoOf<F> {
 
 /// Calls a memoized function: returns the output of an entry that agrees, or runs the function and stores the run.
 ///
-/// The sink takes what was asked. It is the recording of the run around the call, or `Top` outside of any run. With
-/// `enabled` false there is no look-up, and nothing is stored.
+/// The sink takes what was asked: it is the recording of the outer run, or `Top`. With `enabled` false there is no
+/// look-up, and nothing is stored.
 pub fn memoized_with<
     M: FunctionOf<T>,
     H: Hold<M>,
@@ -318,8 +315,7 @@ pub fn memoized_with<
     }
 }
 
-/// Runs a function under the cache's clone of the key, and ends the run. Not inlined, so that a hit makes no room for a
-/// run.
+/// Runs a function under the cache's clone of the key. Not inlined, so that a hit makes no room for a run.
 #[inline(never)]
 fn run_kept<M: FunctionOf<T>, H: Hold<M>, T: Track, S: Sink<Call = T::Call, Answer = T::Answer>>(
     alloc: Global,
@@ -356,8 +352,7 @@ fn run_kept<M: FunctionOf<T>, H: Hold<M>, T: Track, S: Sink<Call = T::Call, Answ
     pending.end(cache, sink, ran)
 }
 
-/// Calls a memoized function without needs, outside of any run. A hit of an entry of age 0 clones only the output, and
-/// so does the end of a run.
+/// Calls a memoized function without needs, outside of any run. A hit of an entry of age 0 clones only the output.
 pub fn memoized<M: FunctionOf<T, Needs = ()>, H: Hold<M>, T: Track>(
     alloc: Global,
     cache: &mut H,

@@ -70,10 +70,10 @@ pub trait FunctionMut {
     ghost means: { Self.Key → (Self.Of.Call → Self.Of.Answer) → Self.Out
         → List Self.Of.Call → Type 0 };
 
-    /// Does the function. It asks the value and writes to it through the recorder.
+    /// Does the function, and asks the value and writes to it through the recorder.
     ///
     /// Output and writes must be right for all answers that agree with the recording. `Incomplete` may be returned only
-    /// if the recording is incomplete, as after a failed call. After a fault nothing is stored.
+    /// if the recording is incomplete.
     fn run(
         key: &Self::Key,
         of: &mut RecorderMut<'_, '_, Self::Of>,
@@ -146,8 +146,7 @@ impl<'a, 'b, T: Track> RecorderMut<'a, 'b, T> {
         Ok(view.ask(call, self.recording)?)
     }
 
-    /// Does a write on the value, and records it. Fails with `Memory` if the value refuses the write or the recording
-    /// fails to allocate; neither then changes.
+    /// Does a write on the value, and records it. Fails with `Memory` also if the value refuses the write.
     pub fn write(&mut self, call: T::Call) -> Result<(), Fault>
         requires agrees { ⟦<T as ToldMut>⟧.agrees (lent self.old.value self.old.recording) }
         requires write { T.Call.is_write call ≡ true }
@@ -342,10 +341,7 @@ fn run_recorded<M: FunctionMutOf<T>, T: Track>(
 }
 
 /// Calls a memoized function that writes: does the writes of an entry that agrees and returns its output, or runs the
-/// function and stores the run.
-///
-/// The sink takes what was asked, and then the writes. It is the recording of the run around the call, or `Top` outside
-/// of any run. With `enabled` false there is no look-up, and nothing is stored.
+/// function and stores the run. Sink and `enabled` are as in `memoized_with`.
 pub fn memoized_mut_with<
     M: FunctionMutOf<T>,
     H: Hold<M>,

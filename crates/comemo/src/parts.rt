@@ -17,8 +17,7 @@ use comemo_track::multi::{First, MultiAnswer, MultiCall, Second};
 use comemo_track::track::{Track, Tracked};
 
 impl<'a, T: Track> Recorder<'a, T> {
-    /// Calls a memoized function of a part of the value, as `call`, and records what it asked, renamed by a map. The
-    /// value must answer the renamed calls as the part does.
+    /// As `call`, for a function of a part of the value: what it asked is recorded, renamed by a map.
     fn call_through<
         A: Track,
         G: FunctionOf<A>,

@@ -1,5 +1,5 @@
 //! Calls of memoized functions, from begin to end: a hit, or a run, which is finished and stored if possible, or given
-//! up. On error each function here makes its sink incomplete.
+//! up. Each call clones its key, also for a hit. On error each function here makes its sink incomplete.
 ghost use Rattle.std.specs.Prelude.{◌≡◌, ◌≤◌, [], ◌∷◌, ◌++◌, ◌↔◌, List, Bool, true, false, length, IsTrue, IfOk, IfErr, IfSome, IfNone, OnOk, OnErr, Ok, Err, ⊤};
 ghost use Rattle.std.specs.List.{All};
 ghost use Rattle.comemo_base.specs.Tree.{IsSamePath};
@@ -130,9 +130,8 @@ impl<M: Memo> Pending<M> {
 
     /// Ends the run with its output: sends its recording to the sink, and stores it.
     ///
-    /// Unless the recording is late, output and writes must be right for all answers that agree with its reads, which
-    /// must be causal and complete if the function names its calls. The recording is cloned, unless the sink ignores it
-    /// or `enabled` was false.
+    /// Unless the recording is late, output and writes must be right for all answers that agree with its reads. The
+    /// recording is cloned, unless the sink ignores it or `enabled` was false.
     pub fn finish<H: Hold<M>, S: Sink<Call = M::Call, Answer = M::Answer>>(
         self,
         cache: &mut H,
@@ -474,8 +473,7 @@ fn end_run<M: Memo, H: Hold<M>, S: Sink<Call = M::Call, Answer = M::Answer>>(
     Ok(keep(cache, key, reads, kept, copies))
 }
 
-/// Does the writes of a hit on its input, and sends each to a sink that has room for them. Stops at the first that is
-/// refused.
+/// Does the writes of a hit on its input, and sends each to a sink that has room for them.
 fn replay<In: Input, S: Sink<Call = In::Call, Answer = In::Answer>>(
     writes: Vec<In::Call>,
     input: &mut In,
@@ -615,9 +613,8 @@ fn give_peeked<
     Ok(output)
 }
 
-/// Looks for an entry that agrees, with its path, and returns its output as a hit does.
-///
-/// The contract holds from each earlier state of the input since which nothing was written: a caller may have peeked.
+/// Looks for an entry that agrees, with its path, and returns its output. The contract holds from each earlier state
+/// since which nothing was written: a caller may have peeked.
 fn look_hit<
     M: Memo,
     H: Hold<M>,
@@ -659,8 +656,7 @@ fn look_hit<
     }
 }
 
-/// Looks for an entry that agrees, and returns its output as a hit does. For a sink that ignores all it peeks first, so
-/// that no path is cloned.
+/// Looks for an entry that agrees, and returns its output. If the sink ignores all, it peeks first, to clone no path.
 fn find_hit<
     M: Memo,
     H: Hold<M>,
@@ -754,9 +750,8 @@ pub(crate) fn look_up<
 /// Begins a call of a memoized function: returns the output of an entry that agrees, or a run that is to be done.
 ///
 /// With `enabled` false there is no look-up, and the run won't be stored. On a hit the sink takes the entry's path;
-/// then each write is done on the input and sent, in order.
-///
-/// A look-up asks each call of one path once. For an entry with an age and a sink that ignores all it asks twice.
+/// then each write is done on the input and sent. A look-up asks each call of one path once, or twice for an entry with
+/// an age and a sink that ignores all.
 pub fn begin<
     M: Memo,
     H: Hold<M>,

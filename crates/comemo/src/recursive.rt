@@ -92,9 +92,8 @@ pub struct Inner<'a, K, T: Track> {
 }
 
 impl<'a, T: Track> Recorder<'a, T> {
-    /// Begins a nested call: returns the output of an entry that agrees, or a run that is to be done.
-    ///
-    /// On a hit this recorder takes the entry's path. A run has a recorder of its own. The key is cloned, also for a hit.
+    /// Begins a nested call: returns the output of an entry that agrees, or a run with a recorder of its own. On a hit
+    /// this recorder takes the entry's path.
     pub fn begin<G: ReadsAlone<Call = T::Call, Answer = T::Answer>, H: Hold<G>>(
         &mut self,
         cache: &mut H,

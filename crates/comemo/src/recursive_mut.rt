@@ -83,10 +83,7 @@ pub struct InnerMut<K, T: Track> {
 
 impl<'a, 'b, T: Track> RecorderMut<'a, 'b, T> {
     /// Begins a nested call of a function that writes: does the writes of an entry that agrees and returns its output,
-    /// or returns a run that is to be done.
-    ///
-    /// On a hit this recorder takes the entry's path and writes. For a run it begins an empty recording, and sets its
-    /// own aside until `finish`.
+    /// or returns a run. The run has an empty recording; that of this recorder is set aside until `finish`.
     pub fn begin<G: Memo<Call = T::Call, Answer = T::Answer>, H: Hold<G>>(
         &mut self,
         cache: &mut H,
@@ -145,10 +142,8 @@ impl<'a, 'b, T: Track> RecorderMut<'a, 'b, T> {
         Ok(Begun::Run(InnerMut { own, around }))
     }
 
-    /// Finishes a nested run by its result: stores its output, or returns its fault. This recorder has its own
-    /// recording again, and takes what the run recorded.
-    ///
-    /// Output and writes must be right for all answers that agree with what was recorded since `begin`.
+    /// Finishes a nested run by its result: stores its output, or returns its fault. The recording that was set aside
+    /// is back, and takes the run's. Output and writes must be right as in `FunctionMut::run`.
     pub fn finish<G: Memo<Call = T::Call, Answer = T::Answer>, H: Hold<G>>(
         &mut self,
         cache: &mut H,
