@@ -1,5 +1,5 @@
--- For callers: what a call that was stored says of the next one. Where answers agree with what the first call asked, the next
--- call under an equal key is a hit; and where no entry agreed before, it finds what the first one stored.
+-- For callers: what a call that was stored implies for the next one. If answers agree with what the first call asked,
+-- the next call under an equal key is a hit; and if no entry agreed before, it finds what the first one stored.
 use Rattle.std.proofs.Common.{◌≡◌, Bool, true, List, [], ◌∷◌, ◌++◌, IsTrue, subst, refl, sym, ◌∙◌, inl, inr}
 use Rattle.std.proofs.lemmas.Bool.{cases_Bool}
 use Rattle.std.proofs.lemmas.List.Elements.{All-head}

@@ -1,4 +1,4 @@
--- For the authors of functions whose keys, calls or answers are texts, or lists of texts or of anything else.
+-- For authors of functions whose keys, calls or answers are texts, or lists of texts or of other items.
 use Rattle.std.specs.Prelude.{◌≡◌, List, [], ◌∷◌, Bool, String, map, string_bytes}
 use Rattle.std.specs.Global.{Global}
 use Rattle.std.specs.List.{AllZip, fold}
