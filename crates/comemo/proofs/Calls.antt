@@ -40,7 +40,7 @@ of_memory fault.Memory P is never = is
 of_memory fault.Write P is never = absurd (never is)
 of_memory fault.Incomplete P is never = absurd is
 
--- so it is, whichever fault came
+-- so it is for any fault
 pub on_fault_is : (f : Fault) {P Q X : Type 0} → OnFault f P Q → (f ≡ fault.Memory → P → X) → (f ≡ fault.Write → Q → X) → X
 on_fault_is fault.Memory is p q = p refl is
 on_fault_is fault.Write is p q = q refl is

@@ -14,7 +14,7 @@ use Rattle.comemo.specs.declared.pending.Fault.TheVariants as fault
 use Rattle.comemo.specs.declared.pending.Reply.{Reply}
 use Rattle.comemo.specs.declared.pending.How.TheVariants as how
 
--- `Incomplete` comes only of an incomplete recording, so that one that is finished was complete
+-- only an incomplete recording results in `Incomplete`, so one that is finished was complete
 pub whole_of_ok : {O : Type 0} (r : Result O Fault) (w : Bool) → (r ≡ Err fault.Incomplete) ↔ (w ≡ false) → IfOk r (λ _. w ≡ true)
 whole_of_ok (Ok x) true h = refl
 whole_of_ok (Ok x) false h = let e = h.1 refl in cc

@@ -101,7 +101,7 @@ pub mapped_spoils : {K M C D R Q O : Type 0} {maps : M → C → D} {answers : M
 mapped_spoils s t (inl a) = a.1.is_broken.spoiled.spoiled.whole
 mapped_spoils s t (inr b) = b.1.is_spoiled.spoiled.spoiled.whole
 
--- what was told of a part, whose calls are those of the whole by f and whose answers are those of the whole by g
+-- what was established of a part, whose calls are those of the whole by f and whose answers are those of the whole by g
 module _ {C D R Q : Type 0} (eq : C → C → Bool) (same : R → R → Bool) (eqd : D → D → Bool) (like : Q → Q → Bool) (f : C → D) (g : R → Q) (apart : (x y : C) → eqd (f x) (f y) ≡ eq x y) (answers_apart : (x y : R) → like (g x) (g y) ≡ same x y) where
   -- a read of the part is one of the whole
   asked_whole : (n : D → Q) (m : C → R) → ((c : C) → n (f c) ≡ g (m c)) → {went : List (D × Q) → List D → Type 0} (call : C) (answer : R) → Asks same m call answer (Through f g went) → Asks like n (f call) (g answer) went

@@ -57,7 +57,7 @@ module _ {V C R : Type 0} {fits : Recording C R → (C → R) → Type 0} {X Y :
     fault = tt;
   }
 
--- what a recorder that had lost nothing was told holds of the answers of its value, as it was seen at the end
+-- what a recorder with a complete recording learnt holds of the answers of its value, as seen at the end
 pub own_now : {V C R X : Type 0} {eq : C → C → Bool} {same : R → R → Bool} {s t seen : Recorded V C R} {P : X → (C → R) → Type 0} (r : Result X Fault) (answers : V → C → R) → ((v : V) → Respects eq same (answers v)) → s.recording.whole ≡ true → seen ≡ t → IsRecorded same (answers seen.value) seen.recording → TellsOwn (Fits eq same) s t r P → IfOk r (λ x. P x (answers s.value))
 own_now {eq = eq} {same = same} {s = s} {t = t} {P = P} (Ok x) answers alike w is kept a =
     let agrees : IsRecorded same (answers t.value) t.recording = subst (λ u. IsRecorded same (answers u.value) u.recording) is kept in
@@ -65,7 +65,8 @@ own_now {eq = eq} {same = same} {s = s} {t = t} {P = P} (Ok x) answers alike w i
 own_now (Err f) answers alike w is kept a = tt
 
 module _ {K C R O : Type 0} (M : Meaning K C R O) (calls : IsEquivalence M.same_call) (answers : IsEquivalence M.same_answer) (m : C → R) (respects : Respects M.same_call M.same_answer m) {V : Type 0} {touches : C → C → Bool} {s t : Recorded V C R} (before : s.recording.whole ≡ true → Agrees M.same_answer m s.recording.pairs) (pairs : List (C × R)) (writes : List C) (agrees : Agrees M.same_answer m pairs) (gives : Gives M (Took M.same_call touches s.recording t.recording) pairs writes) where
-  -- a call that rests on pairs with which the present answers agree, and which went to the recorder, tells what is right by these
+  -- a call that rests on pairs with which the present answers agree, and which went to the recorder, establishes what
+  -- is right by these
   pub own_given : {X : Type 0} (output : X) {P : X → (C → R) → Type 0} → t.value ≡ s.value → ((n : C → R) → Respects M.same_call M.same_answer n → Agrees M.same_answer n pairs → P output n) → TellsOwn (Fits M.same_call M.same_answer) s t (Ok output) P
   own_given output value right =
       let taken = (gives.agreeing m respects).1 agrees in

@@ -179,7 +179,7 @@ module _ {V K C R O : Type 0} (M : Meaning K C R O) (calls : IsEquivalence M.sam
     late_tells : (output : O) {Q : O → (C → R) → List C → Type 0} → TellsWrites (Goes (Done wrote w touches M.same_answer answers) touches M.same_answer answers) (Fits M.same_call M.same_answer) s u (Ok output) Q
     late_tells output = tells_late wrote w touches M.same_answer answers calls laws alike s u marked.given t.recording.now.writes marked.are_sent did (λ none. let no : true ≡ false = sym late ∙ within.early none whole in cc) same_value place output
 
-  -- a run within a run that was finished tells the run around it what is right by what it recorded
+  -- a nested run that was finished establishes for the run around it what is right by what it recorded
   pub within_tells : (key : K) (output : O) → ((n : C → R) → Fits M.same_call M.same_answer t.recording.now n → M.def key n output t.recording.now.writes) → TellsWrites (Goes (Done wrote w touches M.same_answer answers) touches M.same_answer answers) (Fits M.same_call M.same_answer) s u (Ok output) (λ o n writes. M.def key n o writes)
   within_tells key output right = elim (cases_Bool t.recording.now.late) [ inl late ↦ late_tells late output | inr early ↦ early_tells early key output right ]
 
@@ -187,8 +187,8 @@ module _ {V K C R O : Type 0} (M : Meaning K C R O) (calls : IsEquivalence M.sam
   pub within_agrees : HasBegun (Done wrote w touches M.same_answer answers) M.same_answer answers u
   within_agrees = elim (cases_Bool t.recording.now.late) [ inl late ↦ late_begun late | inr early ↦ early_begun early ]
 
--- what follows from a call within a recording of its own, which was empty and whole, where it isn't late then: what was told holds of
--- the value as it was before, and so many writes were done on it
+-- what follows from a call within a recording of its own, which was empty and complete, if it isn't late afterwards:
+-- what was established holds of the previous value, and the recorded writes were done on it
 pub writes_now : {V C R X : Type 0} {eq : C → C → Bool} {same : R → R → Bool} {wrote : V → C → V → Type 0} {w : C → Bool} {touches : C → C → Bool} {answers : V → C → R} → ((v : V) → Respects eq same (answers v)) → {s t : Lent V C R} {P : X → (C → R) → List C → Type 0} (r : Result X Fault) → s.recording.now.whole ≡ true → s.recording.now.writes ≡ [] → s.recording.now.pairs ≡ [] → TellsWrites (Goes (Done wrote w touches same answers) touches same answers) (Fits eq same) s t r P → {Q : X → Type 0} → ((x : X) (W : List C) → P x (answers s.value.now) W → Done wrote w touches same answers s.value.now t.value.now W → Q x) → (t.recording.now.whole ≡ true → t.recording.now.late ≡ false) → IfOk r Q
 writes_now {same = same} {wrote} {w} {touches} {answers} alike {s} {t} (Ok x) whole none nothing a so early =
     let is = a.whole ∙ whole in

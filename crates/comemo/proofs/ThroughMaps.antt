@@ -29,7 +29,7 @@ module _ {C D R Q : Type 0} (eq : C → C → Bool) (same : R → R → Bool) (e
     agrees_part [] a = tt
     agrees_part (p ∷ P) a = (rw (answers_apart (m p.0) p.1) at (rw (each p.0) at a.0), agrees_part P a.1)
 
-  -- what a function of a part gave a recording of the whole, whose answers are n
+  -- what a function of a part added to a recording of the whole, whose answers are n
   module _ {K O : Type 0} (eqk : K → K → Bool) (w : C → Bool) (cloned : O → O → Type 0) (def : K → (C → R) → O → List C → Type 0) (naming : Naming K C R) (calls : IsEquivalence eqd) (answers : IsEquivalence like) (n : D → Q) (respects : Respects eqd like n) (m : C → R) (each : (c : C) → n (f c) ≡ g (m c)) (key : K)
       (es mid es' : Entries K C R O) (reply : Reply O) {touches : D → D → Bool} where
     module _ {s t : Recording D Q} (before : s.whole ≡ true → Agrees like n s.pairs) (k : IsReply (record { same_call = eq; same_answer = same; same_key = eqk; is_write = w; is_clone = cloned; def = def; naming = naming }) (invocation key m true) es mid (Through f g (Took eqd touches s t)) reply es') where
