@@ -65,8 +65,8 @@ pub enum How {
     NotStored,
     /// Not stored: `enabled` was false.
     Disabled,
-    /// Not stored: the run is late, as it read what a write of its own touches. So is the sink now. Nothing is promised
-    /// of the output.
+    /// Not stored: the run is late, as it read what an earlier write of its own touches. The sink is then late too.
+    /// Nothing is promised of the output.
     Late,
 }
 

@@ -83,7 +83,10 @@ pub struct InnerMut<K, T: Track> {
 
 impl<'a, 'b, T: Track> RecorderMut<'a, 'b, T> {
     /// Begins a nested call of a function that writes: does the writes of an entry that agrees and returns its output,
-    /// or returns a run. The run has an empty recording; that of this recorder is set aside until `finish`.
+    /// or returns a run.
+    ///
+    /// On a hit this recorder takes the entry's path and writes. A run has an empty recording; that of this recorder is
+    /// set aside until `finish`.
     pub fn begin<G: Memo<Call = T::Call, Answer = T::Answer>, H: Hold<G>>(
         &mut self,
         cache: &mut H,
