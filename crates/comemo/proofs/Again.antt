@@ -1,5 +1,5 @@
--- For callers: what a call that was stored says of the next one. Where answers agree with what the first call asked, the next
--- call under an equal key is a hit; and where no entry agreed before, it finds what the first one stored.
+-- For callers: what a call that was stored implies for the next one. If answers agree with what the first call asked,
+-- the next call under an equal key is a hit; and if no entry agreed before, it finds what the first one stored.
 use Rattle.std.proofs.Common.{◌≡◌, Bool, true, List, [], ◌∷◌, ◌++◌, IsTrue, subst, refl, sym, ◌∙◌, inl, inr}
 use Rattle.std.proofs.lemmas.Bool.{cases_Bool}
 use Rattle.std.proofs.lemmas.List.Elements.{All-head}
@@ -51,12 +51,12 @@ module _ {C R : Type 0} {eq : C → C → Bool} {same : R → R → Bool} (answe
       let front : Agrees same m n.0 = elim n.1 [ inl none ↦ rw none.1 tt | inr some ↦ agrees_among s n.0 a some.0 ] in
       subst (λ ps. Agrees same m ps) (sym n.2) (agrees_both n.0 (outside eq n.0 s) front (agrees_filter _ s a))
 
--- what is told of each is told of one of them
+-- what each of some items implies follows if one of them holds
 from_any : {X E : Type 0} (P : E → Type 0) (es : List E) → All (λ e. P e → X) es → Any P es → X
 from_any {X} P es f (k, e, l, at, h) = (subst (λ x. P x → X) at (f k e l)) h
 
 module _ {K C R O : Type 0} (M : Meaning K C R O) where
-  -- some entry that came has the key and agrees
+  -- some entry that was added has the key and agrees
   has_some : (es es' : Entries K C R O) (e : Stored K C R (Kept O C)) (call : Invocation K C R) → IsPermutation (e ∷ es) es' → IsTrue (M.same_key e.key call.key) → Agrees M.same_answer call.answers e.path → HasNone M es' call → ⊥
   has_some es es' e call order key agrees none =
       let Q : Stored K C R (Kept O C) → Type 0 = λ x. IsTrue (M.same_key x.key call.key) → ¬ Agrees M.same_answer call.answers x.path in

@@ -1,4 +1,4 @@
--- For the authors of memoized functions: what `begin` and `finish` say makes what a caller wants to know.
+-- For authors of memoized functions: from the contracts of `begin` and `finish`, what a caller wants to know.
 use Rattle.std.specs.Prelude.{⊤}
 use Rattle.std.proofs.Common.{◌≡◌, Bool, true, false, List, [], ◌∷◌, ◌++◌, inl, inr, Result, Ok, Err, IfErr, OnErr, IsErrAnd, refl, sym, subst, ◌∙◌}
 use Rattle.std.specs.Cmp.{IsEquivalence}
@@ -40,13 +40,13 @@ of_memory fault.Memory P is never = is
 of_memory fault.Write P is never = absurd (never is)
 of_memory fault.Incomplete P is never = absurd is
 
--- so it is, whichever fault came
+-- so it is for any fault
 pub on_fault_is : (f : Fault) {P Q X : Type 0} → OnFault f P Q → (f ≡ fault.Memory → P → X) → (f ≡ fault.Write → Q → X) → X
 on_fault_is fault.Memory is p q = p refl is
 on_fault_is fault.Write is p q = q refl is
 on_fault_is fault.Incomplete is p q = absurd is
 
--- it is for want of memory, where it didn't stop at a write
+-- it failed to allocate, if it didn't stop at a write
 pub for_memory : (f : Fault) (P : Type 0) {Q : Type 0} → OnFault f P Q → (Q → ⊥) → f ≡ fault.Memory
 for_memory fault.Memory P is never = refl
 for_memory fault.Write P is never = absurd (never is)
@@ -57,24 +57,24 @@ fault_as fault.Memory P Q X Y is p q = p is
 fault_as fault.Write P Q X Y is p q = q is
 fault_as fault.Incomplete P Q X Y is p q = is
 
--- a fault that is handed on, and says more
+-- a fault that is passed on, with more known of it
 pub fault_handed : {A : Type 0} (r : Result A Fault) (f : Fault) → IsErrAnd r (λ x. x ≡ f) → (P Q X Y : Type 0) → OnFault f P Q → (P → X) → (Q → Y) → IfErr r (λ x. OnFault x X Y)
 fault_handed (Ok x) f e P Q X Y is p q = tt
 fault_handed (Err g) f e P Q X Y is p q = subst (λ x. OnFault x X Y) (sym e) (fault_as f P Q X Y is p q)
 
--- what holds of a fault that is handed on
+-- what holds of a fault that is passed on
 pub fault_is : {A : Type 0} (r : Result A Fault) (f : Fault) → IsErrAnd r (λ x. x ≡ f) → (P : Type 0) {Q : Type 0} → OnFault f P Q → (X : Fault → Type 0) → (P → X fault.Memory) → (Q → X fault.Write) → IfErr r X
 fault_is (Ok x) f e P is X p q = tt
 fault_is (Err g) fault.Memory e P is X p q = subst X (sym e) (p is)
 fault_is (Err g) fault.Write e P is X p q = subst X (sym e) (q is)
 fault_is (Err g) fault.Incomplete e P is X p q = absurd is
 
--- a want of memory, handed on
+-- a failure to allocate, passed on
 pub memory_handed : {A : Type 0} (r : Result A Fault) (f : Fault) → IsErrAnd r (λ x. x ≡ f) → f ≡ fault.Memory → (P Q : Type 0) → P → IfErr r (λ x. OnFault x P Q)
 memory_handed (Ok x) f e w P Q p = tt
 memory_handed (Err g) f e w P Q p = subst (λ x. OnFault x P Q) (sym (e ∙ w)) p
 
--- a write that was refused, handed on
+-- a refused write, passed on
 pub write_handed : {A : Type 0} (r : Result A Fault) (f : Fault) → IsErrAnd r (λ x. x ≡ f) → f ≡ fault.Write → (P Q : Type 0) → Q → IfErr r (λ x. OnFault x P Q)
 write_handed (Ok x) f e w P Q q = tt
 write_handed (Err g) f e w P Q q = subst (λ x. OnFault x P Q) (sym (e ∙ w)) q
@@ -87,7 +87,7 @@ finished_itself {M = M} {es} {es'} {pending} {sent} {output} {reply} done = subs
 pub finished_early : {K C R O : Type 0} {M : Meaning K C R O} {es es' : Entries K C R O} {pending : PendingRun K C R} {S : Type 0} (took : S → S → List (C × R) → List C → Type 0) (lates : S → S → Type 0) {i j : S} {output : O} {reply : Reply O} → pending.recording.late ≡ false → Finished M es pending (TookAs took lates pending.recording.late i j) output reply es' → Finished M es pending (took i j) output reply es'
 finished_early {pending = pending} took lates early done = record { whole = done.whole; same = done.same; ends = done.ends; late = done.late; disabled = done.disabled; settled = done.settled; gives = gives_early took lates pending.recording.late early done.gives }
 
--- a run that is late left the entries
+-- a run that is late left the entries unchanged
 ended_late : {K C R O : Type 0} (M : Meaning K C R O) (es es' : Entries K C R O) (ran : Run K C R O) {h : How} → h ≡ how.Late → Ends M es ran h es' → es' ≡ es
 ended_late M es es' ran e ends = subst (λ x. Ends M es ran x es') e ends
 
@@ -108,7 +108,7 @@ module _ {K C R O : Type 0} {M : Meaning K C R O} {es : Entries K C R O} {call :
     came = inl (refl, record { is_enabled = hit.is_enabled; kept = hit.kept; reads = hit.reads; written = hit.written; touched = touched });
   }
 
-  -- what stands at the key of a run stands at the call's
+  -- what is legal at the key of a run is legal at the call's
   pub stands_at_call : {begun : PendingRun K C R} → IsRun M es call begun → (pairs : List (C × R)) (output : O) (writes : List C) → Stands M (run begun.key pairs output writes) → Stands M (run call.key pairs output writes)
   stands_at_call is pairs output writes stands = λ n r a. is.right n output writes r (stands n r a)
 
@@ -210,7 +210,7 @@ module _ {K C R O : Type 0} {M : Meaning K C R O} {es : Entries K C R O} {call :
   pub stopped_so : {done : List C → Type 0} {spoiled : List (C × R) → List C → Type 0} → IsStopped M es call done spoiled → IsStopped M es call done (λ _ _. ⊤)
   stopped_so is = record { pairs = is.pairs; output = is.output; front = is.front; next = is.next; rest = is.rest; is_refused = is.is_refused; is_enabled = is.is_enabled; kept = is.kept; agrees = is.agrees; stands = is.stands; reads = is.reads; written = is.written; are_done = is.are_done; is_spoiled = tt }
 
-  -- a hit of a function whose calls are reads alone stops at no write
+  -- a hit of a function whose calls are reads stops at no write
   pub never_refused : {done : List C → Type 0} {spoiled : List (C × R) → List C → Type 0} → IsStopped M es call done spoiled → ((c : C) → M.is_write c ≡ false) → ⊥
   never_refused is reads = let e : true ≡ false = sym is.is_refused ∙ reads is.next in cc
 
@@ -226,7 +226,8 @@ module _ {K C R O : Type 0} {M : Meaning K C R O} {es : Entries K C R O} {call :
 pub broke_at_end : {K C R O : Type 0} (M : Meaning K C R O) (m : C → R) → IsEquivalence M.same_call → IsEquivalence M.same_answer → Respects M.same_call M.same_answer m → {broken : List (C × R) → Type 0} {pairs : List (C × R)} → Agrees M.same_answer m pairs → BreaksOffRun M broken pairs → BrokeOff M.same_answer m broken
 broke_at_end M m calls answers respects {pairs = pairs} agrees is = record { pairs = is.given; agrees = Agrees-same calls answers m respects pairs is.given (IsSamePath-turned calls answers is.given pairs is.alike) agrees; is_broken = is.is_broken }
 
--- after a run of which what is whole agrees with the answers, and what is spoiled spoiled the sink as it was
+-- after a run whose recording agrees with the answers if it is complete, and whose sink is incomplete and otherwise
+-- unchanged if it isn't
 pub broke_by_run : {K C R O : Type 0} (M : Meaning K C R O) (m : C → R) → IsEquivalence M.same_call → IsEquivalence M.same_answer → Respects M.same_call M.same_answer m → (broken : List (C × R) → Type 0) (pairs : List (C × R)) (whole : Bool) → (whole ≡ true → Agrees M.same_answer m pairs) → (whole ≡ false → broken []) → (X : Type 0) {T E : Type 0} (r : Result T E) → OnErr r (X × BreaksOffRun M broken pairs) → OnErr r (X × BrokeOff M.same_answer m broken)
 broke_by_run M m calls answers respects broken pairs whole agrees spoiled X (Ok x) e = tt
 broke_by_run M m calls answers respects broken pairs true agrees spoiled X (Err x) e = (e.0, broke_at_end M m calls answers respects (agrees refl) e.1)

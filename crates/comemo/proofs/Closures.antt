@@ -1,4 +1,4 @@
--- What `begin`, a closure's run and `finish` say together.
+-- What `begin`, a closure's run and `finish` imply together.
 use Rattle.std.proofs.Common.{◌≡◌, ◌∙◌, ◌↔◌, ◌⊎◌, inl, inr, Bool, true, false, List, [], Result, Ok, Err, IfOk, IfErr, OnErr, refl, sym, ap, subst}
 use Rattle.std.specs.Borrow.{MutBor}
 use Rattle.comemo_track.specs.Recording.{Recording}
@@ -14,13 +14,13 @@ use Rattle.comemo.specs.declared.pending.Fault.TheVariants as fault
 use Rattle.comemo.specs.declared.pending.Reply.{Reply}
 use Rattle.comemo.specs.declared.pending.How.TheVariants as how
 
--- only a spoiled run is incomplete, so that one that is finished was whole
+-- only an incomplete recording results in `Incomplete`, so one that is finished was complete
 pub whole_of_ok : {O : Type 0} (r : Result O Fault) (w : Bool) → (r ≡ Err fault.Incomplete) ↔ (w ≡ false) → IfOk r (λ _. w ≡ true)
 whole_of_ok (Ok x) true h = refl
 whole_of_ok (Ok x) false h = let e = h.1 refl in cc
 whole_of_ok (Err e) w h = tt
 
--- which fault came of a run that went so, and of its end: want of memory, or one of which the sink took nothing
+-- which fault a run that went so, or its end, returned: a failure to allocate, or one after which the sink took nothing
 pub fault_of_end : {A B : Type 0} (S : Type 0) (w : Bool) (ran : Result A Fault) (r : Result B Fault) → IfOk ran (λ _. (r ≡ Err fault.Incomplete) ↔ (w ≡ false)) → IfOk ran (λ _. IfErr r (λ f. f ≡ fault.Write → ⊥)) → IfErr ran (λ f. (r ≡ Err f) × S) → (w ≡ false → S) → IfErr r (λ f. (f ≡ fault.Memory) ⊎ S)
 fault_of_end S w ran (Ok x) h never given spoiled = tt
 fault_of_end S w (Err g) (Err e) h never given spoiled = inr given.1
@@ -46,7 +46,7 @@ pub err_with : {A P : Type 0} {Q X : Fault → Type 0} → ((f : Fault) → P �
 err_with f (Ok a) p q = tt
 err_with f (Err e) p q = f e p q
 
--- a call of a function whose calls are reads alone, which failed, left the entries as they were, and its sink broken off at some pairs
+-- a failed call of a function whose calls are reads left the entries unchanged, and its sink broken off at some pairs
 pub at_some_pairs : {K C R O I P : Type 0} {M : Meaning K C R O} {es : Entries K C R O} {call : Invocation K C R} {did : I → I → List C → Type 0} {recording : P → Recording C R} {post : MutBor I → MutBor P → Result O Fault → MutBor I → MutBor P → Type 0} {input left : I} → (broken : List (C × R) → Type 0) {after : List (C × R) → List C → Type 0} {es' : Entries K C R O} → IsBroken M es call did recording post input left broken after es' → ((c : C) → M.is_write c ≡ false) → (es' ≡ es) × ((pairs : List (C × R)) × broken pairs)
 at_some_pairs broken (inl (same, inl begun)) reads = (same, (begun.1.pairs, begun.1.is_broken))
 at_some_pairs broken (inl (same, inr (inl (r, t, ran, spoiled, is)))) reads = (same, ([], is))
@@ -55,7 +55,7 @@ at_some_pairs broken (inr (touched, is)) reads = absurd (never_refused is reads)
 
 module _ {K C R O : Type 0} {M : Meaning K C R O} {es : Entries K C R O} {call : Invocation K C R} {begun : PendingRun K C R} (is : IsRun M es call begun) where
   module _ {I P : Type 0} (did : I → I → List C → Type 0) (recording : P → Recording C R) (post : MutBor I → MutBor P → Result O Fault → MutBor I → MutBor P → Type 0) (input : I) (t : Recording C R) where
-    -- a run of a closure, by what it was handed and what it left
+    -- a run of a closure, by what it got and what it left
     pub ran_from : {i j : MutBor I} {p q : MutBor P} (r : Result O Fault) → did input i.now [] → (recording p.now).pairs ≡ [] → (recording p.now).writes ≡ [] → (recording p.now).whole ≡ true → (recording p.now).late ≡ false → post i p r j q → t ≡ recording q.now → Ran M es call did recording post input r t
     ran_from {i = i} {j = j} {p = p} {q = q} r unchanged pairs writes whole early gave left = record { i = i; p = p; starts = record { none = is.none; unchanged = unchanged; pairs = pairs; writes = writes; whole = whole; early = early }; j = j; q = q; gave = gave; left = sym left }
 
@@ -77,7 +77,7 @@ module _ {K C R O : Type 0} {M : Meaning K C R O} {es : Entries K C R O} {call :
     left_broken left broken after spoils es' (Ok output) has false e (Err g) given_up spoiled b = inl (b.0, inr (inl (Ok output, t, has, e, spoils (spoiled e))))
     left_broken left broken after spoils es' (Ok output) has true e (Err g) given_up spoiled b = inl (b.0, inr (inr (output, t, has, e, b.1)))
 
-    -- what a call gave whose run was finished
+    -- what a call returned whose run was finished
     pub ended : (left : I) (sent : Bool → List (C × R) → List C → Type 0) {output : O} {reply : Reply O} {mid es' : Entries K C R O} → RanTo M es call did recording post input left (Ok output) t → (t.late ≡ false → Stands M (came_to (recorded begun t) output)) → Finished M mid (recorded begun t) (sent t.late) output reply es' → Ended M mid call (RanTo M es call did recording post input left) sent reply.output reply.how es'
     ended left sent {output = output} {reply = reply} {mid = mid} {es' = es'} ran stands done = record {
       recording = t;
@@ -93,6 +93,6 @@ module _ {K C R O : Type 0} {M : Meaning K C R O} {es : Entries K C R O} {call :
       gives = done.gives;
     }
 
--- what a run came to is no hit
+-- the reply of a run is no hit
 pub no_hit : {K C R O : Type 0} {M : Meaning K C R O} {es es' : Entries K C R O} {pending : PendingRun K C R} {sent : List (C × R) → List C → Type 0} {output : O} {reply : Reply O} → Finished M es pending sent output reply es' → reply.how ≡ how.Hit → ⊥
 no_hit {K} {C} {R} {O} {M} {es} {es'} {pending} {sent} {output} f h = subst (λ x. Ends M es (came_to pending output) x es') h f.ends

@@ -1,4 +1,4 @@
--- How a run ends, where a clone of its output is kept.
+-- How a run ends if a clone of its output is stored.
 use Rattle.std.proofs.Common.{◌≡◌, Bool, true, false, List, sym, subst}
 use Rattle.std.specs.Cmp.{IsEquivalence}
 use Rattle.comemo_base.specs.Tree.{IsSamePath}

@@ -1,4 +1,4 @@
--- Entries that come, and none that goes.
+-- Entries are added, and none is lost.
 use Rattle.std.proofs.Common.{◌≡◌, ◌++◌, ◌∷◌, [], append_assoc, map, sym, subst}
 use Rattle.std.proofs.lemmas.List.{map-append}
 use Rattle.std.specs.List.Sorted.{IsPermutation}

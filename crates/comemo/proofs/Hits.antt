@@ -1,4 +1,4 @@
--- A hit, made of what was found under a key that equals the call's.
+-- A hit, from what was found under a key that equals the call's.
 use Rattle.std.proofs.Common.{◌≡◌, ◌++◌, ◌∷◌, ℕ, true, List, IsTrue, Option, Some, None, IfNone, inr, refl, subst}
 use Rattle.std.specs.List.{All}
 use Rattle.std.specs.Cmp.{IsEquivalence}
@@ -10,7 +10,7 @@ use Rattle.comemo_cache.proofs.Holding.{has_so}
 use Rattle.comemo_cache.proofs.Named.{named_moved}
 use Rattle.comemo.specs.Begin.{IsHit, IsBrokenOff, IsStopped}
 
--- what follows where nothing was found
+-- what follows if nothing was found
 pub none_mapped : {X P Q : Type 0} (r : Option X) → (P → Q) → IfNone r P → IfNone r Q
 none_mapped (Some x) f p = tt
 none_mapped None f p = f p

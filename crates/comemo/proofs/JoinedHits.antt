@@ -1,4 +1,4 @@
--- For the authors of functions of two arguments: what a hit at joined answers says.
+-- For authors of functions of two arguments: what a hit at joined answers implies.
 use Rattle.std.proofs.Common.{Bool, List}
 use Rattle.comemo_base.specs.Answers.{Respects}
 use Rattle.comemo_track.specs.Multi.{part_answers}

@@ -1,4 +1,4 @@
--- For callers: an entry that agrees is kept after a reply, and stays as long as nothing is evicted.
+-- For callers: after a reply an entry agrees, and it stays until an eviction.
 use Rattle.std.proofs.Common.{List, [], ◌∷◌, ◌++◌, IsTrue, map, inl, inr, sym, subst}
 use Rattle.std.proofs.lemmas.List.Sorted.{Contains-permutation}
 use Rattle.std.specs.Cmp.{IsEquivalence}

@@ -1,5 +1,5 @@
--- What a run that ended has recorded, where the calls that are asked are named; and for the authors of functions that name them:
--- what the clauses of a recorder's questions and calls make of it.
+-- What a finished run has recorded, if the asked calls are named; and for authors of functions that name them: what
+-- follows from the clauses of a recorder's questions and calls.
 use Rattle.std.proofs.Common.{◌≡◌, ◌⊎◌, Bool, true, false, List, [], ◌∷◌, ◌++◌, Result, Ok, Err, OnOk, IsTrue, inl, inr, refl, sym, subst, append-nil}
 use Rattle.std.specs.Bool.{⊤}
 use Rattle.std.proofs.lemmas.Bool.{cases_Bool}

@@ -1,4 +1,4 @@
--- What was asked of both of two values, told of the part that was asked.
+-- A question to one of two joined values, as a question to both.
 use Rattle.std.proofs.Common.{◌≡◌, Bool, false, true, IsTrue, List, [], ◌∷◌, sym, ◌∙◌}
 use Rattle.comemo_track.specs.Sending.{Asks}
 use Rattle.comemo_track.specs.Mapped.{Through}

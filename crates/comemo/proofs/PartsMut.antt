@@ -1,4 +1,4 @@
--- What was asked of a part of what is written, and written to it, told of the whole.
+-- Questions and writes to a part of a value, as questions and writes to the whole.
 use Rattle.std.specs.Prelude.{⊤}
 use Rattle.std.proofs.Common.{◌⊎◌, ◌≡◌, ◌∙◌, Bool, true, false, List, [], ◌∷◌, ◌++◌, IsTrue, Result, Ok, IsErr, IsErrAnd, map, append-nil, refl, sym, ap, subst, inl, inr}
 use Rattle.std.proofs.lemmas.List.{map-append}
@@ -96,12 +96,12 @@ module _ {K C R O : Type 0} {M : Meaning K C R O} {touches : C → C → Bool} {
       let is = k.1 in
       inr (k.0, record { pairs = is.pairs; output = is.output; front = is.front; next = is.next; rest = is.rest; is_refused = is.is_refused; is_enabled = is.is_enabled; kept = is.kept; agrees = is.agrees; stands = is.stands; reads = is.reads; written = is.written; are_done = d is.front is.are_done; is_spoiled = p is.pairs is.front is.is_spoiled })
 
--- after a fault of a call of a function of a part, the recording of the whole is spoiled
+-- after a fault of a call of a function of a part, the recording of the whole is incomplete
 pub mapped_spoils : {K M C D R Q O : Type 0} {maps : M → C → D} {answers : M → R → Q} {N : Meaning K C R O} {touching : C → C → Bool} {es es' : Entries K C R O} {call : Invocation K C R} {done : List C → Type 0} {eq touches : D → D → Bool} (s t : MappedSink (Recording D Q) M) → IsFailed N touching es call done (BreaksOff (MapsTook (Took eq touches) maps answers) (MapsSpoils Spoiled) s t) (SpoiledAfter (MapsTook (Took eq touches) maps answers) (MapsSpoils Spoiled) s t) es' → t.sink.now.whole ≡ false
 mapped_spoils s t (inl a) = a.1.is_broken.spoiled.spoiled.whole
 mapped_spoils s t (inr b) = b.1.is_spoiled.spoiled.spoiled.whole
 
--- what was told of a part, whose calls are those of the whole by f and whose answers are those of the whole by g
+-- what was established of a part, whose calls are those of the whole by f and whose answers are those of the whole by g
 module _ {C D R Q : Type 0} (eq : C → C → Bool) (same : R → R → Bool) (eqd : D → D → Bool) (like : Q → Q → Bool) (f : C → D) (g : R → Q) (apart : (x y : C) → eqd (f x) (f y) ≡ eq x y) (answers_apart : (x y : R) → like (g x) (g y) ≡ same x y) where
   -- a read of the part is one of the whole
   asked_whole : (n : D → Q) (m : C → R) → ((c : C) → n (f c) ≡ g (m c)) → {went : List (D × Q) → List D → Type 0} (call : C) (answer : R) → Asks same m call answer (Through f g went) → Asks like n (f call) (g answer) went
@@ -417,7 +417,7 @@ module _ {U V X Y P Q : Type 0} (j : Joined U V X Y P Q) where
       tells_refused_part r h = tells_refused Wrote are_writes touch j.likes Answers equal alike respects place same_recording has value took r h
 
   module _ {s t : Lent (ReadAndWrite U V) (MultiCall X Y) (MultiAnswer P Q)} (place : t.value.ghost_name ≡ s.value.ghost_name) (same_recording : t.recording.ghost_name ≡ s.recording.ghost_name) (reached : Reaches Did s.value.now t.value.now) (broken : t.recording.now.whole ≡ false) where
-    -- after a fault by which the recording is spoiled
+    -- after a fault that made the recording incomplete
     pub tells_failed_part : {fits : Recording (MultiCall X Y) (MultiAnswer P Q) → (MultiCall X Y → MultiAnswer P Q) → Type 0} {Z : Type 0} {H : Z → (MultiCall X Y → MultiAnswer P Q) → Type 0} (r : Result Z Fault) → IsErr r → TellsMut (Goes Did touch j.likes Answers) fits s t r H
     tells_failed_part r h = tells_failed Wrote are_writes touch j.likes Answers place same_recording reached broken r h
 

@@ -1,4 +1,4 @@
--- What a recorder knows of its recording.
+-- A recorder's invariant.
 use Rattle.std.proofs.Common.{Option, ◌≡◌, ◌∙◌, ◌||◌, Bool, true, false, List, [], ◌∷◌, ◌++◌, IsTrue, Result, Ok, Err, IfOk, OnErr, IsErr, IsErrAnd, refl, sym, ap}
 use Rattle.std.specs.Cmp.{IsEquivalence}
 use Rattle.comemo_base.specs.Answers.{Respects, Agrees}
@@ -28,12 +28,12 @@ module _ {C R : Type 0} {eq touches : C → C → Bool} {s t : Recording C R} {P
   pub in_time : t.late ≡ false → (s.late ≡ false) × (touched touches s.writes P ≡ false)
   in_time l = neither s.late (touched touches s.writes P) (sym took.late ∙ l)
 
-  -- where there were no writes, no read is late
+  -- if there were no writes, no read is late
   pub stays_early : s.writes ≡ [] → s.late ≡ false → t.late ≡ false
   stays_early none early = took.late ∙ ap (λ b. b || touched touches s.writes P) early ∙ ap (λ V. touched touches V P) none ∙ untouched_by_none touches P
 
 module _ {C R : Type 0} {eq touches : C → C → Bool} {same : R → R → Bool} (calls : IsEquivalence eq) (answers : IsEquivalence same) (m : C → R) (respects : Respects eq same m) {s t : Recording C R} (P : List (C × R)) (W : List C) (took : Took eq touches s t P W) (before : Agrees same m s.pairs) (a : Agrees same m P) where
-  -- where answers agreed and agree with what was taken, they agree
+  -- if answers agreed before and agree with what was taken, they agree
   pub agrees_from : Agrees same m t.pairs
   agrees_from = (told_pairs calls answers m respects s t P W before a took).agrees
 
@@ -51,7 +51,7 @@ module _ {C R : Type 0} {eq touches : C → C → Bool} {same : R → R → Bool
   taken_from n f = (told_pairs calls answers m respects s t P W before a took).told n f.respects f.agrees
 
 module _ {C R : Type 0} {eq touches : C → C → Bool} {same : R → R → Bool} (calls : IsEquivalence eq) (answers : IsEquivalence same) (m : C → R) (respects : Respects eq same m) {s t : Recording C R} (P : List (C × R)) (W : List C) (took : Took eq touches s t P W) (a : Agrees same m P) (before : s.whole ≡ true → Agrees same m s.pairs) where
-  -- where the present answers agreed and agree with what was taken, they agree
+  -- if the present answers agreed before and agree with what was taken, they agree
   pub still_agrees : t.whole ≡ true → Agrees same m t.pairs
   still_agrees w = agrees_from calls answers m respects P W took (before (was_whole took w)) a
 
@@ -64,12 +64,12 @@ module _ {C R : Type 0} {eq touches : C → C → Bool} {same : R → R → Bool
   fits_taken n f = taken_from calls answers m respects P W took (before (was_whole took f.whole)) a n f
 
 module _ {V C R : Type 0} {eq : C → C → Bool} {same : R → R → Bool} {s t : Recorded V C R} (value : t.value ≡ s.value) where
-  -- a refusal for want of memory, which doesn't say that the recording is incomplete
+  -- a failure to allocate, which isn't `Incomplete`
   pub tells_memory : {X : Type 0} {P : X → (C → R) → Type 0} (r : Result X Fault) → IsErrAnd r (λ f. f ≡ fault.Memory) → Tells (Fits eq same) s t r P
   tells_memory (Ok x) h = absurd h
   tells_memory (Err f) h = record { same_value = value; before = tt; told = tt; whole = tt; fault = λ e. let no : fault.Memory ≡ fault.Incomplete = sym h ∙ e in cc }
 
-  -- a fault after which the recording is spoiled
+  -- a fault after which the recording is incomplete
   pub tells_broken : {X : Type 0} {P : X → (C → R) → Type 0} (r : Result X Fault) → IsErr r → t.recording.whole ≡ false → Tells (Fits eq same) s t r P
   tells_broken (Ok x) h w = let no : false ≡ true = h in cc
   tells_broken (Err f) h w = record { same_value = value; before = tt; told = tt; whole = tt; fault = λ e. w }
@@ -88,12 +88,12 @@ module _ {V C R : Type 0} {eq : C → C → Bool} {same : R → R → Bool} {s t
 no_more_writes : {C R : Type 0} {eq touches : C → C → Bool} {s t : Recording C R} (P : List (C × R)) (W : List C) → Took eq touches s t P W → W ≡ [] → s.writes ≡ [] → t.writes ≡ []
 no_more_writes P W took none before = took.writes ∙ ap (λ V. V ++ W) before ∙ none
 
--- after a read, and after one that was refused, a recorder keeps what it kept
+-- after a read, and after a refused one, a recorder keeps its invariant
 pub asked_keeps : {C R : Type 0} {eq : C → C → Bool} (touches : C → C → Bool) {same : R → R → Bool} → IsEquivalence eq → IsEquivalence same → (m : C → R) → Respects eq same m → (s t : Recording C R) → IsRecorded same m s → {E : Type 0} (call : C) (r : Result R E) → IfOk r (λ answer. Asks same m call answer (Took eq touches s t)) → OnErr r (Took eq touches s t [] []) → IsRecorded same m t
 asked_keeps touches calls answers m respects s t before call (Ok answer) k e = record { agrees = still_agrees calls answers m respects ((call, k.noted) ∷ []) [] k.sent (k.alike, tt) before.agrees; no_writes = no_more_writes ((call, k.noted) ∷ []) [] k.sent refl before.no_writes; early = stays_early k.sent before.no_writes before.early }
 asked_keeps touches calls answers m respects s t before call (Err x) k e = record { agrees = still_agrees calls answers m respects [] [] e tt before.agrees; no_writes = no_more_writes [] [] e refl before.no_writes; early = stays_early e before.no_writes before.early }
 
--- what broke off is not whole, and has the writes that it had
+-- what broke off is incomplete, and has the same writes as before
 pub not_whole : {C R : Type 0} {eq touches : C → C → Bool} {same : R → R → Bool} {m : C → R} {s t : Recording C R} → BrokeOff same m (BreaksOff (Took eq touches) Spoiled s t) → t.whole ≡ false
 not_whole is = is.is_broken.spoiled.whole
 

@@ -1,4 +1,4 @@
--- What a recorder of a value that is written knows of its recording.
+-- The invariant of a recorder that writes.
 use Rattle.std.specs.Prelude.{⊤}
 use Rattle.std.proofs.Common.{◌≡◌, ◌∙◌, ◌||◌, cond, Bool, true, false, List, [], ◌∷◌, ◌++◌, IsTrue, Result, Ok, Err, OnErr, IsErr, IsErrAnd, refl, sym, ap, subst, append-nil, inl, inr}
 use Rattle.std.proofs.lemmas.Bool.{cases_Bool}
@@ -30,7 +30,7 @@ or_true : (a : Bool) → (a || true) ≡ true
 or_true true = refl
 or_true false = refl
 
--- where no write touches a read, none is touched
+-- if no write touches a read, none is touched
 none_touched_by : {C : Type 0} (touches : C → C → Bool) → NoneTouches touches → (W : List C) (call : C) → touched_by touches W call ≡ false
 none_touched_by touches none [] call = refl
 none_touched_by touches none (c ∷ W) call = ap (λ b. b || touched_by touches W call) (none c call) ∙ none_touched_by touches none W call
@@ -73,7 +73,7 @@ module _ {C R : Type 0} {eq : C → C → Bool} (calls : IsEquivalence eq) (w : 
 pub done_at : {S C : Type 0} (did : S → S → List C → Type 0) (i j k : S) (W : List C) → k ≡ j → did i j W → did i k W
 done_at did i j k W e d = subst (λ v. did i v W) (sym e) d
 
--- what is spoiled is not whole
+-- what was made incomplete is not complete
 pub spoiled_any : (b : Bool) {X : Type 0} → b ≡ false → b ≡ true → X
 spoiled_any b broken whole = let e : true ≡ false = sym whole ∙ broken in cc
 
@@ -90,7 +90,7 @@ module _ {V C R : Type 0} (wrote : V → C → V → Type 0) (w : C → Bool) (t
     pub taken_agrees : (start : V) → Began (Done wrote w touches same answers) same answers start s → t.recording.now.late ≡ false → Agrees same (answers start) P
     taken_agrees start b l = untouched_agrees start s.value.now s.recording.now.writes b.done P reads (in_time took l).1 a
 
-    -- a recording that began at a value began there after it took more, where the writes among that were done
+    -- a recording that began at a value began there after it took more, if the writes among that were done
     pub began_on : Done wrote w touches same answers s.value.now t.value.now W → (start : V) → Began (Done wrote w touches same answers) same answers start s → Began (Done wrote w touches same answers) same answers start t
     began_on did start b = record {
       done = subst (λ ws. Done wrote w touches same answers start t.value.now ws) (sym took.writes) (done_both wrote w touches same answers start s.value.now t.value.now s.recording.now.writes W b.done did);
@@ -174,7 +174,7 @@ module _ {V C R : Type 0} (wrote : V → C → V → Type 0) (w : C → Bool) (t
         fault = tt;
       }
 
-    -- one that was refused
+    -- a read that was refused
     pub refused_begun : t.value.now ≡ s.value.now → Took eq touches s.recording.now t.recording.now [] [] → HasBegun (Done wrote w touches same answers) same answers t
     refused_begun value took = has_begun_on s t [] [] took tt tt value has
 
@@ -203,14 +203,14 @@ module _ {V C R : Type 0} (wrote : V → C → V → Type 0) (w : C → Bool) (t
       fault = λ e. let no : fault.Memory ≡ fault.Incomplete = sym h ∙ e in cc;
     }
 
--- a recording of nothing began at the value as it is
+-- an empty recording began at the present value
 pub fresh_began : {V C R : Type 0} (wrote : V → C → V → Type 0) (w : C → Bool) (touches : C → C → Bool) (same : R → R → Bool) (answers : V → C → R) (s : Lent V C R) → s.recording.now.pairs ≡ [] → s.recording.now.writes ≡ [] → Began (Done wrote w touches same answers) same answers s.value.now s
 fresh_began wrote w touches same answers s pairs writes = record {
   done = subst (λ W. Done wrote w touches same answers s.value.now s.value.now W) (sym writes) refl;
   agrees = λ l. subst (λ ps. Agrees same (answers s.value.now) ps) (sym pairs) tt;
 }
 
--- what a run did, which began with a recording of nothing: the recording that it left began at the value that it was handed
+-- what a run did that began with an empty recording: the recording that it left began at the value that it got
 module _ {V C R : Type 0} (wrote : V → C → V → Type 0) (w : C → Bool) (touches : C → C → Bool) (same : R → R → Bool) (answers : V → C → R) {s t : Lent V C R} (goes : Goes (Done wrote w touches same answers) touches same answers s t) (pairs : s.recording.now.pairs ≡ []) (writes : s.recording.now.writes ≡ []) where
   ran_began : t.recording.now.whole ≡ true → Began (Done wrote w touches same answers) same answers s.value.now t
   ran_began whole = goes.began whole s.value.now (fresh_began wrote w touches same answers s pairs writes)
@@ -295,12 +295,12 @@ module _ {V K C R O : Type 0} (M : Meaning K C R O) (wrote : V → C → V → T
         fault = tt;
       }
 
--- after a fault of a call, the recording is spoiled
+-- after a fault of a call the recording is incomplete
 pub failed_spoils : {K C R O : Type 0} {touches : C → C → Bool} {M : Meaning K C R O} {es es' : Entries K C R O} {call : Invocation K C R} {done : List C → Type 0} {s t : Recording C R} → IsFailed M touches es call done (BreaksOff (Took M.same_call touches) Spoiled s t) (SpoiledAfter (Took M.same_call touches) Spoiled s t) es' → t.whole ≡ false
 failed_spoils (inl a) = a.1.is_broken.spoiled.whole
 failed_spoils (inr b) = b.1.is_spoiled.spoiled.whole
 
--- the writes are those that were, after a call of a function that reads
+-- after a call of a function that reads the writes are unchanged
 pub read_writes : {K C R O : Type 0} {touches : C → C → Bool} {M : Meaning K C R O} {es mid es' : Entries K C R O} {call : Invocation K C R} (s t : Recording C R) (reply : Reply O) (k : IsReply M call es mid (Took M.same_call touches s t) reply es') → k.writes ≡ [] → t.writes ≡ s.writes
 read_writes s t reply k none = k.gives.are_sent.writes ∙ (ap (λ W. s.writes ++ W) none ∙ append-nil s.writes)
 
@@ -315,12 +315,12 @@ module _ {V C R : Type 0} (wrote : V → C → V → Type 0) (w : C → Bool) (t
     reached = λ start r. (r.0 ++ reached.0, done_both wrote w touches same answers start s.value.now t.value.now r.0 reached.0 r.1 reached.1);
   }
 
-  -- after a fault, by which the recording is spoiled
+  -- after a fault that made the recording incomplete
   pub tells_failed : {fits : Recording C R → (C → R) → Type 0} {X : Type 0} {P : X → (C → R) → Type 0} (r : Result X Fault) → IsErr r → TellsMut (Goes (Done wrote w touches same answers) touches same answers) fits s t r P
   tells_failed (Ok x) h = let no : false ≡ true = h in cc
   tells_failed (Err f) h = record { goes = goes_failed; before = tt; told = tt; whole = tt; fault = λ e. broken }
 
-  -- the same, of a call of a function that writes
+  -- the same, for a call of a function that writes
   pub writes_failed : {fits : Recording C R → (C → R) → Type 0} {X : Type 0} {P : X → (C → R) → List C → Type 0} (r : Result X Fault) → IsErr r → TellsWrites (Goes (Done wrote w touches same answers) touches same answers) fits s t r P
   writes_failed (Ok x) h = let no : false ≡ true = h in cc
   writes_failed (Err f) h = record { goes = goes_failed; before = tt; told = tt; whole = tt; fault = λ e. broken }
@@ -329,8 +329,8 @@ module _ {V C R : Type 0} (wrote : V → C → V → Type 0) (w : C → Bool) (t
 pub broke_at_begin_mut : {K C R O : Type 0} {M : Meaning K C R O} {es : Entries K C R O} {call : Invocation K C R} {broken : List (C × R) → Type 0} (touches : C → C → Bool) → IsBrokenOff M es call broken → BrokeOffMut touches M.same_answer call.answers broken
 broke_at_begin_mut touches is = record { pairs = is.pairs; agrees = λ _. is.agrees; is_broken = is.is_broken }
 
--- so did a run of one, of which what is whole agrees with the answers where no write touches a read, and what is spoiled spoiled the
--- sink as it was
+-- so did its run: if it is complete it agrees with the answers where no write touches a read, and if not, its sink is
+-- incomplete and otherwise unchanged
 pub broke_by_run_mut : {K C R O : Type 0} (M : Meaning K C R O) (touches : C → C → Bool) (m : C → R) → IsEquivalence M.same_call → IsEquivalence M.same_answer → Respects M.same_call M.same_answer m → (broken : List (C × R) → Type 0) (pairs : List (C × R)) (whole : Bool) → (whole ≡ true → NoneTouches touches → Agrees M.same_answer m pairs) → (whole ≡ false → broken []) → (X : Type 0) {T E : Type 0} (r : Result T E) → OnErr r (X × BreaksOffRun M broken pairs) → OnErr r (X × BrokeOffMut touches M.same_answer m broken)
 broke_by_run_mut M touches m calls answers respects broken pairs whole agrees spoiled X (Ok x) e = tt
 broke_by_run_mut M touches m calls answers respects broken pairs true agrees spoiled X (Err x) e = (e.0, record { pairs = e.1.given; agrees = λ none. Agrees-same calls answers m respects pairs e.1.given (IsSamePath-turned calls answers e.1.given pairs e.1.alike) (agrees refl none); is_broken = e.1.is_broken })

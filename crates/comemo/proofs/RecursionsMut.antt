@@ -1,4 +1,5 @@
--- For the authors of functions that call themselves and write: what their calls tell, and how a run within a run is finished.
+-- For authors of functions that call themselves and write: what their calls establish, and how a nested run is
+-- finished.
 use Rattle.std.proofs.Common.{◌≡◌, ◌∙◌, ◌↔◌, Bool, true, false, List, [], ◌++◌, IsTrue, Result, Ok, Err, IfOk, IfErr, IsErrAnd, refl, sym, ap, subst, append_assoc, append-nil, inl, inr}
 use Rattle.std.proofs.lemmas.Bool.{cases_Bool}
 use Rattle.std.specs.List.{All}
@@ -33,12 +34,12 @@ within_goes {s = s} {t} {u} a b = record {
   reached = b.reached s.value.now a.reached;
 }
 
--- where nothing was written before, what was written is what was written since
+-- if nothing was written before, what was written is what was written since
 pub since_nothing : {V C R : Type 0} (s t : Lent V C R) (P : List C → Type 0) → s.recording.now.writes ≡ [] → Since s t P → P t.recording.now.writes
 since_nothing s t P none k = subst P (sym (k.1 ∙ ap (λ W. W ++ k.0) none)) k.2
 
 module _ {V C R : Type 0} {did : V → V → List C → Type 0} {touches : C → C → Bool} {same : R → R → Bool} {answers : V → C → R} {fits : Recording C R → (C → R) → Type 0} where
-  -- where nothing is done
+  -- if nothing is done
   pub writes_nothing : {X : Type 0} (s : Lent V C R) (x : X) {P : X → (C → R) → List C → Type 0} → ((m : C → R) → fits s.recording.now m → P x m []) → TellsWrites (Goes did touches same answers) fits s s (Ok x) P
   writes_nothing s x is = record {
     goes = record { same_value = refl; same_recording = refl; was_whole = λ w. w; began = λ w start b. b; early = λ none w l. l; reached = λ start r. r };
@@ -81,24 +82,24 @@ module _ {V C R : Type 0} {did : V → V → List C → Type 0} {touches : C →
   pub called : {X : Type 0} {s t : Lent V C R} {x : X} {P : X → (C → R) → Type 0} → TellsMut (Goes did touches same answers) fits s t (Ok x) P → t.recording.now.writes ≡ s.recording.now.writes → TellsWrites (Goes did touches same answers) fits s t (Ok x) (λ y n W. (W ≡ []) × P y n)
   called {s = s} a none = record { goes = a.goes; before = a.before; told = λ n f. ([], none ∙ sym (append-nil s.recording.now.writes), (refl, a.told n f)); whole = a.whole; fault = tt }
 
-  -- what is told of a reply is what is told of its output
+  -- what is established of a reply is established of its output
   pub of_output : {O : Type 0} (reply : Reply O) {s t : Lent V C R} (P : O → (C → R) → List C → Type 0) → TellsWrites (Goes did touches same answers) fits s t (Ok reply) (λ r m W. P r.output m W) → TellsWrites (Goes did touches same answers) fits s t (Ok reply.output) P
   of_output reply P a = record { goes = a.goes; before = a.before; told = a.told; whole = a.whole; fault = tt }
 
   pub of_reply : {O : Type 0} (reply : Reply O) {s t : Lent V C R} (P : O → (C → R) → List C → Type 0) → TellsWrites (Goes did touches same answers) fits s t (Ok reply.output) P → TellsWrites (Goes did touches same answers) fits s t (Ok reply) (λ r m W. P r.output m W)
   of_reply reply P a = record { goes = a.goes; before = a.before; told = a.told; whole = a.whole; fault = tt }
 
-  -- a fault that was handed on tells what it told
+  -- a fault that was passed on establishes what it did
   pub handed_on : {X Y : Type 0} (f : Fault) (r : Result Y Fault) {s t : Lent V C R} {P : X → (C → R) → List C → Type 0} {Q : Y → (C → R) → List C → Type 0} → (let failed : Result X Fault = Err f in TellsWrites (Goes did touches same answers) fits s t failed P) → IsErrAnd r (λ g. g ≡ f) → TellsWrites (Goes did touches same answers) fits s t r Q
   handed_on f (Ok y) a h = absurd h
   handed_on f (Err g) a e = record { goes = a.goes; before = tt; told = tt; whole = tt; fault = λ is. a.fault (sym e ∙ is) }
 
-  -- what was told tells what follows from it
+  -- what was established establishes what follows from it
   pub writes_as : {X : Type 0} (r : Result X Fault) {s t : Lent V C R} {P Q : X → (C → R) → List C → Type 0} → TellsWrites (Goes did touches same answers) fits s t r P → ((x : X) (m : C → R) (W : List C) → fits t.recording.now m → P x m W → Q x m W) → TellsWrites (Goes did touches same answers) fits s t r Q
   writes_as (Ok x) a so = record { goes = a.goes; before = a.before; told = λ m f. let one = a.told m f in (one.0, one.1, so x m one.0 f one.2); whole = a.whole; fault = tt }
   writes_as (Err f) a so = record { goes = a.goes; before = tt; told = tt; whole = tt; fault = a.fault }
 
-  -- where nothing was written before, an output is right by all that was written
+  -- if nothing was written before, an output is right by all that was written
   pub right_alone : {X : Type 0} (r : Result X Fault) {s t : Lent V C R} {P : X → (C → R) → List C → Type 0} → TellsWrites (Goes did touches same answers) fits s t r P → s.recording.now.writes ≡ [] → IfOk r (λ x. (m : C → R) → fits t.recording.now m → P x m t.recording.now.writes)
   right_alone (Ok x) {s} {t} {P} a none = λ m f. since_nothing s t (P x m) none (a.told m f)
   right_alone (Err f) a none = tt
@@ -110,12 +111,12 @@ fault_in d (Err f) = f
 same_fault : (A B : Type 0) (f g : Fault) → (let r : Result A Fault = Err f in r ≡ Err g) → (let r : Result B Fault = Err f in r ≡ Err g)
 same_fault A B f g e = ap (λ x. Err x) (ap (fault_in f) e)
 
--- when a fault says that a recording is incomplete, whatever would have been given
+-- if a fault is `Incomplete`, whatever the type of the output
 pub incomplete_as : {O : Type 0} (A B X : Type 0) (ran : Result O Fault) (f : Fault) → IfOk ran (λ _. (let r : Result A Fault = Err f in r ≡ Err fault.Incomplete) ↔ X) → IfOk ran (λ _. (let r : Result B Fault = Err f in r ≡ Err fault.Incomplete) ↔ X)
 incomplete_as A B X (Ok x) f h = (λ e. h.0 (same_fault B A f fault.Incomplete e), λ x. same_fault A B f fault.Incomplete (h.1 x))
 incomplete_as A B X (Err g) f h = tt
 
--- a fault that was handed on, whatever would have been given
+-- a fault that was passed on, whatever the type of the output
 pub fault_on : {O : Type 0} (A B : Type 0) (Y : Fault → Type 0) (ran : Result O Fault) (f : Fault) → IfErr ran (λ g. (let r : Result A Fault = Err f in r ≡ Err g) × Y g) → IfErr ran (λ g. let r : Result B Fault = Err f in r ≡ Err g)
 fault_on A B Y (Ok x) f h = tt
 fault_on A B Y (Err g) f h = same_fault A B f g h.0
@@ -178,7 +179,7 @@ module _ {V K C R O : Type 0} (M : Meaning K C R O) (calls : IsEquivalence M.sam
     late_tells : (output : O) {Q : O → (C → R) → List C → Type 0} → TellsWrites (Goes (Done wrote w touches M.same_answer answers) touches M.same_answer answers) (Fits M.same_call M.same_answer) s u (Ok output) Q
     late_tells output = tells_late wrote w touches M.same_answer answers calls laws alike s u marked.given t.recording.now.writes marked.are_sent did (λ none. let no : true ≡ false = sym late ∙ within.early none whole in cc) same_value place output
 
-  -- a run within a run that was finished tells the run around it what is right by what it recorded
+  -- a nested run that was finished establishes for the run around it what is right by what it recorded
   pub within_tells : (key : K) (output : O) → ((n : C → R) → Fits M.same_call M.same_answer t.recording.now n → M.def key n output t.recording.now.writes) → TellsWrites (Goes (Done wrote w touches M.same_answer answers) touches M.same_answer answers) (Fits M.same_call M.same_answer) s u (Ok output) (λ o n writes. M.def key n o writes)
   within_tells key output right = elim (cases_Bool t.recording.now.late) [ inl late ↦ late_tells late output | inr early ↦ early_tells early key output right ]
 
@@ -186,8 +187,8 @@ module _ {V K C R O : Type 0} (M : Meaning K C R O) (calls : IsEquivalence M.sam
   pub within_agrees : HasBegun (Done wrote w touches M.same_answer answers) M.same_answer answers u
   within_agrees = elim (cases_Bool t.recording.now.late) [ inl late ↦ late_begun late | inr early ↦ early_begun early ]
 
--- what follows from a call within a recording of its own, which was empty and whole, where it isn't late then: what was told holds of
--- the value as it was before, and so many writes were done on it
+-- what follows from a call within a recording of its own, which was empty and complete, if it isn't late afterwards:
+-- what was established holds of the previous value, and the recorded writes were done on it
 pub writes_now : {V C R X : Type 0} {eq : C → C → Bool} {same : R → R → Bool} {wrote : V → C → V → Type 0} {w : C → Bool} {touches : C → C → Bool} {answers : V → C → R} → ((v : V) → Respects eq same (answers v)) → {s t : Lent V C R} {P : X → (C → R) → List C → Type 0} (r : Result X Fault) → s.recording.now.whole ≡ true → s.recording.now.writes ≡ [] → s.recording.now.pairs ≡ [] → TellsWrites (Goes (Done wrote w touches same answers) touches same answers) (Fits eq same) s t r P → {Q : X → Type 0} → ((x : X) (W : List C) → P x (answers s.value.now) W → Done wrote w touches same answers s.value.now t.value.now W → Q x) → (t.recording.now.whole ≡ true → t.recording.now.late ≡ false) → IfOk r Q
 writes_now {same = same} {wrote} {w} {touches} {answers} alike {s} {t} (Ok x) whole none nothing a so early =
     let is = a.whole ∙ whole in

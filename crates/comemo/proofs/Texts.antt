@@ -1,4 +1,4 @@
--- For the authors of functions whose keys, calls or answers are texts, or lists of texts or of anything else.
+-- For authors of functions whose keys, calls or answers are texts, or lists of texts or of other items.
 use Rattle.std.specs.Prelude.{◌≡◌, List, [], ◌∷◌, Bool, String, map, string_bytes}
 use Rattle.std.specs.Global.{Global}
 use Rattle.std.specs.List.{AllZip, fold}
@@ -50,7 +50,7 @@ bytes_in_turn (x ∷ xs) (y ∷ ys) h =
     let both : IsTrue (string_eq x y) × IsTrue (pointwise string_eq xs ys) = search rules in
     rw (bytes_of_equal x y both.0, bytes_in_turn xs ys both.1) refl
 
--- a fold whose step tells no equal items apart, gives the same for items that are equal in turn
+-- a fold whose step treats equal items alike returns the same for items that are equal in turn
 pub fold_alike : {O X : Type 0} (same : X → X → Bool) (f : O → X → O) → ((o : O) (x y : X) → IsTrue (same x y) → f o x ≡ f o y) → (o : O) (xs ys : List X) → IsTrue (pointwise same xs ys) → fold f o xs ≡ fold f o ys
 fold_alike same f alike o [] [] h = search rules
 fold_alike same f alike o [] (y ∷ ys) h = search rules
@@ -60,11 +60,11 @@ fold_alike same f alike o (x ∷ xs) (y ∷ ys) h =
     rw (alike o x y both.0) (fold_alike same f alike (f o y) xs ys both.1)
 
 module _ {C R : Type 0} {eq : C → C → Bool} {same : R → R → Bool} (m : C → R) (respects : Respects eq same m) where
-  -- what was told of a call is told of an equal call
+  -- what holds of a call holds of an equal call
   pub told_of_equal : IsEquivalence same → (c d : C) (answer : R) → IsTrue (eq c d) → IsTrue (same (m c) answer) → IsTrue (same (m d) answer)
   told_of_equal answers c d answer e h = joined answers (m d) (m c) answer (turned answers (m c) (m d) (respects c d e)) h
 
-  -- where g tells no equal answers apart, it gives the same of what was told of a call as of what answers an equal call
+  -- if g treats equal answers alike, it returns the same for the answer of a call and for that of an equal call
   pub alike_of_told : {X : Type 0} (g : R → X) → ((a b : R) → IsTrue (same a b) → g a ≡ g b) → (c d : C) (answer : R) → IsTrue (eq c d) → IsTrue (same (m c) answer) → g answer ≡ g (m d)
   alike_of_told g alike c d answer e h = sym (alike (m c) answer h) ∙ alike (m c) (m d) (respects c d e)
 

@@ -1,4 +1,4 @@
--- What a call of a function of a part gave, told as a call of the whole: its calls and answers went through a map.
+-- A call of a function of a part, as a call of the whole: its calls and answers went through a map.
 use Rattle.std.proofs.Common.{◌≡◌, ◌∙◌, Bool, true, List, [], ◌∷◌, ◌++◌, Ok, map, ap, subst}
 use Rattle.std.proofs.lemmas.List.{map-append}
 use Rattle.std.specs.Cmp.{IsEquivalence}
@@ -16,7 +16,7 @@ use Rattle.comemo.proofs.Recorders.{fitted, fits_taken, still_agrees, stays_earl
 
 module _ {C D R Q : Type 0} (eq : C → C → Bool) (same : R → R → Bool) (eqd : D → D → Bool) (like : Q → Q → Bool) (f : C → D) (g : R → Q) (apart : (x y : C) → eqd (f x) (f y) ≡ eq x y) (answers_apart : (x y : R) → like (g x) (g y) ≡ same x y) where
   module _ (n : D → Q) (m : C → R) (each : (c : C) → n (f c) ≡ g (m c)) where
-    -- the answers of a part are alike for equal calls where those of the whole are
+    -- the answers of a part are alike for equal calls if those of the whole are
     pub part_respects : Respects eqd like n → Respects eq same m
     part_respects r x y h = rw (answers_apart (m x) (m y)) at (rw (each y) at (rw (each x) at (r (f x) (f y) (rw (apart x y) h))))
 
@@ -29,7 +29,7 @@ module _ {C D R Q : Type 0} (eq : C → C → Bool) (same : R → R → Bool) (e
     agrees_part [] a = tt
     agrees_part (p ∷ P) a = (rw (answers_apart (m p.0) p.1) at (rw (each p.0) at a.0), agrees_part P a.1)
 
-  -- what a function of a part gave a recording of the whole, whose answers are n
+  -- what a function of a part added to a recording of the whole, whose answers are n
   module _ {K O : Type 0} (eqk : K → K → Bool) (w : C → Bool) (cloned : O → O → Type 0) (def : K → (C → R) → O → List C → Type 0) (naming : Naming K C R) (calls : IsEquivalence eqd) (answers : IsEquivalence like) (n : D → Q) (respects : Respects eqd like n) (m : C → R) (each : (c : C) → n (f c) ≡ g (m c)) (key : K)
       (es mid es' : Entries K C R O) (reply : Reply O) {touches : D → D → Bool} where
     module _ {s t : Recording D Q} (before : s.whole ≡ true → Agrees like n s.pairs) (k : IsReply (record { same_call = eq; same_answer = same; same_key = eqk; is_write = w; is_clone = cloned; def = def; naming = naming }) (invocation key m true) es mid (Through f g (Took eqd touches s t)) reply es') where
@@ -60,7 +60,7 @@ module _ {C D R Q : Type 0} (eq : C → C → Bool) (same : R → R → Bool) (e
       fault = tt;
     }
 
-  -- pairs of which a beginning went through a map, before it broke off
+  -- pairs of which a prefix went through a map, before it broke off
   pub broke_through : {S T : Type 0} {took : S → S → List (C × R) → List C → Type 0} {spoils : S → S → Type 0} {takes : T → T → List (D × Q) → List D → Type 0} {breaks : T → T → Type 0} (inner : S → T) (s : S) → ((t : S) (P : List (C × R)) → took s t P [] → takes (inner s) (inner t) (mapped_pairs f g P) []) → ((t u : S) → spoils t u → breaks (inner t) (inner u)) → (n : D → Q) (m : C → R) → ((c : C) → n (f c) ≡ g (m c)) → (t : S) → BrokeOff same m (BreaksOff took spoils s t) → BrokeOff like n (BreaksOff takes breaks (inner s) (inner t))
   broke_through inner s sends spoiled n m each t is = record {
     pairs = mapped_pairs f g is.pairs;

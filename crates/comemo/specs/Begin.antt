@@ -7,11 +7,11 @@ use Rattle.comemo_track.specs.Recording.{Recording, recording_code}
 use Rattle.comemo_cache.specs.Meaning.{Meaning, Invocation, Run, run, IsNamedRun}
 use Rattle.comemo_cache.specs.Cache.{Entries, Stands, HasNone, Has}
 
--- some writes lead from a value to another, by this word for what writes do
+-- some writes lead from one value to another, by this relation of what writes do
 abbrev pub Reaches : {V C : Type 0} → (V → V → List C → Type 0) → V → V → Type 0
 Reaches {V} {C} did i j = (writes : List C) × did i j writes
 
--- a run that began: its key, whether it is to be stored, and what it has recorded
+-- a run that began: its key, whether it is to be stored, and its recording
 pub record PendingRun (K C R : Type 0) : Type 0 where
   pub key : K
   pub enabled : Bool
@@ -21,21 +21,21 @@ abbrev pub run_code : {K C R : Type 0} → Coded K → Coded C → Coded R → C
 run_code {K} {C} {R} k c r =
     code_by (K × (Bool × Recording C R)) (coded× k (coded× coded_bool (recording_code c r))) (λ s. (s.key, (s.enabled, s.recording))) (λ p. record { key = p.0; enabled = p.1.0; recording = p.1.1 }) (λ _. refl)
 
--- what a run that ends with this output came to
+-- the result of a run that ends with this output
 abbrev pub came_to : {K C R O : Type 0} → PendingRun K C R → O → Run K C R O
 came_to s output = run s.key s.recording.pairs output s.recording.writes
 
 module _ {K C R O : Type 0} (M : Meaning K C R O) (es : Entries K C R O) (call : Invocation K C R) where
-  -- a run is to be done under this key, which is the call's up to equality, and where the call is enabled no kept entry has the
-  -- key and agrees
+  -- a run is to be done under this key, which equals the call's; if the call is enabled, no entry has the key and
+  -- agrees
   pub record HasToRun (own : K) : Type 0 where
     pub has_key : IsTrue (M.same_key call.key own)
     pub right : (n : C → R) (output : O) (writes : List C) → Respects M.same_call M.same_answer n → M.def own n output writes → M.def call.key n output writes
     pub named : (pairs : List (C × R)) → IsNamedRun M own pairs → IsNamedRun M call.key pairs
     pub none : call.enabled ≡ true → HasNone M es call
 
-  -- a run begins with the key, up to equality, and an empty recording that is whole and not late, and where it is enabled no kept entry
-  -- has the key and agrees
+  -- a run begins with a key that equals the call's and an empty recording that is complete and not late; if it is
+  -- enabled, no entry has the key and agrees
   pub record IsRun (begun : PendingRun K C R) : Type 0 where
     pub has_key : IsTrue (M.same_key call.key begun.key)
     pub right : (n : C → R) (output : O) (writes : List C) → Respects M.same_call M.same_answer n → M.def begun.key n output writes → M.def call.key n output writes
@@ -47,9 +47,9 @@ module _ {K C R O : Type 0} (M : Meaning K C R O) (es : Entries K C R O) (call :
     pub early : begun.recording.late ≡ false
     pub none : call.enabled ≡ true → HasNone M es call
 
-  -- a hit: an entry was kept that has the key and agrees with the answers; its path, which has reads alone, and its writes, in order,
-  -- went to the sink, the writes were done on the input, and the output is right wherever the path agrees, so also at the answers; and
-  -- where the asked calls are named, the path is a run of them
+  -- a hit: an entry has the key and agrees with the answers; its path, which has only reads, and then its writes, in
+  -- order, went to the sink, and the writes were done on the input; the output is right for all answers that agree with
+  -- the path, so also for the call's; if the asked calls are named, the path is a run of them
   pub record IsHit (done : List C → Type 0) (sent : List (C × R) → List C → Type 0) (output : O) : Type 0 where
     pub pairs : List (C × R)
     pub writes : List C
@@ -64,17 +64,17 @@ module _ {K C R O : Type 0} (M : Meaning K C R O) (es : Entries K C R O) (call :
     pub are_sent : sent pairs writes
     pub right : M.def call.key call.answers output writes
 
-  -- a call that did not begin: its sink, broken off, took a beginning of these pairs, which are none, or the path of an entry that
-  -- has the key and agrees with the answers
+  -- a call that did not begin: its sink, broken off, took a prefix of these pairs, which are none or the path of an
+  -- entry that has the key and agrees with the answers
   pub record IsBrokenOff (broken : List (C × R) → Type 0) : Type 0 where
     pub pairs : List (C × R)
     pub found : (pairs ≡ []) ⊎ ((output : O) × (writes : List C) × Has M es call (run call.key pairs output writes))
     pub agrees : Agrees M.same_answer call.answers pairs
     pub is_broken : broken pairs
 
-  -- a hit that stopped, since a write was refused: an entry was kept that has the key and agrees with the answers; its path went to
-  -- the sink, and its writes before that one were done on the input and went there, before it was spoiled; a function whose calls are
-  -- reads alone has none that could be refused
+  -- a hit that stopped at a refused write: an entry has the key and agrees with the answers; its path went to the sink,
+  -- and the writes before the refused one were done on the input and went to the sink, which then became incomplete; a
+  -- function whose calls are reads has no write that could be refused
   pub record IsStopped (done : List C → Type 0) (spoiled : List (C × R) → List C → Type 0) : Type 0 where
     pub pairs : List (C × R)
     pub output : O

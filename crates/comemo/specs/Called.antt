@@ -13,7 +13,8 @@ use Rattle.comemo.specs.declared.pending.How.{How}
 use Rattle.comemo.specs.declared.pending.How.TheVariants as how
 
 module _ {K C R O : Type 0} (M : Meaning K C R O) (call : Invocation K C R) where
-  -- an entry of es that has the key and agrees with the answers came to this, by reads alone and by writes, and was touched
+  -- this run is that of an entry of es that has the key and agrees with the answers; it has reads and then writes, and
+  -- its entry was touched
   pub record CameByHit (es : Entries K C R O) (found : Run K C R O) (es' : Entries K C R O) : Type 0 where
     pub is_enabled : call.enabled ≡ true
     pub kept : Has M es call found
@@ -21,8 +22,8 @@ module _ {K C R O : Type 0} (M : Meaning K C R O) (call : Invocation K C R) wher
     pub written : All (λ c. M.is_write c ≡ true) found.writes
     pub touched : Touches M es call es'
 
-  -- no entry of es has the key and agrees with the answers; a run came to this, and ended so, which took the entries from mid
-  -- to es'
+  -- no entry of es has the key and agrees with the answers; a run had this result, and its end took the entries from
+  -- mid to es'
   pub record CameByRun (es mid : Entries K C R O) (ran : Run K C R O) (reply : How) (es' : Entries K C R O) : Type 0 where
     pub none : call.enabled ≡ true → HasNone M es call
     pub own : K
@@ -31,13 +32,13 @@ module _ {K C R O : Type 0} (M : Meaning K C R O) (call : Invocation K C R) wher
     pub disabled : (reply ≡ how.Disabled) ↔ (call.enabled ≡ false)
     pub early : reply ≡ how.Late → ⊥
 
-  -- a fault is that of a run: one was to be done, since no entry of es has the key and agrees, or the call is not enabled; and the
-  -- sink, of which this is said, took nothing of it and is spoiled
+  -- a fault is that of a run: a run was due, since no entry of es has the key and agrees or the call is not enabled;
+  -- and this holds of the sink, which says that it took nothing of the run and is incomplete
   abbrev pub IsOfRun : Entries K C R O → Type 0 → Type 0
   IsOfRun es spoils = (call.enabled ≡ true → HasNone M es call) × spoils
 
-  -- a run under the call's own key came to the reply: it recorded reads, none of them late, which the call's answers agree with, and by which alone its
-  -- output is right; and it was finished
+  -- a run under the call's own key had this reply: it recorded reads, none of them late, that the call's answers agree
+  -- with and by which alone its output is right; and it was finished
   pub record RanAs (es : Entries K C R O) (sent : List (C × R) → List C → Type 0) (reply : Reply O) (es' : Entries K C R O) : Type 0 where
     pub recording : Recording C R
     pub no_writes : recording.writes ≡ []
@@ -46,8 +47,9 @@ module _ {K C R O : Type 0} (M : Meaning K C R O) (call : Invocation K C R) wher
     pub stands : Stands M (run call.key recording.pairs reply.output [])
     pub finished : Finished M es (record { key = call.key; enabled = call.enabled; recording = recording }) sent reply.output reply es'
 
-  -- the reply to a call: it rests on reads that the call's answers agree with, which are a run where the asked calls are named, and
-  -- on writes, by which alone its output is right at the key, and which went to the sink. It came by a hit, or by a run, which began at the entries es and ended at mid
+  -- the reply to a call: it rests on reads that the call's answers agree with, which are a run if the asked calls are
+  -- named, and on writes; by these alone its output is right at the key, and they went to the sink. It is that of a
+  -- hit, or of a run that began at the entries es and ended at mid
   pub record IsReply (es mid : Entries K C R O) (sent : List (C × R) → List C → Type 0) (reply : Reply O) (es' : Entries K C R O) : Type 0 where
     pub pairs : List (C × R)
     pub writes : List C
@@ -58,8 +60,8 @@ module _ {K C R O : Type 0} (M : Meaning K C R O) (call : Invocation K C R) wher
     pub came : ((reply.how ≡ how.Hit) × CameByHit es (run call.key pairs reply.output writes) es') ⊎ CameByRun es mid (run call.key pairs reply.output writes) reply.how es'
 
   module _ (touches : C → C → Bool) where
-    -- the reply to a call whose run was late, of which nothing is known but that its reads and writes went to the sink, and that a
-    -- write may touch a read: no entry of es has the key and agrees with the answers, and the entries are as they were at mid
+    -- the reply to a call whose run was late: its reads and writes went to the sink, a write may touch a read, no entry
+    -- of es has the key and agrees with the answers, and the entries are those at mid. Nothing else is known
     pub record IsLate (es mid : Entries K C R O) (sent : List (C × R) → List C → Type 0) (reply : Reply O) (es' : Entries K C R O) : Type 0 where
       pub pairs : List (C × R)
       pub writes : List C
@@ -69,18 +71,19 @@ module _ {K C R O : Type 0} (M : Meaning K C R O) (call : Invocation K C R) wher
       pub gives : Gives M sent pairs writes
       pub same : es' ≡ mid
 
-    -- the reply to a call of a function that writes: such as any, or its run was late; what went to the sink is said of each
+    -- the reply to a call of a function that writes: any reply, or that of a late run; each has its own statement of
+    -- what went to the sink
     abbrev pub IsReplyMut : (es mid : Entries K C R O) → (Bool → List (C × R) → List C → Type 0) → Reply O → Entries K C R O → Type 0
     IsReplyMut es mid sent reply es' = IsReply es mid (sent false) reply es' ⊎ IsLate es mid (sent true) reply es'
 
--- but for ages, no entry was lost, and some may have come
+-- up to ages no entry was lost, and some may have been added
 abbrev pub Grows : {K C R O : Type 0} → Entries K C R O → Entries K C R O → Type 0
 Grows {K} {C} {R} {O} es es' = (more : Entries K C R O) × IsPermutation (map young (more ++ es)) (map young es')
 
--- the reply to a call through what told these entries before it, and those after it
+-- the reply to a call, from these entries before it to those after it
 abbrev pub HeldReply : {K C R O : Type 0} → Meaning K C R O → Invocation K C R → Option (Entries K C R O) → (List (C × R) → List C → Type 0) → Reply O → Option (Entries K C R O) → Type 0
 HeldReply M call before sent reply after = LeadsBy before before after (λ es mid es'. IsReply M call es mid sent reply es')
 
--- the same of a function that writes
+-- the same for a function that writes
 abbrev pub HeldReplyMut : {K C R O : Type 0} → Meaning K C R O → (C → C → Bool) → Invocation K C R → Option (Entries K C R O) → (Bool → List (C × R) → List C → Type 0) → Reply O → Option (Entries K C R O) → Type 0
 HeldReplyMut M touches call before sent reply after = LeadsBy before before after (λ es mid es'. IsReplyMut M call touches es mid sent reply es')

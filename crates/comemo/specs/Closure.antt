@@ -13,8 +13,8 @@ use Rattle.comemo.specs.declared.pending.How.TheVariants as how
 
 module _ {K C R O : Type 0} (M : Meaning K C R O) (es : Entries K C R O) (call : Invocation K C R) where
   module _ {I P : Type 0} (did : I → I → List C → Type 0) (recorded : P → Recording C R) where
-    -- what a run is handed, where no kept entry has the key and agrees: the input, unchanged, and an empty recording that is whole and
-    -- not late
+    -- what a run gets if no entry has the key and agrees: the input, unchanged, and an empty recording that is complete
+    -- and not late
     pub record Starts (input : I) (i : MutBor I) (p : MutBor P) : Type 0 where
       pub none : call.enabled ≡ true → HasNone M es call
       pub unchanged : did input i.now []
@@ -24,7 +24,7 @@ module _ {K C R O : Type 0} (M : Meaning K C R O) (es : Entries K C R O) (call :
       pub early : (recorded p.now).late ≡ false
 
     module _ (post : MutBor I → MutBor P → Result O Fault → MutBor I → MutBor P → Type 0) (input : I) where
-      -- the closure ran, gave this, and left this recording
+      -- the closure ran, returned this, and left this recording
       pub record Ran (r : Result O Fault) (t : Recording C R) : Type 0 where
         pub i : MutBor I
         pub p : MutBor P
@@ -35,28 +35,29 @@ module _ {K C R O : Type 0} (M : Meaning K C R O) (es : Entries K C R O) (call :
         pub left : recorded q.now ≡ t
 
       module _ (left : I) where
-        -- the closure ran, gave this, and left this recording, and the input so
+        -- the closure ran, returned this, and left this recording and this input
         pub record RanTo (r : Result O Fault) (t : Recording C R) : Type 0 where
           pub ran : Ran r t
           pub ends : ran.j.now ≡ left
 
-        -- why a call failed that left the input so: it did not begin, for want of memory, and wrote nothing; or a hit stopped at a
-        -- write; or the closure gave an output, and its run could not be finished, as incomplete exactly where its recording is
-        -- spoiled; or the closure gave that fault
+        -- why a call failed that left the input so: it did not begin, out of memory, and wrote nothing; or a hit
+        -- stopped at a write; or the closure returned an output and its run could not be finished, as `Incomplete`
+        -- exactly if its recording is incomplete; or the closure returned that fault
         abbrev pub IsFault : Fault → Type 0
         IsFault f =
             ((f ≡ fault.Memory) × did input left []) ⊎ ((f ≡ fault.Write) × IsStopped M es call (did input left) (λ _ _. ⊤)) ⊎ ((output : O) × (t : Recording C R) × RanTo (Ok output) t × ((f ≡ fault.Incomplete) ↔ (t.whole ≡ false)) × (f ≡ fault.Write → ⊥)) ⊎ ((t : Recording C R) × RanTo (Err f) t)
 
-        -- how the sink and the entries are left by a call that failed and left the input so: the entries as they were, and the sink as by
-        -- a call that did not begin; or the closure failed or its recording is spoiled, and the sink, which took nothing, is broken off;
-        -- or the closure gave an output, and its recording, which is whole, was broken off; or a hit was touched, and stopped
+        -- what a failed call that left the input so did to sink and entries: the entries are unchanged, and the sink is
+        -- as after a call that did not begin; or the closure failed or its recording is incomplete, and the sink took
+        -- nothing and is broken off; or the closure returned an output, and its complete recording was broken off; or a
+        -- hit touched its entry, and stopped
         abbrev pub IsBroken : (List (C × R) → Type 0) → (List (C × R) → List C → Type 0) → Entries K C R O → Type 0
         IsBroken broken after es' =
             ((es' ≡ es) × ((did input left [] × IsBrokenOff M es call broken) ⊎ ((r : Result O Fault) × (t : Recording C R) × RanTo r t × IfOk r (λ _. t.whole ≡ false) × broken []) ⊎ ((output : O) × (t : Recording C R) × RanTo (Ok output) t × (t.whole ≡ true) × BreaksOffRun M broken t.pairs)))
             ⊎ (Touches M es call es' × IsStopped M es call (did input left) after)
 
-  -- the closure, whose runs are these, ran and gave the output; its recording, which is whole, went to the sink, and became of
-  -- the entries what the reply says
+  -- the closure, with these runs, ran and returned the output; its recording, which is complete, went to the sink, and
+  -- the reply says what became of the entries
   pub record Ended (ran : Result O Fault → Recording C R → Type 0) (sent : Bool → List (C × R) → List C → Type 0) (output : O) (reply : How) (es' : Entries K C R O) : Type 0 where
     pub recording : Recording C R
     pub has_run : ran (Ok output) recording

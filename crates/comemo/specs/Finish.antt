@@ -14,8 +14,8 @@ use Rattle.comemo.specs.declared.pending.Reply.{Reply}
 
 module _ {K C R O : Type 0} (M : Meaning K C R O) (es : Entries K C R O) where
   module _ (ran : Run K C R O) where
-    -- the entries after a run that came to this, by what became of it; only a stored run adds one, and a call is missing only
-    -- where the function doesn't name the calls that it asks
+    -- the entries after a run with this result, by what became of it; only a stored run adds one, and a call is missing
+    -- only if the function doesn't name the calls that it asks
     abbrev pub Ends : How → Entries K C R O → Type 0
     Ends how.Hit es' = ⊥
     Ends how.Stored es' = Stores M es ran es'
@@ -32,9 +32,9 @@ pub record Gives {K C R O : Type 0} (M : Meaning K C R O) (sent : List (C × R) 
   pub agreeing : (m : C → R) → Respects M.same_call M.same_answer m → Agrees M.same_answer m given ↔ Agrees M.same_answer m pairs
   pub are_sent : sent given writes
 
--- the run was finished with this output, which is the reply's: its recording, which is whole, went to the sink, and became of
--- the entries what the reply says; it is late exactly where the recording is, and disabled exactly where it isn't and began so; and
--- where the asked calls are named, a recording that isn't late is a run of them
+-- the run was finished with this output, which is the reply's: its recording, which is complete, went to the sink, and
+-- the reply says what became of the entries; it is late exactly if the recording is, and disabled exactly if the
+-- recording isn't late and the run began so; if the asked calls are named, a recording that isn't late is a run of them
 pub record Finished {K C R O : Type 0} (M : Meaning K C R O) (es : Entries K C R O) (pending : PendingRun K C R) (sent : List (C × R) → List C → Type 0) (output : O) (reply : Reply O) (es' : Entries K C R O) : Type 0 where
   pub whole : pending.recording.whole ≡ true
   pub same : reply.output ≡ output
@@ -44,13 +44,13 @@ pub record Finished {K C R O : Type 0} (M : Meaning K C R O) (es : Entries K C R
   pub settled : pending.recording.late ≡ false → IsNamedRun M pending.key pending.recording.pairs
   pub gives : Gives M sent pending.recording.pairs pending.recording.writes
 
--- a sink, broken off, took a beginning of these pairs, up to equality
+-- a sink, broken off, took a prefix of these pairs, up to equality
 pub record BreaksOffRun {K C R O : Type 0} (M : Meaning K C R O) (broken : List (C × R) → Type 0) (pairs : List (C × R)) : Type 0 where
   pub given : List (C × R)
   pub alike : IsSamePath M.same_call M.same_answer given pairs
   pub is_broken : broken given
 
--- a sink, broken off, took a beginning of pairs that the answers agree with
+-- a sink, broken off, took a prefix of pairs that the answers agree with
 pub record BrokeOff {C R : Type 0} (same : R → R → Bool) (m : C → R) (broken : List (C × R) → Type 0) : Type 0 where
   pub pairs : List (C × R)
   pub agrees : Agrees same m pairs

@@ -1,30 +1,30 @@
--- Laws of what functions mean, which traits ask. They say nothing that a reader must believe.
+-- Laws of what functions mean, which traits require. No reader needs to believe them.
 use Rattle.std.proofs.Common.{◌≡◌, ◌∙◌, Bool, List, [], ◌∷◌, IsTrue, map, refl, sym, ap, subst}
 use Rattle.comemo_cache.specs.Meaning.{SameWrites}
 use Rattle.comemo_cache.specs.Cache.{MemoLaws}
 use Rattle.comemo.specs.FunctionMut.{LawsMut}
 
--- where there are no writes, no equal ones are there
+-- if there are no writes, there are no equal ones
 pub none_alike : {C : Type 0} (eq : C → C → Bool) (V W : List C) → SameWrites eq V W → V ≡ [] → W ≡ []
 none_alike eq [] [] same none = refl
 none_alike eq [] (w ∷ W) same none = absurd same
 none_alike eq (v ∷ V) W same none = absurd cc
 
--- where equal calls are the same, equal writes are the same
+-- if equal calls are the same, equal writes are the same
 pub same_writes : {C : Type 0} {eq : C → C → Bool} → ((x y : C) → IsTrue (eq x y) → y ≡ x) → (V W : List C) → SameWrites eq V W → W ≡ V
 same_writes exact [] [] same = refl
 same_writes exact [] (w ∷ W) same = absurd same
 same_writes exact (v ∷ V) [] same = absurd same
 same_writes exact (v ∷ V) (w ∷ W) same = ap (λ c. c ∷ W) (exact v w same.0) ∙ ap (λ X. v ∷ X) (same_writes exact V W same.1)
 
--- what tells no equal calls apart tells no equal writes apart
+-- what treats equal calls alike treats equal writes alike
 pub map_writes : {C X : Type 0} {eq : C → C → Bool} (f : C → X) → ((x y : C) → IsTrue (eq x y) → f x ≡ f y) → (V W : List C) → SameWrites eq V W → map f V ≡ map f W
 map_writes f alike [] [] same = refl
 map_writes f alike [] (w ∷ W) same = absurd same
 map_writes f alike (v ∷ V) [] same = absurd same
 map_writes f alike (v ∷ V) (w ∷ W) same = rw (alike v w same.0, map_writes f alike V W same.1) refl
 
--- the laws of any meaning, where equal calls and equal keys are the same, and a clone is its original
+-- the laws of any meaning, if equal calls and equal keys are the same, and a clone is its original
 module _ {C R K O : Type 0} {eq : C → C → Bool} {same : R → R → Bool} {eqk : K → K → Bool} {key_clone : K → K → Type 0} {cloned : O → O → Type 0} {def : K → (C → R) → O → List C → Type 0} (calls : (x y : C) → IsTrue (eq x y) → y ≡ x) (keys : (x y : K) → IsTrue (eqk x y) → y ≡ x) (clones : (x y : K) → key_clone x y → IsTrue (eqk x y)) (outputs : (a b : O) → cloned a b → b ≡ a) where
   pub exact_laws : LawsMut eq same eqk key_clone cloned def
   exact_laws = record {

@@ -1,4 +1,4 @@
--- What a function that calls itself and writes tells, and how its calls begin and finish.
+-- What a recorder learns from a function that calls itself and writes, and how its calls begin and finish.
 use Rattle.std.specs.Prelude.{◌≡◌, Bool, true, false, List, IsTrue, []}
 use Rattle.comemo_track.specs.Recording.{Recording}
 use Rattle.comemo_cache.specs.Meaning.{Meaning, Invocation}
@@ -6,9 +6,9 @@ use Rattle.comemo_cache.specs.Cache.{Entries, HasNone}
 use Rattle.comemo.specs.Begin.{Reaches}
 use Rattle.comemo.specs.FunctionMut.{Lent, Began, HasBegun, NoneTouches}
 
--- a run was begun by a recorder that was lent s, and has come to t: what it recorded stands in the place of what the recorder had
--- recorded, which is kept apart. While nothing is lost of its recording, it began at the value as it was when it was begun, and
--- isn't late where no write touches a read
+-- a run was begun by a recorder that was lent s, and is now at t: its recording is in the place of the recorder's own,
+-- which is set aside. While its recording is complete, it began at the value at which the run was begun, and isn't late
+-- if no write touches a read
 pub record Within {V C R : Type 0} (did : V → V → List C → Type 0) (touches : C → C → Bool) (same : R → R → Bool) (answers : V → C → R) (s t : Lent V C R) (around : Recording C R) : Type 0 where
   pub kept : around ≡ s.recording.now
   pub agreed : HasBegun did same answers s
@@ -18,14 +18,14 @@ pub record Within {V C R : Type 0} (did : V → V → List C → Type 0) (touche
   pub early : NoneTouches touches → t.recording.now.whole ≡ true → t.recording.now.late ≡ false
   pub reached : Reaches did s.value.now t.value.now
 
--- a recording of nothing, which is whole, and not late
+-- an empty recording, complete and not late
 pub record IsEmpty {C R : Type 0} (recording : Recording C R) : Type 0 where
   pub pairs : recording.pairs ≡ []
   pub writes : recording.writes ≡ []
   pub whole : recording.whole ≡ true
   pub early : recording.late ≡ false
 
--- a run begins under a key that is equal to the call's; no kept entry has the key and agrees
+-- a run begins under a key that equals the call's; no entry has the key and agrees
 pub record StartsMut {K C R O : Type 0} (M : Meaning K C R O) (es : Entries K C R O) (call : Invocation K C R) (own : K) : Type 0 where
   pub has_key : IsTrue (M.same_key call.key own)
   pub none : HasNone M es call

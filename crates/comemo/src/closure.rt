@@ -16,27 +16,27 @@ use comemo_track::input::Input;
 use comemo_track::track::{Breaking, Call, Sink};
 use std::alloc::Global;
 
-/// The recording that a closure is handed. `Constraint` is one, and there is no other.
+/// The recording that a closure gets: a `Constraint`. There is no other implementation.
 ///
-/// It stands where the closure's type can't name `Constraint` in a bound. This project's own.
+/// It is a trait, since the closure's type can't name `Constraint` in a bound.
 pub trait Record {
     /// What a run can ask.
     type Call: Call;
 
-    /// What a run is answered: one type for all calls.
+    /// The answer to a read: one type for all calls.
     type Answer: Clone + Ord;
 
     // what it holds
     ghost recorded: { Self → Recording Self.Call Self.Answer };
 
-    /// A recording of nothing, which is whole, and not late. It takes no memory.
+    /// An empty recording: complete, and not late. Does not allocate.
     fn empty(alloc: Global) -> Self
         ensures pairs { (recorded result).pairs ≡ [] }
         ensures writes { (recorded result).writes ≡ [] }
         ensures whole { (recorded result).whole ≡ true }
         ensures early { (recorded result).late ≡ false };
 
-    /// The recording itself. It takes no memory and constant time.
+    /// The recording itself.
     fn into_constraint(self) -> Constraint<Self::Call, Self::Answer>
         ensures { result ≡ recorded self };
 }
@@ -57,21 +57,11 @@ impl<C: Call, R: Clone + Ord> Record for Constraint<C, R> {
     }
 }
 
-/// Calls a memoized function whose run is a closure: gives the output of an entry that agrees, or does the run and
-/// keeps what it gave.
+/// Calls a memoized function whose run is a closure: returns the output of an entry that agrees, or calls the closure
+/// and stores the run.
 ///
-/// The closure gets the input and the recording that what it asks has to go to. It is called only where no entry
-/// agrees, or none is looked for, and its output has to be right for all answers that agree with what it recorded, but
-/// where that is late. With `enabled` false there is no look-up, and nothing is stored.
-///
-/// A fault of the closure is answered, and nothing is stored then. Else `Incomplete` comes exactly where it gave an
-/// output and its recording is spoiled; `Memory` comes where the call didn't begin, as `begin` says, or where there was
-/// none to give a whole recording to the sink; and `Write` comes of a hit. Every fault spoils the sink, to which a run
-/// that failed or is spoiled gives nothing, and leaves the cache as it was, but for `Write`: there the entry of the hit
-/// has age 0.
-///
-/// What it costs is what `begin`, the closure and `finish` cost. A function that calls itself takes `begin` and `finish`
-/// in its place. comemo's `memoize`, which takes the input by value.
+/// All that the closure asks must go to its recording. Unless that is late, the output must be right for all answers
+/// that agree with it. With `enabled` false there is no look-up, and nothing is stored.
 pub fn memoize<
     M: Memo,
     H: Hold<M>,

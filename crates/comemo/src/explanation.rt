@@ -11,9 +11,8 @@ use comemo_cache::hold::Hold;
 use comemo_track::track::{Track, Tracked};
 use std::alloc::{AllocError, Global};
 
-/// Says why a call of a memoized function with these arguments is a hit or a run. Nothing is run, and nothing changes.
-///
-/// Fails if an answer of the value, or a clone of what was asked, fails to allocate.
+/// Returns why a call with these arguments is a hit or a run, without running anything. Nothing changes. Fails if an
+/// answer or a clone fails to allocate.
 pub fn explain<M: Memo<Call = T::Call, Answer = T::Answer>, H: Hold<M>, T: Track>(
     alloc: Global,
     cache: &mut H,

@@ -1,4 +1,5 @@
-//! The library's front door: a memoized function of a key and a tracked value, as one trait and one call.
+//! Memoized functions that only read: a function of a key and a tracked value, as one trait and one call. A hit costs
+//! what `begin` costs; any other call costs what `begin`, the run and `Pending::finish` cost.
 ghost use Rattle.std.specs.Prelude.{◌≡◌, ◌⊎◌, [], List, true, false, IsTrue, IfOk, IfErr, OnOk, OnErr, ⊤};
 ghost use Rattle.comemo_cache.specs.Meaning.{Naming, unnamed, invocation, reading};
 ghost use Rattle.comemo.specs.MeaningLaws.{none_alike};
@@ -19,18 +20,17 @@ use std::alloc::Global;
 use std::hash::Hash;
 use std::marker::{Model, PhantomData};
 
-/// What a recorder tells of a tracked value's answers, for contracts to cite, as `⟦<T as Told>⟧.fits`.
-///
-/// There is nothing to implement. This project's own.
+/// What a recorder states of a tracked value's answers, for contracts, as `⟦<T as Told>⟧.fits`. There is nothing to
+/// implement.
 pub trait Told: Track {
-    // nothing is lost of the recording, it isn't late, and the answers agree with it
+    // the recording is complete and not late, and the answers agree with it
     ghost fits: { Recording Self.Call Self.Answer → (Self.Call → Self.Answer) → Type 0 };
 
-    // the recording of the second is that of the first after it took these pairs and these writes
+    // the second's recording is the first's after it took these pairs and these writes
     ghost took: { Recorded Self Self.Call Self.Answer → Recorded Self Self.Call Self.Answer
         → List (Self.Call × Self.Answer) → List Self.Call → Type 0 };
 
-    // it is that of the first after it took a beginning of pairs that the value's answers agree with, and then was spoiled
+    // it is the first's after it took a prefix of pairs that the value's answers agree with, and became incomplete
     ghost broke_off: { Recorded Self Self.Call Self.Answer → Recorded Self Self.Call Self.Answer
         → Type 0 };
 }
@@ -44,38 +44,37 @@ impl<T: Track> Told for T {
         (BreaksOff (Took T.Call.eq T.Call.touches) Spoiled s.recording t.recording) };
 }
 
-/// A memoized function of a key and a tracked value.
+/// A memoized function of a key and a tracked value, which it only reads.
 ///
-/// Several arguments that aren't tracked are one key, as a tuple. An implementation says by `means` what the function
-/// is, and how it is done by `run`; the laws are found by the checker where keys and outputs are plain values. This
-/// project's own: what comemo's `#[memoize]` makes of a function.
+/// Several untracked arguments form one key, as a tuple. An implementation states by `means` what the function is, and
+/// does it in `run`. The checker finds the laws if keys and outputs are plain values.
 pub trait Function {
-    /// What isn't tracked of the arguments: what a call is kept under.
+    /// The untracked arguments, under which a call is cached.
     type Key: Clone + Eq + Hash;
 
     /// The tracked value that a run asks, or `()`.
     type Of: Track;
 
-    /// What the function gives.
+    /// The output.
     type Out: Clone;
 
-    /// What a run takes beside its arguments: the caches of the functions that it calls, or `()`.
+    /// What a run needs besides its arguments: the caches of the functions that it calls, or `()`.
     ///
-    /// They can't hold the function's own cache, which the checker refuses: one that calls itself is a `Recursive`.
+    /// They can't hold the function's own cache, which the checker refuses: a function that calls itself is a
+    /// `Recursive`.
     type Needs;
 
     // at this key and these answers, this output is right
     ghost means: { Self.Key → (Self.Of.Call → Self.Of.Answer) → Self.Out → Type 0 };
 
-    // which calls are asked at a key and at answers, where the function names them; then no run is lost to another order of
-    // its calls
+    // which calls are asked at a key and at answers, if the function names them; then no run goes unstored because of
+    // another order of its calls
     ghost naming: { Naming Self.Key Self.Of.Call Self.Of.Answer } = { unnamed };
 
-    /// Does the function: asks the value through the recorder, which keeps what it was told.
+    /// Does the function, and asks the value through the recorder.
     ///
-    /// The output has to be right for all answers that agree with what was recorded. A run may answer `Incomplete` only
-    /// where its recording was spoiled, as by a call that failed. After a fault nothing is stored for the run; what
-    /// it did to its needs stays.
+    /// The output must be right for all answers that agree with the recording. `Incomplete` may be returned only if the
+    /// recording is incomplete.
     fn run(
         key: &Self::Key,
         of: &mut Recorder<'_, Self::Of>,
@@ -89,14 +88,12 @@ pub trait Function {
         ensures fault { IfErr result
             (λ fault. fault ≡ Fault.Incomplete → of.new.recording.whole ≡ false) };
 
-    // clones of keys are equal, and the meaning tells apart neither equal keys nor an output from its clone
+    // clones of keys are equal; the meaning treats equal keys alike, and an output like its clone
     ghost laws: { Laws Self.Of.Call.eq Self.Of.Answer.eq Self.Key.eq Self.Key.is_clone
         Self.Out.is_clone means };
 }
 
-/// A view of a tracked value that records what it is asked. A run is handed one.
-///
-/// This project's own.
+/// A view of a tracked value that records what it is asked. A run gets one.
 #[derive(Drop)]
 pub struct Recorder<'a, T: Track> {
     pub(crate) alloc: Global,
@@ -117,7 +114,7 @@ impl<'a, T: Track> Model for Recorder<'a, T> {
 }
 
 impl<'a, T: Track> Recorder<'a, T> {
-    /// A recorder of nothing.
+    /// A recorder with an empty recording.
     pub fn new(alloc: Global, view: Tracked<'a, T>) -> Self
         ensures value { result.value ≡ view.entry }
         ensures pairs { result.recording.pairs ≡ [] }
@@ -132,11 +129,7 @@ impl<'a, T: Track> Recorder<'a, T> {
         }
     }
 
-    /// Asks the value a read, and records the call with its answer.
-    ///
-    /// It asks the value once, also where the read is recorded already, and clones the answer, and a call that is new,
-    /// for the recording. `Memory` says that there was none for the answer, its clone or the recording, which is as it
-    /// was then. It stands in the place of the methods that comemo's macro `track` writes.
+    /// Asks the value a read, and records it with its answer. The value is asked even if the read is recorded already.
     pub fn ask(&mut self, call: T::Call) -> Result<T::Answer, Fault>
         requires { T.Call.is_write call ≡ false }
         ensures tells { Tells ⟦<T as Told>⟧.fits self.old self.new result
@@ -150,11 +143,8 @@ impl<'a, T: Track> Recorder<'a, T> {
         Ok(self.view.ask(call, &mut self.recording)?)
     }
 
-    /// Calls another memoized function of the same value, and records what it asked.
-    ///
-    /// A fault leaves the other's cache as it was, and the recording is spoiled: the run that is recorded can't be
-    /// finished. It costs what `memoized_with` costs, with the recording as its sink. This project's own: in comemo it
-    /// is a call like any.
+    /// Calls another memoized function of the same value, as `memoized_with`, with the recording as its sink. After a
+    /// fault the run can't be finished.
     pub fn call<G: FunctionOf<T>, H: Hold<G>>(
         &mut self,
         cache: &mut H,
@@ -174,10 +164,7 @@ impl<'a, T: Track> Recorder<'a, T> {
         Ok(reply.output)
     }
 
-    /// Calls another memoized function of the same value, as `call` does, and gives its reply. With `enabled` false
-    /// there is no look-up, and nothing is kept.
-    ///
-    /// A fault is as of `call`, and it costs the same. This project's own.
+    /// As `call`, with the reply. With `enabled` false it neither looks up nor stores.
     pub fn call_reply<G: FunctionOf<T>, H: Hold<G>>(
         &mut self,
         cache: &mut H,
@@ -207,9 +194,7 @@ impl<'a, T: Track> Recorder<'a, T> {
     }
 }
 
-/// What a cache takes a function for: `CacheData<MemoOf<F>>` is the cache of `F`.
-///
-/// There is no value of it to make. This project's own.
+/// The `Memo` of a `Function`: `CacheData<MemoOf<F>>` is the cache of `F`. It has no values.
 pub struct MemoOf<F> {
     function: PhantomData<F>,
 }
@@ -237,18 +222,19 @@ impl<F: Function> Memo for MemoOf<F> {
     } };
 }
 
-/// A memoized function of a key and `T`, where `T` may borrow: several tracked values as one, by `Both`, or a view of a
-/// user's own.
+/// A memoized function of a key and `T`, which may borrow: several tracked values as one, by `Both`, or a view of the
+/// user's own type.
 ///
-/// What the function means is its `Memo`, which names no lifetime, so that its cache outlives the values. A `Function`
-/// is one by its `MemoOf`, with nothing to write. This project's own.
+/// The meaning is that of its `Memo`, which names no lifetime, so its cache outlives the values. The `MemoOf` of each
+/// `Function` is one already.
 pub trait FunctionOf<T: Track>: Memo<Call = T::Call, Answer = T::Answer> {
-    /// What a run takes beside its arguments: the caches of the functions that it calls, or `()`.
+    /// What a run needs besides its arguments: the caches of the functions that it calls, or `()`.
     ///
-    /// They can't hold the function's own cache, which the checker refuses: one that calls itself is a `Recursive`.
+    /// They can't hold the function's own cache, which the checker refuses: a function that calls itself is a
+    /// `Recursive`.
     type Needs;
 
-    /// Does the function, as `Function::run` does, and with the same said of its output and its faults.
+    /// Does the function, under the same terms as `Function::run`.
     fn run(
         key: &Self::Key,
         of: &mut Recorder<'_, T>,
@@ -262,7 +248,7 @@ pub trait FunctionOf<T: Track>: Memo<Call = T::Call, Answer = T::Answer> {
         ensures fault { IfErr result
             (λ fault. fault ≡ Fault.Incomplete → of.new.recording.whole ≡ false) };
 
-    // a run reads alone: the function means that there are no writes
+    // a run only reads: the meaning allows no writes
     ghost reads: { (key : Self.Key) (m : T.Call → T.Answer)
         (output : Self.Out) (writes : List T.Call)
         → Self.Memo.def key m output writes → writes ≡ [] };
@@ -282,17 +268,10 @@ impl<F: Function> FunctionOf<F::Of> for MemoOf<F> {
     }
 }
 
-/// Calls a memoized function: gives the output that its cache keeps where an entry agrees, or runs it and keeps what it
-/// gave.
+/// Calls a memoized function: returns the output of an entry that agrees, or runs the function and stores the run.
 ///
-/// The sink takes what was asked: the recording of the run around the call, or `Top` where there is none. With
-/// `enabled` false there is no look-up, and nothing is kept. A fault leaves the cache as it was and spoils the sink;
-/// what the run did to its needs stays. `Memory` comes where the call didn't begin, where there was none to give a whole
-/// recording to the sink, or of the run. Any other fault is the run's: one that it answered, or `Incomplete` where it
-/// left its recording spoiled; then the sink took nothing.
-///
-/// A hit costs what `begin` costs, any other call what `begin`, the run and `finish` cost. This project's own: a call of
-/// a function under comemo's `#[memoize]`.
+/// The sink takes what was asked: it is the recording of the outer run, or `Top`. With `enabled` false there is no
+/// look-up, and nothing is stored.
 pub fn memoized_with<
     M: FunctionOf<T>,
     H: Hold<M>,
@@ -336,8 +315,7 @@ pub fn memoized_with<
     }
 }
 
-/// Runs a function under its cache's own key, and ends the run. It stands apart, so that a call that hits makes no room
-/// for it.
+/// Runs a function under the cache's clone of the key. Not inlined, so that a hit makes no room for a run.
 #[inline(never)]
 fn run_kept<M: FunctionOf<T>, H: Hold<M>, T: Track, S: Sink<Call = T::Call, Answer = T::Answer>>(
     alloc: Global,
@@ -374,11 +352,7 @@ fn run_kept<M: FunctionOf<T>, H: Hold<M>, T: Track, S: Sink<Call = T::Call, Answ
     pending.end(cache, sink, ran)
 }
 
-/// Calls a memoized function that needs nothing, with no run around it: `memoized_with` for the plain case.
-///
-/// It costs what `memoized_with` costs with a `Top` as its sink, which keeps nothing: a hit of an entry of age 0 clones
-/// its output alone, and so does the end of a run. This project's own: a call of a function under comemo's
-/// `#[memoize]`.
+/// Calls a memoized function without needs, outside of any run. A hit of an entry of age 0 clones only the output.
 pub fn memoized<M: FunctionOf<T, Needs = ()>, H: Hold<M>, T: Track>(
     alloc: Global,
     cache: &mut H,

@@ -1,4 +1,5 @@
-//! The front door of functions that write: a memoized function of a key and a tracked value that its run writes to.
+//! Memoized functions that write: a function of a key and a tracked value that its run reads and writes. A hit costs
+//! what `begin` costs; any other call costs what `begin`, the run and `Pending::finish` cost.
 ghost use Rattle.std.specs.Prelude.{◌≡◌, [], ◌∷◌, ◌++◌, ◌⊎◌, List, true, false, IsTrue, IfOk, IfErr, OnOk, OnErr, ⊤};
 ghost use Rattle.comemo.specs.Called.{HeldReply, HeldReplyMut};
 ghost use Rattle.comemo_cache.specs.Meaning.{invocation};
@@ -23,12 +24,11 @@ use std::alloc::Global;
 use std::hash::Hash;
 use std::marker::PhantomData;
 
-/// What a recorder that writes knows of its recording, for contracts to cite, as `⟦<T as ToldMut>⟧.agrees`.
-///
-/// There is nothing to implement. This project's own.
+/// What a recorder that writes knows of its recording, for contracts, as `⟦<T as ToldMut>⟧.agrees`. There is nothing to
+/// implement.
 pub trait ToldMut: Track {
-    // while nothing is lost of the recording, its writes led from some value to the value as it is, and while it isn't late,
-    // the answers of that value agree with its reads
+    // while the recording is complete, its writes led from some value to the present one, and while it isn't late, the
+    // answers of the former agree with its reads
     ghost agrees: { Lent Self Self.Call Self.Answer → Type 0 };
 
     // what became of what a recorder was lent
@@ -51,32 +51,29 @@ impl<T: Track> ToldMut for T {
 
 /// A memoized function of a key and a tracked value, which it reads and writes.
 ///
-/// It is written as a `Function` is, but `means` says which writes are right beside the output, and the laws say that
-/// it doesn't tell equal writes apart. This project's own: what comemo's `#[memoize]` makes of a function that takes a
-/// `TrackedMut`.
+/// It is written like a `Function`. But `means` also states which writes are right, and by the laws it treats equal
+/// writes alike.
 pub trait FunctionMut {
-    /// What isn't tracked of the arguments: what a call is kept under.
+    /// The untracked arguments, under which a call is cached.
     type Key: Clone + Eq + Hash;
 
     /// The tracked value that a run asks and changes.
     type Of: Track;
 
-    /// What the function gives.
+    /// The output.
     type Out: Clone;
 
-    /// What a run takes beside its arguments: the caches of the functions that it calls, or `()`.
+    /// What a run needs besides its arguments: the caches of the functions that it calls, or `()`.
     type Needs;
 
     // at this key and these answers, this output and these writes are right
     ghost means: { Self.Key → (Self.Of.Call → Self.Of.Answer) → Self.Out
         → List Self.Of.Call → Type 0 };
 
-    /// Does the function: asks the value and writes to it through the recorder, which keeps what it was told and what
-    /// was written.
+    /// Does the function, and asks the value and writes to it through the recorder.
     ///
-    /// Output and writes have to be right for all answers that agree with what was recorded. A run may answer
-    /// `Incomplete` only where its recording was spoiled, as by a call that failed. After a fault nothing is stored for
-    /// the run; the writes that it did stay done, and what it did to its needs stays.
+    /// Output and writes must be right for all answers that agree with the recording. `Incomplete` may be returned only
+    /// if the recording is incomplete.
     fn run(
         key: &Self::Key,
         of: &mut RecorderMut<'_, '_, Self::Of>,
@@ -93,14 +90,14 @@ pub trait FunctionMut {
         ensures fault { IfErr result
             (λ fault. fault ≡ Fault.Incomplete → of.new.recording.now.whole ≡ false) };
 
-    // clones of keys are equal, and the meaning tells apart neither equal keys nor equal writes, nor an output from its clone
+    // clones of keys are equal; the meaning treats equal keys and equal writes alike, and an output like its clone
     ghost laws: { LawsMut Self.Of.Call.eq Self.Of.Answer.eq Self.Key.eq Self.Key.is_clone
         Self.Out.is_clone means };
 }
 
-/// A tracked value that is lent to a run, which records what it asks and what it writes. A run is handed one.
+/// A tracked value that is lent to a run, and the recording of what the run asks and writes. A run gets one.
 ///
-/// A run that reached past it, to the value or to the recording, would not be proved. This project's own.
+/// A run that uses the value or the recording directly can't be proved.
 #[derive(Drop)]
 pub struct RecorderMut<'a, 'b, T: Track> {
     pub(crate) alloc: Global,
@@ -111,9 +108,7 @@ pub struct RecorderMut<'a, 'b, T: Track> {
 }
 
 impl<'a, 'b, T: Track> RecorderMut<'a, 'b, T> {
-    /// A recorder of what is asked of this value and written to it, into this recording.
-    ///
-    /// It takes no memory and constant time. This project's own.
+    /// A recorder of what is asked of this value and written to it, into this recording. Does not allocate.
     pub fn new(
         alloc: Global,
         value: &'a mut T,
@@ -131,10 +126,7 @@ impl<'a, 'b, T: Track> RecorderMut<'a, 'b, T> {
         }
     }
 
-    /// Asks the value a read, and records the call with its answer.
-    ///
-    /// It does what `ask` of `Recorder` does, and costs the same. It stands in the place of the methods that comemo's
-    /// macro `track` writes.
+    /// Asks the value a read, and records the call with its answer, as `Recorder::ask`.
     pub fn ask(&mut self, call: T::Call) -> Result<T::Answer, Fault>
         requires agrees { ⟦<T as ToldMut>⟧.agrees (lent self.old.value self.old.recording) }
         requires read { T.Call.is_write call ≡ false }
@@ -154,11 +146,7 @@ impl<'a, 'b, T: Track> RecorderMut<'a, 'b, T> {
         Ok(view.ask(call, self.recording)?)
     }
 
-    /// Does a write on the value, and records it.
-    ///
-    /// After `Ok` it was done and recorded; after `Memory` neither, and value and recording are as they were: the value
-    /// refused it, or there was no memory for it in the recording, which makes room first. It stands in the place of
-    /// the methods that comemo's macro `track` writes.
+    /// Does a write on the value, and records it. Fails with `Memory` also if the value refuses the write.
     pub fn write(&mut self, call: T::Call) -> Result<(), Fault>
         requires agrees { ⟦<T as ToldMut>⟧.agrees (lent self.old.value self.old.recording) }
         requires write { T.Call.is_write call ≡ true }
@@ -179,11 +167,8 @@ impl<'a, 'b, T: Track> RecorderMut<'a, 'b, T> {
         Ok(())
     }
 
-    /// Calls another memoized function of the same value, which reads alone, and records what it asked.
-    ///
-    /// A fault leaves the other's cache as it was, and the recording is spoiled: the run that is recorded can't be
-    /// finished. It costs what `memoized_with` costs, with the recording as its sink. This project's own: in comemo it
-    /// is a call like any.
+    /// Calls another memoized function of the same value, which only reads, and records what it asked, as
+    /// `Recorder::call`.
     pub fn call<G: FunctionOf<T>, H: Hold<G>>(
         &mut self,
         cache: &mut H,
@@ -214,11 +199,8 @@ impl<'a, 'b, T: Track> RecorderMut<'a, 'b, T> {
         Ok(reply.output)
     }
 
-    /// Calls another memoized function of the same value, which writes, and records what it asked and wrote.
-    ///
-    /// A fault spoils the recording: the run that is recorded can't be finished. The writes that were done before it
-    /// stay done. It costs what `memoized_mut_with` costs, with the recording as its sink. This project's own: in
-    /// comemo it is a call like any.
+    /// Calls another memoized function of the same value, as `memoized_mut_with`, with the recording as its sink. After
+    /// a fault the run can't be finished.
     pub fn call_mut<G: FunctionMutOf<T>, H: Hold<G>>(
         &mut self,
         cache: &mut H,
@@ -261,9 +243,7 @@ impl<'a, 'b, T: Track> RecorderMut<'a, 'b, T> {
     }
 }
 
-/// What a cache takes a function that writes for: `CacheData<MemoOfMut<F>>` is the cache of `F`.
-///
-/// There is no value of it to make. This project's own.
+/// The `Memo` of a `FunctionMut`: `CacheData<MemoOfMut<F>>` is the cache of `F`. It has no values.
 pub struct MemoOfMut<F> {
     function: PhantomData<F>,
 }
@@ -288,16 +268,16 @@ impl<F: FunctionMut> Memo for MemoOfMut<F> {
     } };
 }
 
-/// A memoized function of a key and `T`, which it reads and writes, where `T` may borrow: several tracked values as one,
-/// by `BothMut` or `ReadAndWrite`, or a user's own.
+/// A memoized function of a key and `T`, which it reads and writes. `T` may borrow: several tracked values as one, by
+/// `BothMut` or `ReadAndWrite`, or the user's own type.
 ///
-/// What the function means is its `Memo`, which names no lifetime, so that its cache outlives the values. A
-/// `FunctionMut` is one by its `MemoOfMut`, with nothing to write. This project's own.
+/// The meaning is that of its `Memo`, which names no lifetime, so its cache outlives the values. The `MemoOfMut` of
+/// each `FunctionMut` is one already.
 pub trait FunctionMutOf<T: Track>: Memo<Call = T::Call, Answer = T::Answer> {
-    /// What a run takes beside its arguments: the caches of the functions that it calls, or `()`.
+    /// What a run needs besides its arguments: the caches of the functions that it calls, or `()`.
     type Needs;
 
-    /// Does the function, as `FunctionMut::run` does, and with the same said of its output, its writes and its faults.
+    /// Does the function, under the same terms as `FunctionMut::run`.
     fn run(
         key: &Self::Key,
         of: &mut RecorderMut<'_, '_, T>,
@@ -329,7 +309,7 @@ impl<F: FunctionMut> FunctionMutOf<F::Of> for MemoOfMut<F> {
     }
 }
 
-/// Does a function's run on a value, with a recording of its own. It gives what the run came to, and the recording.
+/// Runs a function on a value. Returns the run's result, and its recording.
 fn run_recorded<M: FunctionMutOf<T>, T: Track>(
     alloc: Global,
     key: &M::Key,
@@ -360,20 +340,8 @@ fn run_recorded<M: FunctionMutOf<T>, T: Track>(
     (ran, recording)
 }
 
-/// Calls a memoized function that writes: gives the output that its cache keeps where an entry agrees, and does its
-/// writes again, or runs it and keeps what it gave and wrote.
-///
-/// The sink takes what was asked, and then the writes: the recording of the run around the call, or `Top` where there
-/// is none. With `enabled` false there is no look-up, and nothing is kept. Every fault spoils the sink. Of a run that
-/// failed the writes that it did stay done, as does what it did to its needs, and the cache is as it was.
-///
-/// `Write` comes of a hit of which the value refused a write: those before it are done. `Memory` comes where the call
-/// didn't begin, or where there was none to give a whole recording to the sink. Any other fault is the run's, of which
-/// the sink took nothing: one that it answered, also `Write` or `Memory`, or `Incomplete` where it left its recording
-/// spoiled.
-///
-/// A hit costs what `begin` costs, any other call what `begin`, the run and `finish` cost. This project's own: a call of
-/// a function under comemo's `#[memoize]` that takes a `TrackedMut`.
+/// Calls a memoized function that writes: does the writes of an entry that agrees and returns its output, or runs the
+/// function and stores the run. Sink and `enabled` are as in `memoized_with`.
 pub fn memoized_mut_with<
     M: FunctionMutOf<T>,
     H: Hold<M>,
@@ -434,11 +402,7 @@ pub fn memoized_mut_with<
     }
 }
 
-/// Calls a memoized function that writes and needs nothing, with no run around it: `memoized_mut_with` for the plain
-/// case.
-///
-/// Fails as `memoized_mut_with` fails, and then the same stands. It costs what that costs with a `Top` as its sink, which
-/// keeps nothing. This project's own: a call of a function under comemo's `#[memoize]` that takes a `TrackedMut`.
+/// Calls a memoized function that writes and has no needs, outside of any run.
 pub fn memoized_mut<M: FunctionMutOf<T, Needs = ()>, H: Hold<M>, T: Track>(
     alloc: Global,
     cache: &mut H,

@@ -1,4 +1,4 @@
-//! What the calls stand on, and what contracts cite: few functions name any of it.
+//! What the calls are built on, and what contracts cite. Few users name any of it.
 
 pub use crate::closure::Record;
 pub use crate::function::Told;

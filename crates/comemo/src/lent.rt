@@ -1,5 +1,4 @@
-//! The inputs of the front door's calls: a key that is lent, with a view, or with a tracked value that is lent to be
-//! written.
+//! The inputs of the calls: a borrowed key with a view, or with a tracked value that is borrowed to be written.
 ghost use Rattle.std.specs.Prelude.{◌≡◌, IsTrue, refl};
 ghost use Rattle.std.proofs.Common.{◌∙◌, ap};
 ghost use Rattle.comemo_track.specs.InputLaws.{equal_if_one};
@@ -10,7 +9,7 @@ use comemo_track::track::{Call, Track, Tracked, Written};
 use std::alloc::AllocError;
 use std::hash::Hash;
 
-/// A key that is lent, and a view.
+/// A borrowed key, and a view.
 #[derive(Drop)]
 pub(crate) struct LentKey<'a, 'b, K: Clone + Eq + Hash, T> {
     pub(crate) key: &'b K,
@@ -56,7 +55,7 @@ impl<'a, 'b, K: Clone + Eq + Hash, T: Track> Input for LentKey<'a, 'b, K, T> {
     }
 }
 
-/// A key that is lent, and a tracked value that is lent to be written.
+/// A borrowed key, and a tracked value that is borrowed to be written.
 #[derive(Drop)]
 pub(crate) struct LentKeyMut<'a, 'b, K: Clone + Eq + Hash, T> {
     pub(crate) key: &'b K,

@@ -1,8 +1,8 @@
-//! Constrained memoization: the output of a memoized function is kept with the questions that its run asked of its
-//! tracked arguments, and is given again while those questions would be answered alike.
+//! Constrained memoization: the output of a memoized function is stored with what its run asked of its tracked
+//! arguments, and is returned again while they would answer the same.
 //!
-//! `Warmth` is a function of a `Town`, of which its run asks how many degrees it has, and nothing else. So the second
-//! call is answered from the cache, though more people live there now, and the third is not:
+//! `Warmth` is a function of a `Town`. Its run asks only for the degrees. The second call is a hit, although more people
+//! live there now, and the third is not:
 //!
 //! ```rust
 //! use comemo::{CacheData, How, MemoOf, Track, memoized};
@@ -27,8 +27,8 @@
 //! }
 //! ```
 //!
-//! `Town` is of the crate `comemo_samples`. These lines run as a test in the crate `comemo_tests`, in
-//! `src/examples.rt`, where `Warmth` stands too; how such a function is written says `docs/GUIDE.md`.
+//! `Town` is in the crate `comemo_samples`. These lines run as a test in the crate `comemo_tests`, in
+//! `src/examples.rt`, where `Warmth` is too. `docs/GUIDE.md` explains how to write such a function.
 #![tactic(auto)]
 
 mod closure;

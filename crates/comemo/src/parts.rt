@@ -1,4 +1,4 @@
-//! What a run asks of two tracked values that are one.
+//! What a run asks of two joined values.
 ghost use Rattle.std.specs.Prelude.{◌≡◌, [], true, false, IsTrue, IfOk, IfErr, OnOk, OnErr};
 ghost use Rattle.comemo.specs.Called.{HeldReply};
 ghost use Rattle.comemo_cache.specs.Meaning.{invocation};
@@ -17,9 +17,7 @@ use comemo_track::multi::{First, MultiAnswer, MultiCall, Second};
 use comemo_track::track::{Track, Tracked};
 
 impl<'a, T: Track> Recorder<'a, T> {
-    /// Calls a memoized function of a part of the value, and records what it asked through a map.
-    ///
-    /// The value has to answer the map's images as the part answers. A fault is as of `call`.
+    /// As `call`, for a function of a part of the value: what it asked is recorded, renamed by a map.
     fn call_through<
         A: Track,
         G: FunctionOf<A>,
@@ -54,13 +52,13 @@ impl<'a, T: Track> Recorder<'a, T> {
     }
 }
 
-/// What a run asks of two values that are one.
+/// What a run asks of two joined values. Each call is recorded as a call of both.
 impl<'a, 'b, A: Track, B: Track> Recorder<'a, Both<'b, A, B>> {
     ghost use Rattle.comemo_track.specs.Multi.{first_call, second_call, first_answer, second_answer};
     ghost use Rattle.comemo_track.specs.declared.multi.MultiCall.{MultiCall};
     ghost use Rattle.comemo_track.specs.declared.multi.MultiAnswer.{MultiAnswer};
 
-    /// Asks the first value a read, and records it as a call of both. Else it is as `ask`. This project's own.
+    /// Asks the first value a read, and records it, as `ask`.
     pub fn ask_first(&mut self, call: A::Call) -> Result<A::Answer, Fault>
         requires { A.Call.is_write call ≡ false }
         ensures tells { Tells ⟦<Both<'b, A, B> as Told>⟧.fits self.old self.new result
@@ -75,11 +73,12 @@ impl<'a, 'b, A: Track, B: Track> Recorder<'a, Both<'b, A, B>> {
     {
         match self.ask(MultiCall::A(call))? {
             MultiAnswer::A(answer) => Ok(answer),
+            // A call of a part has an answer of that part.
             MultiAnswer::B(_) => unreachable!(),
         }
     }
 
-    /// Asks the second value a read, and records it as a call of both. Else it is as `ask`. This project's own.
+    /// Asks the second value a read, and records it, as `ask`.
     pub fn ask_second(&mut self, call: B::Call) -> Result<B::Answer, Fault>
         requires { B.Call.is_write call ≡ false }
         ensures tells { Tells ⟦<Both<'b, A, B> as Told>⟧.fits self.old self.new result
@@ -94,12 +93,12 @@ impl<'a, 'b, A: Track, B: Track> Recorder<'a, Both<'b, A, B>> {
     {
         match self.ask(MultiCall::B(call))? {
             MultiAnswer::B(answer) => Ok(answer),
+            // A call of a part has an answer of that part.
             MultiAnswer::A(_) => unreachable!(),
         }
     }
 
-    /// Calls a memoized function of the first value, and records what it asked as calls of both. Else it is as `call`.
-    /// This project's own.
+    /// Calls a memoized function of the first value, and records what it asked, as `call`.
     pub fn call_first<G: FunctionOf<A>, H: Hold<G>>(
         &mut self,
         cache: &mut H,
@@ -121,8 +120,7 @@ impl<'a, 'b, A: Track, B: Track> Recorder<'a, Both<'b, A, B>> {
         self.call_through(cache, needs, key, &first, First::new())
     }
 
-    /// Calls a memoized function of the second value, and records what it asked as calls of both. Else it is as `call`.
-    /// This project's own.
+    /// Calls a memoized function of the second value, and records what it asked, as `call`.
     pub fn call_second<G: FunctionOf<B>, H: Hold<G>>(
         &mut self,
         cache: &mut H,

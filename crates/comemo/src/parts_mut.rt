@@ -19,16 +19,11 @@ use comemo_track::multi::{First, Second};
 use comemo_track::read_and_write::ReadAndWrite;
 use comemo_track::track::{Track, Written};
 
-/// The calls of each part, and the writes of the second part.
-///
-/// Each call is recorded as a call of the whole.
+/// The calls of each part, and the writes of the second part. Each call is recorded as a call of the whole.
 impl<'a, 'b, 'c, A: Track, B: Track> RecorderMut<'a, 'b, ReadAndWrite<'c, A, B>> {
     ghost use Rattle.comemo_track.specs.Multi.{first_call, second_call, first_answer, second_answer};
 
-    /// Asks the first value a read, and records the call with its answer.
-    ///
-    /// Fails if there is no memory for the answer or for the recording. The recording is unchanged then. It costs what
-    /// `RecorderMut::ask` costs.
+    /// Asks the first value a read, and records it, as `RecorderMut::ask`.
     pub fn ask_first(&mut self, call: A::Call) -> Result<A::Answer, Fault>
         requires agrees { ⟦<ReadAndWrite<'c, A, B> as ToldMut>⟧.agrees
             (lent self.old.value self.old.recording) }
@@ -54,10 +49,7 @@ impl<'a, 'b, 'c, A: Track, B: Track> RecorderMut<'a, 'b, ReadAndWrite<'c, A, B>>
         Ok(view.ask_through(call, First::new(), self.recording)?)
     }
 
-    /// Asks the second value a read, and records the call with its answer.
-    ///
-    /// Fails if there is no memory for the answer or for the recording. The recording is unchanged then. It costs what
-    /// `RecorderMut::ask` costs.
+    /// Asks the second value a read, and records it, as `RecorderMut::ask`.
     pub fn ask_second(&mut self, call: B::Call) -> Result<B::Answer, Fault>
         requires agrees { ⟦<ReadAndWrite<'c, A, B> as ToldMut>⟧.agrees
             (lent self.old.value self.old.recording) }
@@ -85,10 +77,7 @@ impl<'a, 'b, 'c, A: Track, B: Track> RecorderMut<'a, 'b, ReadAndWrite<'c, A, B>>
         Ok(view.ask(call, &mut sink)?)
     }
 
-    /// Does a write on the second value, and records it.
-    ///
-    /// Fails if the second value fails, or if there is no memory for the recording. Value and recording are unchanged
-    /// then. It costs what `RecorderMut::write` costs.
+    /// Does a write on the second value, and records it, as `RecorderMut::write`.
     pub fn write_second(&mut self, call: B::Call) -> Result<(), Fault>
         requires agrees { ⟦<ReadAndWrite<'c, A, B> as ToldMut>⟧.agrees
             (lent self.old.value self.old.recording) }
@@ -115,10 +104,7 @@ impl<'a, 'b, 'c, A: Track, B: Track> RecorderMut<'a, 'b, ReadAndWrite<'c, A, B>>
         Ok(())
     }
 
-    /// Calls a memoized function of the first value, which only reads, and records its calls.
-    ///
-    /// Fails if `memoized_with` fails. The cache of the called function is unchanged then, and the recording is
-    /// spoiled, so the run can't be finished. It costs what `memoized_with` costs.
+    /// Calls a memoized function of the first value, which only reads, and records its calls, as `RecorderMut::call`.
     pub fn call_first<G: FunctionOf<A>, H: Hold<G>>(
         &mut self,
         cache: &mut H,
@@ -156,10 +142,8 @@ impl<'a, 'b, 'c, A: Track, B: Track> RecorderMut<'a, 'b, ReadAndWrite<'c, A, B>>
         Ok(reply.output)
     }
 
-    /// Calls a memoized function of the second value, which may write, and records its calls and writes.
-    ///
-    /// Fails if `memoized_mut_with` fails. The recording is spoiled then, so the run can't be finished. The writes that
-    /// were done before the failure stay done. It costs what `memoized_mut_with` costs.
+    /// Calls a memoized function of the second value, which may write, and records its calls and writes, as
+    /// `RecorderMut::call_mut`.
     pub fn call_mut_second<G: FunctionMutOf<B>, H: Hold<G>>(
         &mut self,
         cache: &mut H,

@@ -1,5 +1,5 @@
-//! Calls of memoized functions, from their beginning to their end: a hit, or a run, which is finished and stored where
-//! it can be, or given up.
+//! Calls of memoized functions, from begin to end: a hit, or a run, which is finished and stored if possible, or given
+//! up. Each call clones its key, also for a hit. On error each function here makes its sink incomplete.
 ghost use Rattle.std.specs.Prelude.{◌≡◌, ◌≤◌, [], ◌∷◌, ◌++◌, ◌↔◌, List, Bool, true, false, length, IsTrue, IfOk, IfErr, IfSome, IfNone, OnOk, OnErr, Ok, Err, ⊤};
 ghost use Rattle.std.specs.List.{All};
 ghost use Rattle.comemo_base.specs.Tree.{IsSamePath};
@@ -21,20 +21,24 @@ use comemo_track::track::{Breaking, Call, Sink};
 use std::alloc::{AllocError, Global};
 use std::marker::Model;
 
-/// Why a call of a memoized function failed, or a question of its run. A call that fails spoils its sink.
+/// Why a call of a memoized function, or a question or write of its run, failed.
 ///
-/// This project's own: comemo's calls can't fail.
+/// A call that fails makes its sink incomplete, so the run around it is not stored. The cache is unchanged, except for
+/// an age after `Write`. What a run wrote, and what it did to its needs, stays. A run can return any of these faults
+/// itself; the sink then takes nothing. A question or write that fails changes nothing.
 #[derive(Clone, Copy, Debug, PartialEq, Eq)]
 pub enum Fault {
-    /// A request for memory was refused.
+    /// Out of memory. A call that didn't begin wrote nothing, and its sink may hold a prefix of an entry's path. After
+    /// a run, the sink may hold a prefix of its reads.
     Memory,
-    /// A write of a hit, which was to be done again, was refused. Those before it are done.
+    /// The input refused a write of a hit. The writes before it are done, and are in the sink after the entry's path.
+    /// The entry has age 0: the next such call is a hit again.
     Write,
-    /// The run's recording is spoiled: something that it should hold is lost.
+    /// The run's recording is incomplete: something that it should hold is lost. The sink took nothing of it.
     Incomplete,
 }
 
-/// So that `?` hands on a refused request of a run.
+/// Lets `?` pass on a failure to allocate in a run.
 impl From<AllocError> for Fault {
     ghost use Rattle.std.specs.Prelude.{◌≡◌};
     ghost use Rattle.comemo.specs.declared.pending.Fault.TheVariants.{Memory};
@@ -46,51 +50,44 @@ impl From<AllocError> for Fault {
     }
 }
 
-/// What became of a call of a memoized function. With all but `Hit` the sink has the run's recording.
-///
-/// comemo tells a hit from a miss in its tests alone.
+/// What became of a call of a memoized function. Except after `Hit`, the sink has the run's recording.
 #[derive(Clone, Copy, Debug, PartialEq, Eq)]
 pub enum How {
     /// An entry agreed.
     Hit,
-    /// The run was stored: one more entry.
+    /// The run was stored: there is one more entry.
     Stored,
-    /// It was not, since a stored path has all its pairs among those of the run.
+    /// Not stored: a stored path has all its pairs among those of the run.
     AlreadyExists,
-    /// It was not, since a stored path goes on with a call that the run lacks.
+    /// Not stored: a stored path goes on with a call that the run lacks.
     MissingCall,
-    /// It was not, since there was no memory for it.
+    /// Not stored: out of memory, also for the clones to be stored.
     NotStored,
-    /// It was not to be stored.
+    /// Not stored: `enabled` was false.
     Disabled,
-    /// It was not, since its run was late: it read what a write of its own touches. Of its output nothing is promised.
+    /// Not stored: the run is late, as it read what an earlier write of its own touches. The sink is then late too.
+    /// Nothing is promised of the output.
     Late,
 }
 
-/// The answer of a memoized function: its output, and what became of the call.
-///
-/// This project's own: comemo gives the output alone.
+/// The reply to a call of a memoized function.
 #[derive(Drop)]
 pub struct Reply<Out> {
-    /// What the function gives.
+    /// The output.
     pub output: Out,
     /// What became of the call.
     pub how: How,
 }
 
-/// How a call of a memoized function began: by a hit, or by a run that is to be done.
-///
-/// This project's own.
+/// How a call of a memoized function began: as a hit, or as a run that is to be done.
 pub enum Begun<Out, Run> {
     /// An entry agreed: its output.
     Hit(Out),
-    /// None did, or none was looked for: the run.
+    /// None agreed, or none was looked for: the run.
     Run(Run),
 }
 
-/// A call at an input, as one value, for contracts to cite: `⟦<In as Invoked>⟧.invoked`.
-///
-/// There is nothing to implement. This project's own.
+/// A call at an input, as one value, for contracts: `⟦<In as Invoked>⟧.invoked`. There is nothing to implement.
 pub trait Invoked: Input {
     ghost invoked: { Self → Bool → Invocation Self.Key Self.Call Self.Answer };
 }
@@ -99,9 +96,8 @@ impl<In: Input> Invoked for In {
     ghost invoked = { λ s enabled. invocation (In.key_of s) (In.answers s) enabled };
 }
 
-/// A run of a memoized function that began. It is to be finished or given up, and can't be dropped.
-///
-/// It holds no part of the cache. This project's own: comemo's `memoize` takes the run as a closure.
+/// A run of a memoized function that began. It must be finished or given up, and can't be dropped. It holds no part of
+/// the cache.
 pub struct Pending<M: Memo> {
     pub(crate) alloc: Global,
     pub(crate) key: M::Key,
@@ -124,10 +120,7 @@ impl<M: Memo> Pending<M> {
     ghost use Rattle.comemo.specs.contracts.pending.Pending.{the_row};
     ghost use Rattle.comemo_track.specs.contracts.constraint.Constraint.{the_row as recording_row};
 
-    /// What the run has recorded, to be recorded into: the sink of what the run asks. It takes no memory and constant
-    /// time.
-    ///
-    /// This project's own: comemo's `memoize` hands its closure an input that records.
+    /// The run's recording: the sink of what the run asks.
     pub fn recording(&mut self) -> &mut Constraint<M::Call, M::Answer>
         ensures* writes_back { sem 𝓛 (Lends (the_row M.row M.Call.row M.Key.row M.Answer.row M.Out.row M.Memo.own M.Call.Call.own M.Call.Clone.own M.Call.PartialEq.own M.Call.Hash.own M.Key.Clone.own M.Key.PartialEq.own M.Key.Hash.own M.Answer.Clone.own M.Answer.Ord.own M.Answer.PartialEq.own M.Answer.PartialOrd.own M.Out.Clone.own) (recording_row M.Call.row M.Answer.row M.Call.Call.own M.Call.Clone.own M.Call.PartialEq.own M.Call.Hash.own) self.entry result (λ w. record self.old { recording = w })) }
         ensures value { result.now ≡ self.old.recording }
@@ -135,18 +128,10 @@ impl<M: Memo> Pending<M> {
         &mut self.recording
     }
 
-    /// Ends the run with its output: gives its recording to the sink, and stores it.
+    /// Ends the run with its output: sends its recording to the sink, and stores it.
     ///
-    /// Output and recorded writes have to be right for all answers that agree with the recorded pairs, which are, where the
-    /// function names the calls that it asks, causal and complete; but nothing is asked of a late recording: such a run isn't
-    /// stored, and the sink is late then too. A run that was begun with
-    /// `enabled` false isn't stored; nor is one for whose clones there is no memory. `Incomplete` comes exactly where
-    /// the recording is spoiled, and `Memory` where the sink found no memory: then the cache is as it was, and the sink
-    /// is spoiled, after it took perhaps a beginning of the recorded pairs.
-    ///
-    /// It clones each recorded pair, each write and the output once, sends the pairs to the sink and then the writes,
-    /// and stores as `CacheData::store` does; for a sink that keeps nothing it clones the output alone, and with `enabled` false it sends them alone, and clones nothing itself. The
-    /// second half of comemo's `memoize`.
+    /// Unless the recording is late, output and writes must be right for all answers that agree with its reads. The
+    /// recording is cloned, unless the sink ignores it or `enabled` was false.
     pub fn finish<H: Hold<M>, S: Sink<Call = M::Call, Answer = M::Answer>>(
         self,
         cache: &mut H,
@@ -196,9 +181,7 @@ impl<M: Memo> Pending<M> {
         Ok(Reply { output, how })
     }
 
-    /// Ends the run as it went: finishes it with its output, or gives it up with its fault.
-    ///
-    /// It is as `finish` on an output, and as `give_up` on a fault, which it hands on. This project's own.
+    /// Ends the run by its result: as `finish` with an output, as `give_up` with a fault, which is returned.
     pub fn end<H: Hold<M>, S: Sink<Call = M::Call, Answer = M::Answer>>(
         self,
         cache: &mut H,
@@ -233,7 +216,7 @@ impl<M: Memo> Pending<M> {
         }
     }
 
-    /// Gives the run up: nothing is stored, and the sink is spoiled. It takes no memory. This project's own.
+    /// Gives the run up: nothing is stored, and the sink is incomplete. Does not allocate.
     pub fn give_up<S: Sink<Call = M::Call, Answer = M::Answer>>(self, sink: &mut S)
         ensures { S.spoils sink.old sink.new }
     {
@@ -249,7 +232,7 @@ impl<M: Memo> Pending<M> {
     }
 }
 
-/// Gives reads with their answers to a sink, and spoils it where there is no memory.
+/// Sends reads with their answers to a sink.
 fn give_pairs<S: Sink>(pairs: Vec<(S::Call, S::Answer)>, sink: &mut S) -> Result<(), Fault>
     requires { All (λ p. S.Call.is_write p.0 ≡ false) pairs.items }
     ensures ok { OnOk result (S.took sink.old sink.new pairs.items []) }
@@ -294,8 +277,7 @@ fn copy_writes<C: Call>(writes: &Vec<C>) -> Result<Vec<C>, AllocError>
     Ok(copies)
 }
 
-/// Clones of the pairs, the output and the writes of a run, so that the sink and the store, the caller and the store
-/// have one each.
+/// Clones of a run's pairs, output and writes: the sink and the caller get one of each, the store the other.
 fn copy_run<M: Memo>(
     alloc: Global,
     reads: &CallSequence<M::Call, M::Answer>,
@@ -315,7 +297,7 @@ fn copy_run<M: Memo>(
     Ok((pairs, kept, writes))
 }
 
-/// Gives writes to a sink, all or none, and spoils it where there is no memory for them.
+/// Sends writes to a sink, all or none.
 fn give_writes<S: Sink>(writes: Vec<S::Call>, sink: &mut S) -> Result<(), Fault>
     requires { All (λ c. S.Call.is_write c ≡ true) writes.items }
     ensures ok { OnOk result (S.took sink.old sink.new [] writes.items) }
@@ -328,13 +310,14 @@ fn give_writes<S: Sink>(writes: Vec<S::Call>, sink: &mut S) -> Result<(), Fault>
     };
     for call in writes {
         let Ok(_) = sink.emit(call, None) else {
+            // There is room for each write.
             unreachable!()
         };
     }
     Ok(())
 }
 
-/// Gives pairs and then writes to a sink, and spoils it where there is no memory.
+/// Sends pairs and then writes to a sink.
 fn give_run<S: Sink>(
     pairs: Vec<(S::Call, S::Answer)>,
     writes: Vec<S::Call>,
@@ -350,7 +333,7 @@ fn give_run<S: Sink>(
     give_writes(writes, sink)
 }
 
-/// Gives a sequence of reads and then writes to a sink, and spoils it where there is no memory.
+/// Sends a sequence of reads and then writes to a sink.
 fn give_recording<S: Sink>(
     reads: CallSequence<S::Call, S::Answer>,
     writes: Vec<S::Call>,
@@ -366,7 +349,7 @@ fn give_recording<S: Sink>(
     give_writes(writes, sink)
 }
 
-/// Gives the pairs of a sequence of reads to a sink, and spoils it where there is no memory.
+/// Sends the pairs of a sequence of reads to a sink.
 fn give_reads<S: Sink>(
     mut reads: CallSequence<S::Call, S::Answer>,
     sink: &mut S,
@@ -385,7 +368,7 @@ fn give_reads<S: Sink>(
     Ok(())
 }
 
-/// Gives a late recording's reads and then its writes to a sink, and marks that late.
+/// Sends a late recording's reads and then its writes to a sink, and marks the sink as late.
 fn give_late<S: Sink>(recording: Constraint<S::Call, S::Answer>, sink: &mut S) -> Result<(), Fault>
     ensures ok { OnOk result (⟦<S as Breaking>⟧.took_as true
         sink.old sink.new recording.pairs recording.writes) }
@@ -398,7 +381,7 @@ fn give_late<S: Sink>(recording: Constraint<S::Call, S::Answer>, sink: &mut S) -
     Ok(())
 }
 
-/// Keeps a run in a cache, and says what became of it.
+/// Stores a run, and returns what became of it.
 fn keep<M: Memo, H: Hold<M>>(
     cache: &mut H,
     key: M::Key,
@@ -424,7 +407,7 @@ fn keep<M: Memo, H: Hold<M>>(
     }
 }
 
-/// Keeps a run in a cache with a clone of its output, and says what became of it.
+/// Stores a run with a clone of its output, and returns what became of it.
 fn keep_copy<M: Memo, H: Hold<M>>(
     cache: &mut H,
     key: M::Key,
@@ -449,9 +432,8 @@ fn keep_copy<M: Memo, H: Hold<M>>(
     keep(cache, key, reads, kept, writes)
 }
 
-/// Gives a run's pairs and writes to a sink and keeps it in a cache, and says what became of it.
-///
-/// It clones pairs and writes only for a sink that keeps them.
+/// Sends a run to a sink, stores it, and returns what became of it. Clones pairs and writes only if the sink keeps
+/// them.
 fn end_run<M: Memo, H: Hold<M>, S: Sink<Call = M::Call, Answer = M::Answer>>(
     alloc: Global,
     cache: &mut H,
@@ -483,6 +465,7 @@ fn end_run<M: Memo, H: Hold<M>, S: Sink<Call = M::Call, Answer = M::Answer>>(
         return Ok(keep_copy(cache, key, reads, output, writes));
     }
     let Ok((pairs, kept, copies)) = copy_run::<M>(alloc, &reads, output, &writes) else {
+        // No clones for the store: the sink gets the originals.
         give_recording(reads, writes, sink)?;
         return Ok(How::NotStored);
     };
@@ -490,9 +473,7 @@ fn end_run<M: Memo, H: Hold<M>, S: Sink<Call = M::Call, Answer = M::Answer>>(
     Ok(keep(cache, key, reads, kept, copies))
 }
 
-/// Does the writes of a hit on its input and gives them to a sink that has room for them, in order.
-///
-/// At a write that is refused it stops, and spoils the sink.
+/// Does the writes of a hit on its input, and sends each to a sink that has room for them.
 fn replay<In: Input, S: Sink<Call = In::Call, Answer = In::Answer>>(
     writes: Vec<In::Call>,
     input: &mut In,
@@ -514,6 +495,7 @@ fn replay<In: Input, S: Sink<Call = In::Call, Answer = In::Answer>>(
             return Err(Fault::Write);
         };
         let Ok(_) = sink.emit(write, None) else {
+            // There is room for each write.
             unreachable!()
         };
     }
@@ -535,7 +517,7 @@ fn answers_of<C: Call, R: Clone + Ord>(
     Ok(answers)
 }
 
-/// Clones of the answers of a path that was found, where its entry has an age; of none where it has none to lose.
+/// Clones of the answers of a path that was found, or none if its entry has age 0 and needn't be touched.
 fn answers_of_aged<M: Memo>(alloc: Global, found: &Found<M>) -> Result<Vec<M::Answer>, AllocError>
     ensures { IfOk result (λ answers. (found.now.age ≡ 0 → ⊥)
         → HasAnswers M.Answer.eq found.now.pairs.items answers.items) }
@@ -546,8 +528,7 @@ fn answers_of_aged<M: Memo>(alloc: Global, found: &Found<M>) -> Result<Vec<M::An
     answers_of(alloc, &found.pairs)
 }
 
-/// Gives what a look-up found: its path to the sink, its writes to the input and the sink, and its output. Before the
-/// first write its entry is touched.
+/// Sends the path that a look-up found, does and sends its writes, and returns its output.
 fn give_found<
     M: Memo,
     H: Hold<M>,
@@ -594,6 +575,7 @@ fn give_found<
         sink.spoil();
         return Err(Fault::Memory);
     };
+    // Before the writes, so that the entry is touched even if one is refused.
     if age > 0 {
         cache.touch(key, answers.as_slice());
     }
@@ -601,10 +583,7 @@ fn give_found<
     Ok(output)
 }
 
-/// Gives what a peek found to a sink that is told no path: its writes to the input and the sink, and its output.
-///
-/// Fails if there was no room for the writes, with nothing done; or if the input refused one, with those before it done.
-/// Either way the sink is spoiled.
+/// As `give_found`, for what a peek found: no path is sent.
 fn give_peeked<
     M: Memo,
     In: Input<Call = M::Call, Key = M::Key, Answer = M::Answer>,
@@ -634,10 +613,8 @@ fn give_peeked<
     Ok(output)
 }
 
-/// Looks for an entry that agrees, with its path, and gives its output as a hit does; or nothing, where none agrees.
-///
-/// What it says of a hit and of a fault holds at each earlier state of the input since which nothing was written to it, so
-/// that a caller may have asked it before. Fails as `begin` fails, and then the same stands.
+/// Looks for an entry that agrees, with its path, and returns its output. The contract holds from each earlier state
+/// since which nothing was written: a caller may have peeked.
 fn look_hit<
     M: Memo,
     H: Hold<M>,
@@ -679,10 +656,7 @@ fn look_hit<
     }
 }
 
-/// Looks for an entry that agrees, and gives its output as a hit does; or nothing, where none agrees.
-///
-/// For a sink that keeps nothing it peeks first, so that no path is copied where the entry has age 0; one that has an age
-/// is looked for again with its path, by whose answers it is touched. Fails as `begin` fails, and then the same stands.
+/// Looks for an entry that agrees, and returns its output. If the sink ignores all, it peeks first, to clone no path.
 fn find_hit<
     M: Memo,
     H: Hold<M>,
@@ -721,6 +695,7 @@ fn find_hit<
             return Err(Fault::Memory);
         }
     };
+    // The entry has to be touched, by the answers of its path.
     if peeked.age > 0 {
         return look_hit(alloc, cache, key, input, sink);
     }
@@ -728,9 +703,7 @@ fn find_hit<
     Ok(Some(output))
 }
 
-/// Looks for an entry that agrees, and gives its output as a hit does; or gives the key of a run that is to be done.
-///
-/// It is what `begin` does before it makes a recording, for which a call that hits needs no room.
+/// As `begin`, but returns a run's key, so that a hit makes no room for a recording.
 pub(crate) fn look_up<
     M: Memo,
     H: Hold<M>,
@@ -774,21 +747,11 @@ pub(crate) fn look_up<
     }
 }
 
-/// Begins a call of a memoized function: looks for an entry that agrees, and gives its output; or begins a run.
+/// Begins a call of a memoized function: returns the output of an entry that agrees, or a run that is to be done.
 ///
-/// With `enabled` false there is no look-up, and the run won't be stored. On a hit the entry's path is given to the
-/// sink, and then each of its writes is done on the input and given to the sink, in order. A run changes nothing yet.
-/// `Memory` comes where the key, an answer of the input, a clone of the entry found or the sink found no memory: then
-/// the cache is as it was, nothing was written to the input, and the sink is spoiled, after it took perhaps a beginning
-/// of the entry's path. `Write` comes where the input refused a write of a hit: then those before it were done and
-/// given to the sink, which is spoiled; the entry stays, of age 0, and a next call of the same kind is a hit again.
-///
-/// It clones the key, and looks as `CacheData::look` does, which asks each call of one stored path once and finds its
-/// answer in an ordered map. On a hit it clones the calls of the entry's path, its output and its writes, and sends each
-/// pair of the path and each write to the sink; where the entry has an age, it clones the path's answers too, and follows
-/// the path once more by these. For a sink that keeps nothing it looks as `CacheData::peek` does at first: on a hit of an
-/// entry of age 0 it clones the output and the writes alone, and sends the writes alone; where the entry has an age, it
-/// asks the calls of its path once more, and goes on as for any other sink. The first half of comemo's `memoize`.
+/// With `enabled` false there is no look-up, and the run won't be stored. On a hit the sink takes the entry's path;
+/// then each write is done on the input and sent. A look-up asks each call of one path once, or twice for an entry with
+/// an age and a sink that ignores all.
 pub fn begin<
     M: Memo,
     H: Hold<M>,

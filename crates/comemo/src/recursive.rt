@@ -1,4 +1,4 @@
-//! Memoized functions that call themselves: a call by hand, for a recorder.
+//! Memoized functions that call themselves: nested calls, by a recorder's `begin` and `finish`.
 ghost use Rattle.std.specs.Prelude.{◌≡◌, ◌↔◌, [], true, false, List, IsTrue, refl, IfOk, IfErr, OnErr, ⊤};
 ghost use Rattle.comemo.specs.Called.{HeldReply};
 ghost use Rattle.comemo_cache.specs.Meaning.{IsNamedRun, reading, invocation, run};
@@ -16,44 +16,40 @@ use comemo_track::track::{Call, Track};
 use std::hash::Hash;
 use std::marker::PhantomData;
 
-/// A memoized function whose runs read alone: what it means of a key and answers, and that there are no writes.
-///
-/// This project's own.
+/// A memoized function whose runs only read: its meaning, of a key and answers, without writes.
 pub trait ReadsAlone: Memo {
     // at this key and these answers, this output is right
     ghost means: { Self.Key → (Self.Call → Self.Answer) → Self.Out → Type 0 };
 
-    // this, and no writes, is what the cache keeps
+    // by `def` this is right, and there are no writes
     ghost reads: { (key : Self.Key) (m : Self.Call → Self.Answer)
         (output : Self.Out) (writes : List Self.Call)
         → Self.Memo.def key m output writes ↔ reading means key m output writes };
 }
 
-/// A memoized function that calls itself through its own cache: what it means, of a key and a tracked value.
+/// A memoized function that calls itself through its own cache: its meaning, of a key and a tracked value.
 ///
-/// It is a `Function` without a run, which is an ordinary function of the user's, from `Recorder::begin` to
-/// `Recorder::finish`. This project's own: in comemo it is a function like any.
+/// It is a `Function` without a run. The run is an ordinary function of the user's, from `Recorder::begin` to
+/// `Recorder::finish`.
 pub trait Recursive {
-    /// What isn't tracked of the arguments: what a call is kept under.
+    /// The untracked arguments, under which a call is cached.
     type Key: Clone + Eq + Hash;
 
     /// The tracked value that a run asks, or `()`.
     type Of: Track;
 
-    /// What the function gives.
+    /// The output.
     type Out: Clone;
 
     // at this key and these answers, this output is right
     ghost means: { Self.Key → (Self.Of.Call → Self.Of.Answer) → Self.Out → Type 0 };
 
-    // a clone of a key is equal, and the meaning tells apart neither equal keys nor an output from its clone
+    // a clone of a key is equal; the meaning treats equal keys alike, and an output like its clone
     ghost laws: { Laws Self.Of.Call.eq Self.Of.Answer.eq Self.Key.eq Self.Key.is_clone
         Self.Out.is_clone means };
 }
 
-/// What a cache takes such a function for: `CacheData<MemoOfRecursive<F>>` is the cache of `F`.
-///
-/// There is no value of it to make. This project's own.
+/// The `Memo` of a `Recursive`: `CacheData<MemoOfRecursive<F>>` is the cache of `F`. It has no values.
 pub struct MemoOfRecursive<F> {
     function: PhantomData<F>,
 }
@@ -85,9 +81,8 @@ impl<F: Recursive> ReadsAlone for MemoOfRecursive<F> {
     ghost reads = { λ key m output writes. (λ right. right, λ right. right) };
 }
 
-/// A run within a run, with a recorder of its own.
-///
-/// Where it is dropped, as by `?`, nothing is kept, and the run around it is told nothing. This project's own.
+/// A nested run, with a recorder of its own. If it is dropped, as by `?`, nothing is stored, and the recorder around it
+/// takes nothing.
 #[derive(Drop)]
 pub struct Inner<'a, K, T: Track> {
     /// What the run asks through.
@@ -97,13 +92,8 @@ pub struct Inner<'a, K, T: Track> {
 }
 
 impl<'a, T: Track> Recorder<'a, T> {
-    /// Begins a call of a memoized function: gives the output that its cache keeps where an entry agrees, or a run to
-    /// be done.
-    ///
-    /// On a hit this recorder takes what the entry rests on. A run has a recorder of its own, of the same value, and
-    /// this one takes nothing yet. The one fault is `Memory`: then the cache is as it was, and this recording is
-    /// spoiled. It costs what `begin` costs, with a clone of the key, also for a hit. This project's own: the first half of
-    /// a call of a function under comemo's `#[memoize]`.
+    /// Begins a nested call: returns the output of an entry that agrees, or a run with a recorder of its own. On a hit
+    /// this recorder takes the entry's path.
     pub fn begin<G: ReadsAlone<Call = T::Call, Answer = T::Answer>, H: Hold<G>>(
         &mut self,
         cache: &mut H,
@@ -143,12 +133,9 @@ impl<'a, T: Track> Recorder<'a, T> {
         }))
     }
 
-    /// Finishes a run that was begun here, with its output, and keeps it.
+    /// Finishes a nested run with its output, and stores it. This recorder takes what the run recorded.
     ///
-    /// The output has to be right for all answers that agree with what the run recorded, of which nothing may be lost.
-    /// This recorder takes what the run recorded. The one fault is `Memory`: then the cache is as it was, and this
-    /// recording is spoiled. It costs what `Pending::finish` costs. This project's own: the second half of a call of a
-    /// function under comemo's `#[memoize]`.
+    /// The output must be right for all answers that agree with the run's recording, which must be complete.
     pub fn finish<G: ReadsAlone<Call = T::Call, Answer = T::Answer>, H: Hold<G>>(
         &mut self,
         cache: &mut H,
@@ -177,9 +164,7 @@ impl<'a, T: Track> Recorder<'a, T> {
         Ok(reply.output)
     }
 
-    /// Finishes a run that was begun here, as `finish` does, and gives its reply: whether it was stored, or why not.
-    ///
-    /// A fault is as of `finish`, and it costs the same.
+    /// As `finish`, with the reply: whether the run was stored, or why not.
     pub fn finish_reply<G: ReadsAlone<Call = T::Call, Answer = T::Answer>, H: Hold<G>>(
         &mut self,
         cache: &mut H,

@@ -1,4 +1,5 @@
-//! Memoized functions that call themselves and write: a call by hand, for a recorder that writes.
+//! Memoized functions that call themselves and write: nested calls, by the `begin` and `finish` of a recorder that
+//! writes.
 ghost use Rattle.std.specs.Prelude.{◌≡◌, ◌↔◌, [], true, false, List, IsTrue, refl, IfOk, IfErr, OnErr, ⊤};
 ghost use Rattle.comemo.specs.Called.{HeldReply};
 ghost use Rattle.comemo.specs.Begun.{OnFault};
@@ -23,32 +24,30 @@ use std::hash::Hash;
 use std::marker::PhantomData;
 use std::mem;
 
-/// A memoized function that calls itself through its own cache, and writes: what it means, of a key and a tracked value.
+/// A memoized function that calls itself through its own cache, and writes: its meaning, of a key and a tracked value.
 ///
-/// It is a `FunctionMut` without a run, which is an ordinary function of the user's, between `RecorderMut::begin` and
-/// `RecorderMut::finish`. This project's own: in comemo it is a function like any.
+/// It is a `FunctionMut` without a run. The run is an ordinary function of the user's, between `RecorderMut::begin` and
+/// `RecorderMut::finish`.
 pub trait RecursiveMut {
-    /// What isn't tracked of the arguments: what a call is kept under.
+    /// The untracked arguments, under which a call is cached.
     type Key: Clone + Eq + Hash;
 
     /// The tracked value that a run asks and changes.
     type Of: Track;
 
-    /// What the function gives.
+    /// The output.
     type Out: Clone;
 
     // at this key and these answers, this output and these writes are right
     ghost means: { Self.Key → (Self.Of.Call → Self.Of.Answer) → Self.Out
         → List Self.Of.Call → Type 0 };
 
-    // clones of keys are equal, and the meaning tells apart neither equal keys nor equal writes, nor an output from its clone
+    // clones of keys are equal; the meaning treats equal keys and equal writes alike, and an output like its clone
     ghost laws: { LawsMut Self.Of.Call.eq Self.Of.Answer.eq Self.Key.eq Self.Key.is_clone
         Self.Out.is_clone means };
 }
 
-/// What a cache takes such a function for: `CacheData<MemoOfRecursiveMut<F>>` is the cache of `F`.
-///
-/// There is no value of it to make. This project's own.
+/// The `Memo` of a `RecursiveMut`: `CacheData<MemoOfRecursiveMut<F>>` is the cache of `F`. It has no values.
 pub struct MemoOfRecursiveMut<F> {
     function: PhantomData<F>,
 }
@@ -73,9 +72,8 @@ impl<F: RecursiveMut> Memo for MemoOfRecursiveMut<F> {
     } };
 }
 
-/// A run within a run, of a function that writes: what is kept apart until it is finished.
-///
-/// It can't be dropped: a run that failed is finished too, with its fault. This project's own.
+/// A nested run of a function that writes: what is set aside until it is finished. It can't be dropped: a run that
+/// failed is finished too, with its fault.
 pub struct InnerMut<K, T: Track> {
     /// A clone of the key, for the cache.
     pub own: K,
@@ -84,14 +82,11 @@ pub struct InnerMut<K, T: Track> {
 }
 
 impl<'a, 'b, T: Track> RecorderMut<'a, 'b, T> {
-    /// Begins a call of a memoized function that writes: gives the output that its cache keeps where an entry agrees, and
-    /// does its writes again, or a run to be done.
+    /// Begins a nested call of a function that writes: does the writes of an entry that agrees and returns its output,
+    /// or returns a run.
     ///
-    /// On a hit this recorder takes what the entry rests on, and its writes. For a run it records what the run does, from
-    /// nothing on, until the run is finished; what it had recorded is kept apart. Every fault spoils the recording:
-    /// after `Memory` the cache and the value are as they were, after `Write` the value refused a write of a hit, and those
-    /// before it are done. It costs what `begin` costs, with a clone of the key, also
-    /// for a hit. This project's own: the first half of a call of a function under comemo's `#[memoize]`.
+    /// On a hit this recorder takes the entry's path and writes. A run has an empty recording; that of this recorder is
+    /// set aside until `finish`.
     pub fn begin<G: Memo<Call = T::Call, Answer = T::Answer>, H: Hold<G>>(
         &mut self,
         cache: &mut H,
@@ -150,14 +145,8 @@ impl<'a, 'b, T: Track> RecorderMut<'a, 'b, T> {
         Ok(Begun::Run(InnerMut { own, around }))
     }
 
-    /// Finishes a run that was begun here, as it went: with its output, and keeps it, or with its fault.
-    ///
-    /// Output and writes have to be right for all answers that agree with what was recorded since it began. This recorder
-    /// has what it had recorded before, and takes what the run recorded. A fault of the run is handed on; of a run that
-    /// gave an output, `Incomplete` comes where its recording is spoiled, and `Memory` where there was none for what this
-    /// recorder takes. Every fault spoils the recording and leaves the cache as it was; the writes that the run did stay
-    /// done. It costs what `Pending::finish` costs. This project's own: the second half of a call of a function under
-    /// comemo's `#[memoize]`.
+    /// Finishes a nested run by its result: stores its output, or returns its fault. The recording that was set aside
+    /// is back, and takes the run's. Output and writes must be right as in `FunctionMut::run`.
     pub fn finish<G: Memo<Call = T::Call, Answer = T::Answer>, H: Hold<G>>(
         &mut self,
         cache: &mut H,
@@ -204,9 +193,7 @@ impl<'a, 'b, T: Track> RecorderMut<'a, 'b, T> {
         Ok(reply.output)
     }
 
-    /// Finishes a run that was started here, as `finish` does, and gives its reply: whether it was stored, or why not.
-    ///
-    /// A fault is as of `finish`, and it costs the same.
+    /// As `finish`, with the reply: whether the run was stored, or why not.
     pub fn finish_reply<G: Memo<Call = T::Call, Answer = T::Answer>, H: Hold<G>>(
         &mut self,
         cache: &mut H,

@@ -4,7 +4,7 @@ use Rattle.std.specs.Vec.Iter.{into_iter_items}
 use Rattle.comemo_cache.proofs.Writings.{DidWrites}
 use Rattle.comemo.proofs.pending.replay.Given as goal
 
--- the calls left are writes, for which there is room, and those before them were done and given to the sink
+-- the calls left are writes, for which there is room, and those before them were done and sent to the sink
 abbrev pub invariant-loop-write : goal.invariant-loop-write
 invariant-loop-write g l = record {
   serves : (goal.iterator-loop-write g).can_next l.write-iterator × (goal.iterator-loop-write g).is_finite l.write-iterator;
