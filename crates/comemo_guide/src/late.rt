@@ -136,6 +136,7 @@ impl<'a> FunctionMutOf<BothMut<'a, Counter, Counter>> for AddsAndGets {
     ) -> Result<u64, Fault> {
         both.write(MultiCall::A(CounterCall::Add(1)))?;
         match both.ask(MultiCall::B(CounterCall::Get))? {
+            // This does not occur: a question to the second counter has an answer of the second.
             MultiAnswer::A(_) => Ok(0),
             MultiAnswer::B(number) => Ok(number),
         }

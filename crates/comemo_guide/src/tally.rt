@@ -37,6 +37,7 @@ impl<'a> FunctionMutOf<BothMut<'a, Town, Counter>> for Tally {
         both: &mut RecorderMut<'_, '_, BothMut<'a, Town, Counter>>,
         _: &mut (),
     ) -> Result<u64, Fault> {
+        // A question to the first value has an answer of the first, so the other branch does not occur.
         let MultiAnswer::A(degrees) = both.ask(MultiCall::A(TownCall::Degrees))? else {
             unreachable!()
         };
