@@ -31,7 +31,7 @@ impl Call for Get {
     }
 }
 
-/// Numbers: one at each place, and 0 behind the last.
+/// Numbers: one at each place, and 0 after the last.
 #[derive(Drop)]
 pub struct Cells {
     /// The numbers, from place 0 on.
@@ -50,7 +50,7 @@ impl Cells {
         Ok(Cells { numbers })
     }
 
-    /// Puts a number at a place. Nothing changes if the place is behind the last. Does not allocate.
+    /// Puts a number at a place. Nothing changes if the place is after the last. Does not allocate.
     pub fn set(&mut self, place: usize, number: u64) {
         if let Some(cell) = self.numbers.get_mut(place) {
             *cell = number;

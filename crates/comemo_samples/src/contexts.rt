@@ -113,7 +113,7 @@ impl Call for Place {
     }
 }
 
-/// A row of numbers: one at each place, and 0 behind the last.
+/// A row of numbers: one at each place, and 0 after the last.
 #[derive(Drop)]
 pub struct Row {
     /// The numbers, from place 0 on.

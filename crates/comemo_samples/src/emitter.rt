@@ -84,6 +84,7 @@ impl Track for Emitter {
     ghost clones = { λ x y h. Prim.search rules };
 
     fn ask(&self, _call: &EmitterCall) -> Result<(), AllocError> {
+        // Each call is a write, so there is no answer.
         Err(AllocError)
     }
 
