@@ -33,6 +33,7 @@ pub fn numbered<H: Hold<MemoOfRecursive<Fib>>>(
     ensures { TellsOwn ⟦<() as Told>⟧.fits of.old of.new result
         (λ number _. number ≡ fib place % 2 ^ 64) }
 {
+    // These two need no call, so they are not kept.
     if place < 2 {
         return Ok(place);
     }

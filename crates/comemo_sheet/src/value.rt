@@ -14,8 +14,8 @@ use std::alloc::Global;
 
 /// The value of a cell: its number, or the sum of the values of the cells that it refers to.
 ///
-/// The key is a name and the depth up to which it goes. So it ends for cells that refer to each other in a circle: their
-/// value is `None`.
+/// The key is a name and the depth up to which it goes. So it ends for cells that refer to each other in a circle:
+/// their value is `None`.
 pub struct Value;
 
 impl Recursive for Value {
@@ -62,6 +62,7 @@ pub fn valued<H: Hold<MemoOfRecursive<Value>>>(
         Begun::Hit(value) => return Ok(value),
         Begun::Run(run) => run,
     };
+    // The run's own recorder: what is asked through it is stored with the run.
     let recorder = &mut run.recorder;
     let content = recorder.ask(SheetCall::Cell(key.0.clone()?))?;
     let mut total = Some(content.number());
