@@ -92,6 +92,7 @@ impl Track for Log {
     ghost clones = { λ x y h. Prim.search rules };
 
     fn ask(&self, _call: &Warning) -> Result<(), AllocError> {
+        // Each call is a write, so there is no answer.
         Err(AllocError)
     }
 

@@ -53,6 +53,7 @@ pub fn rendered<P: Hold<MemoOfRecursive<Render>>, T: Hold<MemoOf<Title>>>(
         Begun::Hit(text) => return Ok(text),
         Begun::Run(run) => run,
     };
+    // The run's own recorder: what is asked through it is stored with the run.
     let recorder = &mut run.recorder;
     let answer = recorder.ask(SiteCall::LinesOf(key.0.clone()?))?;
     let mut text = String::new(alloc);
