@@ -1,4 +1,4 @@
-//! Holders of a shared cache of which one step is dead: it is done on a new cache, which is then forgotten.
+//! Holders of a shared cache with one dead step: it is done on a new cache, which is then dropped.
 ghost use Rattle.std.specs.Prelude.{◌≡◌, Option, None, true, false, IfErr, OnOk, OnErr};
 ghost use Rattle.std.specs.List.{All};
 ghost use Rattle.comemo.specs.Lookup.{under};

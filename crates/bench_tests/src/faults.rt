@@ -1,27 +1,27 @@
-//! Machines that do one kind of step wrongly are found to.
+//! Machines that do one kind of step wrong are found out.
 
 use bench_rows::{Anything, Machine, PlainList, compare};
 use comemo::internal::{Step, StepReply};
 use std::alloc::{AllocError, Global};
 
-/// What a machine does wrongly.
+/// What a machine does wrong.
 #[derive(Clone, Copy, Drop, Debug)]
 enum Wrong {
     /// Nothing.
     Nothing,
-    /// It keeps what is as old as the bound.
+    /// Keeps entries as old as the bound.
     KeepsTheBound,
-    /// It leaves the age of what is touched.
+    /// Doesn't reset the age of a touched entry.
     ForgetsTouches,
-    /// It stores without the writes.
+    /// Stores without the writes.
     ForgetsWrites,
-    /// It says that a call is missing where a path exists.
+    /// Reports a missing call when a path exists.
     ConfusesRefusals,
-    /// It gives what it finds as young.
+    /// Reports each entry that it finds with age 0.
     HidesAges,
 }
 
-/// A plain list, but for one kind of step.
+/// A plain list, except for one kind of step.
 #[derive(Drop)]
 struct Faulty {
     list: PlainList,
@@ -29,7 +29,7 @@ struct Faulty {
 }
 
 impl Faulty {
-    /// The list's reply to the step that is taken in the place of a step.
+    /// The list's reply to the step that replaces this one.
     fn reply(
         &mut self,
         alloc: Global,
@@ -80,7 +80,7 @@ impl Machine for Faulty {
     }
 }
 
-/// The first step to which a cache and a machine with this fault don't answer alike.
+/// The first step at which a cache and a machine with this fault differ.
 fn first_found(alloc: Global, wrong: Wrong) -> Option<u32> {
     let list = PlainList::new(alloc);
     compare(alloc, Faulty { list, wrong }, 1, 10_000)

@@ -1,4 +1,4 @@
-//! A holder of a shared cache that is overtaken: an eviction falls between each look-up and what comes after it.
+//! A holder of a shared cache that is overtaken: an eviction occurs between each look-up and the step after it.
 ghost use Rattle.std.specs.Prelude.{◌≡◌, Option, None, true, false, IfErr, OnOk, OnErr};
 ghost use Rattle.std.specs.List.{All};
 ghost use Rattle.comemo.specs.Lookup.{under};

@@ -1,4 +1,4 @@
-//! What the program of the rows prints, and its status.
+//! The output of the program of the rows, and its status.
 
 use bench_rows::{Broken, Outcome, run_rows, start};
 use std::alloc::{AllocError, Global};
@@ -7,7 +7,7 @@ use std::rt::Clock;
 use std::sync::Wait;
 use std::thread::Threads;
 
-/// Takes as many bytes as it has room for, then fails.
+/// Takes as many bytes as it has room for, and then fails.
 #[derive(Drop)]
 struct Full {
     taken: Vec<u8>,
@@ -39,8 +39,8 @@ fn owned(alloc: Global, words: &[&str]) -> Result<Vec<String>, AllocError> {
     Ok(owned)
 }
 
-/// Whether the program, called with these words and with so much room for what it prints and for what it says, has this
-/// status, prints this, and says that of what it was called with.
+/// Whether the program with these words, and with this room for its output and its errors, has this status, this output
+/// and these errors.
 fn runs<R: Threads + Wait + Clock + Sync>(
     rt: &R,
     alloc: Global,
@@ -62,7 +62,7 @@ fn runs<R: Threads + Wait + Clock + Sync>(
     is_status && is_printed && is_said
 }
 
-/// Whether the first row that fails is named, of which this became, and no other.
+/// Whether the first row that fails, with this result, is named, and no other.
 fn names_the_first(alloc: Global, wrong: Result<bool, Broken>) -> bool {
     let mut rows = Outcome::new();
     rows.row("1", Ok(true));
@@ -96,12 +96,12 @@ fn a_row_that_fails_after_the_others_is_named(rt: HostRuntime) {
 #[test]
 fn fuzz_and_threads_end_well(rt: HostRuntime) {
     let calls: &[(&[&str], &str)] = &[
-        // A cache and a plain list answer alike.
+        // A cache and a plain list give the same answers.
         (&["fuzz", "1", "10000"], "fuzz ok\n"),
         (&["fuzz", "2", "10000"], "fuzz ok\n"),
         (&["fuzz", "18446744073709551615", "0010"], "fuzz ok\n"),
         (&["fuzz", "0", "0"], "fuzz ok\n"),
-        // Workers are right.
+        // The workers' outputs are right.
         (&["threads", "1", "0"], "threads ok\n"),
         (&["threads", "8", "1000"], "threads ok\n"),
         (&["threads", "16", "2000"], "threads ok\n"),
@@ -112,7 +112,7 @@ fn fuzz_and_threads_end_well(rt: HostRuntime) {
     }
 }
 
-/// How the program is called.
+/// The program's usage.
 const USAGE: &str = "usage: bench rows | fuzz SEED STEPS | threads WORKERS CALLS\n";
 
 #[test]

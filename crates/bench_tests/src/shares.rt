@@ -1,11 +1,11 @@
-//! A hit of a share of a cache: its reads go to the sink as reads, and its writes as writes.
+//! A hit of a share of a cache sends its reads to the sink as reads, and its writes as writes.
 
 use comemo::{BothMut, Cache, Constraint, Hold, How, MultiAnswer, MultiCall, memoized_mut_with};
 use comemo_guide::tally::Tally;
 use comemo_samples::{Counter, CounterCall, Town, TownCall};
 use std::alloc::Global;
 
-/// Whether this becomes of a tally of 21 degrees, which reads them alone, and adds them to a counter once.
+/// Whether a tally of 21 degrees ends as `how`, reads them alone, and adds them to a counter once.
 fn is_tallied<H: Hold<Tally>>(alloc: Global, cache: &mut H, how: How) -> bool {
     let mut town = Town {
         people: 900,

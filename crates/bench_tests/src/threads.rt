@@ -1,4 +1,4 @@
-//! Workers that share a cache, and holders that do a step wrongly.
+//! Workers that share a cache, and holders that do a step wrong.
 
 use crate::dead::{Dead, Step};
 use crate::overtaken::Overtaken;
@@ -74,7 +74,7 @@ fn an_eviction_reaches_all_keys(rt: HostRuntime) -> Result<(), Fail> {
     Ok(())
 }
 
-/// Whether the double of 7 is given, and this becomes of the call.
+/// Whether a call returns the double of 7, and ends as `how`.
 fn doubles_seven<H: Hold<MemoOf<Double>>>(alloc: Global, held: &mut H, how: How) -> bool {
     let nothing = ();
     let view = nothing.track(alloc);
@@ -84,7 +84,7 @@ fn doubles_seven<H: Hold<MemoOf<Double>>>(alloc: Global, held: &mut H, how: How)
     }
 }
 
-/// The age of the entry that has the double of 7.
+/// The age of the entry for the double of 7.
 fn age_of_seven<H: Hold<MemoOf<Double>>>(cache: &mut H) -> Option<usize> {
     match cache.look(&7, &mut Hashed(7)) {
         Ok(Some(found)) => Some(found.age),
@@ -144,7 +144,7 @@ fn a_holder_that_does_not_touch_is_found(rt: HostRuntime) -> Result<(), Fail> {
     Ok(())
 }
 
-/// Evicts a cache, and then writes its number to a list.
+/// Evicts a cache, and then appends its number to a list.
 #[derive(Drop)]
 struct Numbered<M: Memo, R: Wait + Drop> {
     evictor: Evictor<M, R>,
@@ -177,7 +177,7 @@ impl<M: Memo, R: Wait + Drop + Clone> Numbered<M, R> {
     }
 }
 
-/// Whether the output that is nothing is given, and this becomes of the call.
+/// Whether a call of `Null` returns its output, and ends as `how`.
 fn gives_nothing<H: Hold<MemoOf<Null>>>(alloc: Global, held: &mut H, how: How) -> bool {
     let nothing = ();
     let view = nothing.track(alloc);
@@ -221,7 +221,8 @@ fn an_eviction_that_overtakes_a_hit_comes_before_or_after_its_touch(rt: HostRunt
         rt: &rt,
         max_age: 3,
     };
-    // Of age 0 it was as good as touched before the eviction; of age 1 it is looked for twice, and touched after the next two.
+    // An entry of age 0 counts as touched before the eviction. One of age 1 is looked up twice, and touched after the
+    // next two evictions.
     for age in [1, 0] {
         assert!(rt; doubles_seven(alloc, overtaken, How::Hit));
         assert!(rt; age_of_seven(held) == Some(age));

@@ -1,4 +1,4 @@
--- For a caller of `size`: a size that was stored is found again, as long as the text at the path is the same.
+-- For a caller of `size`: a stored size is found again, as long as the text at the path is the same.
 use Rattle.std.proofs.Common.{◌≡◌, ◌≢◌, ◌∙◌, Bool, not, ℕ, List, [], ◌∷◌, ◌++◌, IsTrue, is_some, String, string_bytes, string_eq, refl, sym, subst, inl, inr, rules}
 use Rattle.std.specs.Prelude.{bytes_eq, if◌then◌else◌}
 use Rattle.std.specs.Bool.{⊤}
@@ -33,7 +33,7 @@ use Rattle.calc_files.proofs.FileCalls.{key_bytes, key_alike}
 use Rattle.calc_files.proofs.JoinedCalls.{tests}
 
 module _ {C R : Type 0} {eq : C → C → Bool} {same : R → R → Bool} (calls : IsEquivalence eq) (answers : IsEquivalence same) (m : C → R) (respects : Respects eq same m) where
-  -- answers that agree with a sequence agree with a pair that it has
+  -- answers that agree with a sequence agree with each pair that it has
   agrees_has : (s : List (C × R)) (p : C × R) → Agrees same m s → Has eq same s p → IsTrue (same (m p.0) p.1)
   agrees_has [] p a h = absurd h
   agrees_has (q ∷ s) p a h =
@@ -55,13 +55,13 @@ module _ {C R : Type 0} {eq : C → C → Bool} {same : R → R → Bool} (calls
   agrees_both [] qs a b = b
   agrees_both (p ∷ ps) qs a b = (a.0, agrees_both ps qs a.1 b)
 
-  -- answers that agree with a sequence agree with the path that is stored of it
+  -- answers that agree with a sequence agree with the path that is stored for it
   pub agrees_stored : {K T : Type 0} (us : List (Stored K C R T)) (s path : List (C × R)) → IsNewPath eq same us s path → Agrees same m s → Agrees same m path
   agrees_stored us s path n a =
       let front : Agrees same m n.0 = elim n.1 [ inl none ↦ subst (λ ps. Agrees same m ps) (sym none.1) tt | inr some ↦ agrees_among s n.0 a some.0 ] in
       subst (λ ps. Agrees same m ps) (sym n.2) (agrees_both n.0 (outside eq n.0 s) front (agrees_filter (λ p. not (is_some (lookup (eq p.0) n.0))) s a))
 
--- the same read is answered alike where the text at its path is the same
+-- the same read has the same answer if the text at its path is the same
 read_again : (files files' : Files) (path : List ℕ) (own : String Global) (text : List ℕ) → string_bytes own ≡ path → text_at files' path ≡ text_at files path → (pairs : List (JoinedCall × JoinedAnswer)) → pairs ≡ (second_call (Read own), second_answer text) ∷ [] → Agrees same_answer (with_key (answers_of files)) pairs → Agrees same_answer (with_key (answers_of files')) pairs
 read_again files files' path own text named stays pairs alone agrees =
     let there : text_at files' (string_bytes own) ≡ text_at files (string_bytes own) = subst (λ p. text_at files' p ≡ text_at files p) (sym named) stays in
@@ -93,7 +93,7 @@ stored_is_found {files = files} {files' = files'} {path = path} {es = es} {mid =
           ]
     ]
 
--- the text at a path stays where a text is written to another one
+-- the text at a path is unchanged if a text is written to another path
 pub text_stays : (files files' : Files) (path : List ℕ) (other text : String Global) → string_bytes other ≢ path → ((q : List ℕ) → text_at files' q ≡ (if bytes_eq q (string_bytes other) then string_bytes text else text_at files q)) → text_at files' path ≡ text_at files path
 text_stays files files' path other text apart wrote =
     elim (cases_Bool (bytes_eq path (string_bytes other))) [

@@ -3,7 +3,7 @@ use calc_commands::{Answer, Command};
 use calc_scripts::CalcFault;
 use std::alloc::Global;
 
-/// Whether what a line asks for prints so.
+/// Whether the command of a line prints so.
 fn asks(alloc: Global, line: &str, want: &str) -> bool {
     let Ok(found) = Command::parse(alloc, line) else {
         return false;

@@ -18,7 +18,8 @@ fn files_with(alloc: Global, texts: &[(&str, &str)]) -> Result<Files, AllocError
     Ok(files)
 }
 
-/// Whether a script comes to this under a limit, with so many reads recorded, or to nothing, with the recording spoiled.
+/// Whether a script has this result under a limit, with this many reads recorded, or fails, with the recording
+/// incomplete.
 fn comes_to(
     alloc: Global,
     cache: &mut CacheData<Eval>,
@@ -38,8 +39,8 @@ fn comes_to(
     came == want && is_whole == came.is_ok() && (came.is_err() || recorded.slots().len() == reads)
 }
 
-/// Whether a script comes to this from this height on, by a run and then by a hit. Below it, it is too deep: before the
-/// run, with nothing kept of it, and after the run.
+/// Whether a script has this result from this height on, by a run and then by a hit. Below it, the script is too deep,
+/// both before the run, when nothing is stored, and after it.
 fn has_height(alloc: Global, files: &Files, script: &str, outcome: Outcome, reads: usize) -> bool {
     let mut cache = CacheData::new(alloc);
     let cache = &mut cache;

@@ -114,7 +114,7 @@ fn of_calc_evaluation(rt: HostRuntime) -> Result<(), Fail> {
     )?;
     assert_eq!(rt; (outer.output.value, outer.output.height), (Ok(3), 3));
 
-    // What the run called is kept too.
+    // What the run called is stored too.
     let inner = evaluate(
         alloc,
         &mut cache,

@@ -1,4 +1,4 @@
-//! The memoized size of a file: how many bytes it has, and what it is kept through.
+//! The memoized size of a file: its length in bytes, and after which changes it is still a hit.
 ghost use Rattle.std.specs.Prelude.{◌≡◌, ◌≢◌, string_bytes, IfOk};
 
 use calc_files::{FileSize, Files, size};
@@ -6,7 +6,7 @@ use comemo::{CacheData, Fault, How, Reply, Top, Track};
 use std::alloc::{AllocError, Global};
 use std::test::Fail;
 
-/// The size of the file at a path, asked before a text was written to another path and after it.
+/// The size of the file at a path, before and after a text is written to another path.
 fn sized_around_a_write(
     alloc: Global,
     cache: &mut CacheData<FileSize>,

@@ -1,10 +1,10 @@
-//! Lines that nobody would write: of random bytes, very long ones, and files that ask for one another in a circle.
+//! Lines that nobody would write: random bytes, very long lines, and files that refer to each other in a circle.
 
 use calc_lines::RunFault;
 use calc_sessions::run;
 use std::alloc::{AllocError, Global};
 
-/// Numbers that look random, from a seed.
+/// Pseudorandom numbers from a seed.
 #[derive(Drop)]
 struct Numbers {
     state: u64,
@@ -20,7 +20,7 @@ impl Numbers {
     }
 }
 
-/// Adds a line of random bytes that are UTF-8, of which the first begins no command.
+/// Adds a line of random bytes that are UTF-8, and begin no command.
 fn add_line(lines: &mut Vec<u8>, numbers: &mut Numbers) -> Result<(), AllocError> {
     lines.push(b'~')?;
     for _ in 0..numbers.below(40) {
@@ -35,7 +35,7 @@ fn add_line(lines: &mut Vec<u8>, numbers: &mut Numbers) -> Result<(), AllocError
     Ok(lines.push(b'\n')?)
 }
 
-/// So many of these lines, from a seed.
+/// This many of these lines, from a seed.
 fn random_lines(alloc: Global, seed: u64, count: usize) -> Result<Vec<u8>, AllocError> {
     let mut numbers = Numbers { state: seed };
     let mut lines = Vec::new(alloc);
@@ -45,7 +45,7 @@ fn random_lines(alloc: Global, seed: u64, count: usize) -> Result<Vec<u8>, Alloc
     Ok(lines)
 }
 
-/// A text, so many times over.
+/// A text, repeated this many times.
 fn repeated(alloc: Global, text: &str, count: usize) -> Result<Vec<u8>, AllocError> {
     let mut whole = Vec::new(alloc);
     for _ in 0..count {
@@ -54,7 +54,7 @@ fn repeated(alloc: Global, text: &str, count: usize) -> Result<Vec<u8>, AllocErr
     Ok(whole)
 }
 
-/// Whether a new session that is given these bytes comes to this, and prints that.
+/// Whether a new session over these bytes has this result, and prints that.
 fn prints(alloc: Global, lines: &[u8], came_to: Result<(), RunFault>, wanted: &[u8]) -> bool {
     let mut printed: Vec<u8> = Vec::new(alloc);
     let mut reader = lines;
@@ -62,8 +62,8 @@ fn prints(alloc: Global, lines: &[u8], came_to: Result<(), RunFault>, wanted: &[
     is_so && printed.as_slice() == wanted
 }
 
-/// Whether each of so many random lines is said to be no command, also where one that is not UTF-8 ends the session
-/// behind them.
+/// Whether each of this many random lines is answered as no command, even if a line that is not UTF-8 ends the session
+/// after them.
 fn are_bad(alloc: Global, seed: u64, count: usize) -> bool {
     let Ok(mut lines) = random_lines(alloc, seed, count) else {
         return false;
@@ -93,8 +93,8 @@ fn random_lines_are_no_commands(rt: HostRuntime) {
     }
 }
 
-/// Whether a line is answered so that begins in this way and goes on with a text, so many times over, after which
-/// another line stands.
+/// Whether the answer to a line begins in this way, goes on with a text, repeated this many times, and is followed by
+/// another line.
 fn is_answered(
     alloc: Global,
     (front, part, count): (&str, &str, usize),
@@ -134,7 +134,7 @@ fn long_lines_are_answered(rt: HostRuntime) {
     }
 }
 
-/// The lines that have each of so many files ask for the one before it, and the first for the last.
+/// Lines that make each of this many files refer to the one before it, and the first to the last.
 fn files_in_a_circle(alloc: Global, count: u32) -> Result<String, AllocError> {
     let mut lines = format!(in alloc; "write f0 eval f{count}\n")?;
     for before in 0..count {
@@ -145,8 +145,8 @@ fn files_in_a_circle(alloc: Global, count: u32) -> Result<String, AllocError> {
     Ok(lines)
 }
 
-/// Whether a script in a circle of files is too deep, and has a value once a number stands in the circle near enough,
-/// which is kept for the scripts on the way too, and stays when another file changes.
+/// Whether a script in a circle of files is too deep, and has a value once a number in the circle is near enough. The
+/// value is then also stored for the scripts on the way, and stays when another file changes.
 fn is_too_deep(alloc: Global) -> bool {
     let Ok(mut lines) = files_in_a_circle(alloc, 10_000) else {
         return false;

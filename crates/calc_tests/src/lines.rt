@@ -1,11 +1,11 @@
-//! The line loop: which lines it asks, what it writes, and what stands after each fault.
+//! The line loop: which lines it asks, what it writes, and what holds after each fault.
 use calc_lines::{RunFault, Session, run, start};
 use std::alloc::{AllocError, Global};
 use std::io::{BufReader, Error, ErrorKind, Read, Result as IoResult, Write};
 use std::slice;
 use std::test::Fail;
 
-/// Answers `>LINE` for each line, prints nothing for `quiet`, and has no memory for `large`.
+/// Answers `>LINE` for each line, prints nothing for `quiet`, and is out of memory for `large`.
 #[derive(Drop)]
 struct Echo {
     alloc: Global,
@@ -33,7 +33,7 @@ impl Session for Echo {
     }
 }
 
-/// Gives its first bytes, fails once in this way, and then gives the others.
+/// Returns its first bytes, fails once in this way, and then returns the others.
 #[derive(Drop)]
 struct Torn<'a> {
     front: &'a [u8],
@@ -53,7 +53,7 @@ impl Read for Torn<'_> {
     }
 }
 
-/// Takes as many bytes as it has room for, then fails, or takes none where that is so wanted.
+/// Takes as many bytes as it has room for, and then fails, or takes none if that is wanted.
 #[derive(Drop)]
 struct Full {
     taken: Vec<u8>,
@@ -77,7 +77,7 @@ impl Write for Full {
     }
 }
 
-/// Takes one byte at a time, and before each is broken off by a signal.
+/// Takes one byte at a time, and before each is interrupted by a signal.
 #[derive(Drop)]
 struct Slow {
     taken: Vec<u8>,
@@ -171,8 +171,8 @@ fn a_failed_write_or_a_line_that_is_no_text_ends_the_run(rt: HostRuntime) {
     }
 }
 
-/// Whether a run over an input that fails once in this way ends with this fault, and a second one answers all that
-/// comes after the line that was lost.
+/// Whether a run over an input that fails once in this way ends with this fault, and a second run answers everything
+/// after the lost line.
 fn loses_one(alloc: Global, kind: ErrorKind, fault: RunFault) -> bool {
     let torn = Torn {
         front: b"a\nquiet\nb\nlo",
@@ -225,8 +225,8 @@ fn a_slow_writer_gets_all(rt: HostRuntime) {
     assert!(rt; is_well && is_whole);
 }
 
-/// Whether a program with these words, over an input that fails in this way if in any, and with writers of this room
-/// for its answers and for its errors, has this status, and wrote these texts.
+/// Whether a program with these words, over an input that fails in this way, if any, and with writers of this room for
+/// its output and its errors, has this status, and wrote these texts.
 fn starts(
     alloc: Global,
     words: &[String],
@@ -279,7 +279,7 @@ fn starts_and_says_what_failed(rt: HostRuntime) -> Result<(), Fail> {
         (b"a\n", memory, 9, 99, 1, ">a\n", "echo: out of memory\n"),
         (b"a\n", None, 2, 99, 1, ">a", "echo: cannot write\n"),
         (b"", end, 9, 99, 1, "", "echo: cannot read\n"),
-        // A failure of the errors changes no status.
+        // A failure to write errors changes no status.
         (b"\xff", None, 9, 3, 1, "", "ech"),
     ];
     for (input, fault, room, errors_room, status, wrote, said) in cases {

@@ -1,9 +1,9 @@
-//! The parts of a script, and what they add up to.
+//! The parts of a script, and their sum.
 use CalcFault::{NotANumber, Overflow};
 use Part::{Bad, Eval, Number};
 use calc_scripts::{CalcFault, Outcome, Part, Parts, Total};
 
-/// Whether these are the parts of a script, and all of them.
+/// Whether a script has exactly these parts.
 fn has_parts(script: &str, want: &[Part<'_>]) -> bool {
     let mut parts = Parts::new(script);
     for part in want {
@@ -34,7 +34,7 @@ fn numbers_and_calls_are_parts(rt: HostRuntime) {
             &[Number(1), Eval("ö.calc"), Eval("-")],
         ),
         ("eval eval a", &[Eval("eval a")]),
-        // Each plus cuts.
+        // Each plus separates two parts.
         ("+", &[Bad, Bad]),
         (" + ", &[Bad, Bad]),
         ("+5", &[Bad, Number(5)]),
@@ -91,7 +91,7 @@ fn a_total_counts_the_highest_part(rt: HostRuntime) {
     assert!(rt; is_first && is_second && is_third && is_whole);
 }
 
-/// Whether a part of this value is refused so after a part of 1, and the whole then has this value where it ends so.
+/// Whether a part of this value fails with `fault` after a part of 1, and the whole then has this value with this end.
 fn refuses(
     value: Result<i32, CalcFault>,
     fault: CalcFault,

@@ -1,10 +1,10 @@
-//! The program from its words on: its status, and what it writes.
+//! The program from its words on: its status and its output.
 use calc_sessions::start;
 use std::alloc::Global;
 use std::slice;
 use std::test::Fail;
 
-/// Whether a program with these words over this input has this status, writes this, and says this on its errors.
+/// Whether a program with these words over this input has this status, this output, and these errors.
 fn starts(
     alloc: Global,
     words: &[String],
@@ -28,7 +28,7 @@ fn starts_well_or_says_what_failed(rt: HostRuntime) -> Result<(), Fail> {
     let cases: &[(&[u8], u8, &str, &str)] = &[
         (b"", 0, "", ""),
         (b"size a\nsize a\n", 0, "miss 0\nhit 0\n", ""),
-        // A session answered by the original: a first line that is no text.
+        // A session that the original answered: its first line is not UTF-8.
         (b"\xff\n", 1, "", "calc: not UTF-8\n"),
         (
             b"size a\nsize a\nsize \xff\nsize a\n",

@@ -1,4 +1,4 @@
-//! Texts that are shared.
+//! Shared texts.
 use calc_files::Text;
 use std::alloc::{AllocError, Global};
 use std::cmp::Ordering;
@@ -8,7 +8,7 @@ fn shared(alloc: Global, text: &str) -> Result<Text, AllocError> {
     Text::new(String::from_str(alloc, text)?)
 }
 
-/// Whether a clone of a text reads so, with so many bytes, and prints so, after the text is gone.
+/// Whether a clone of a text reads so, with this length in bytes, and prints so, after the text is dropped.
 fn reads(alloc: Global, text: &str, len: usize, printed: &str) -> bool {
     let Ok(first) = shared(alloc, text) else {
         return false;
@@ -24,8 +24,8 @@ fn reads(alloc: Global, text: &str, len: usize, printed: &str) -> bool {
     is_same && copy.as_str() == text && copy.len() == len && shown.as_str() == printed
 }
 
-/// Whether two texts are equal or not, as said, and have one hash where they are. Of two that differ one is less, and which
-/// is not told.
+/// Whether two texts are equal or not, as wanted, and have the same hash exactly if they are equal. Of different ones
+/// one must be less than the other, whichever.
 fn are_alike(alloc: Global, left: &str, right: &str, is_alike: bool) -> bool {
     let Ok(left) = shared(alloc, left) else {
         return false;

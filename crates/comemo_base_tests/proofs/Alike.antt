@@ -1,4 +1,4 @@
--- No definition tells equal keys, calls or answers apart.
+-- No definition distinguishes equal keys, calls or answers.
 use Rattle.std.proofs.Common.{◌≡◌, ◌∙◌, sym, Bool, true, false, List, [], ◌∷◌, inl, inr, IsTrue, Option, Some, None}
 use Rattle.std.proofs.lemmas.Bool.{cases_Bool}
 use Rattle.std.proofs.lemmas.List.Elements.{All-weaker}
@@ -15,7 +15,7 @@ use Rattle.comemo_base.proofs.Under.{Any-weaker}
 use Rattle.comemo_base.proofs.Paths.{turned, joined, IsSamePath-turned}
 use Rattle.comemo_base_tests.specs.Laws.{AgreesAlike, HasDistinctCallsAlike, PartsAlike, FindsAlike, ExistsAlike, MissesAlike}
 
--- both are nothing, or they are equal
+-- both are none, or their items are equal
 abbrev pub IsSameOption : {R : Type 0} → (R → R → Bool) → Option R → Option R → Type 0
 IsSameOption same None None = Unit {0}
 IsSameOption same None (Some b) = ⊥

@@ -1,4 +1,4 @@
--- No definition of look-ups, of insertions and of trees tells equal keys, calls or answers apart.
+-- No definition of look-ups, insertions or trees distinguishes equal keys, calls or answers.
 use Rattle.std.proofs.Common.{◌≡◌, ◌<◌, ℕ, zero, suc, refl, sym, ap, subst, Bool, List, [], ◌∷◌, ◌++◌, length, get_or, inl, inr, arith, IsTrue, Option, Some, None}
 use Rattle.std.proofs.lemmas.List.Elements.{All-weaker}
 use Rattle.std.specs.List.{AllZip}

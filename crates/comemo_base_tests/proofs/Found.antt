@@ -1,4 +1,4 @@
--- After a value was stored, a look-up whose answers agree with its sequence finds that value.
+-- A look-up whose answers agree with a stored sequence finds its value.
 use Rattle.std.proofs.Common.{◌≡◌, ◌∙◌, refl, sym, ap, Bool, List, [], ◌∷◌, ◌++◌, inl, inr, get_or, arith, IsTrue, Option, Some, None, subst}
 use Rattle.std.proofs.lemmas.Bool.{cases_Bool}
 use Rattle.std.proofs.lemmas.List.Elements.{All-cons}

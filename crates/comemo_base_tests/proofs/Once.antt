@@ -1,4 +1,4 @@
--- A look-up whose oracle answers one call and refuses every later one.
+-- A look-up with an oracle that answers one call and fails at every later one.
 use Rattle.std.proofs.Common.{◌≡◌, ◌∙◌, ◌++◌, arith, refl, sym, ap, Bool, true, false, List, [], ◌∷◌, ◌⊎◌, inl, inr, Option, Some, None, Result, Ok, Err, IfOk, IfErr, IfSome, IfNone, is_err, subst}
 use Rattle.std.specs.List.{All, Any}
 use Rattle.std.specs.Fn.{Mut, CalledAt}
@@ -8,7 +8,7 @@ use Rattle.comemo_base.specs.Tree.{Stored, IsSamePath, IsFront}
 use Rattle.comemo_base.specs.Lookup.{Answered, LooksUp, IsLookupRefused, IsNext, IsAskedFront}
 use Rattle.comemo_base_tests.specs.Refusals.{GoesOnAfter, IsAnsweredBy, LacksAnswer}
 
--- the oracle answers what is left, once, and notes a refusal
+-- the oracle answers once, with what is left, and then fails and notes it
 pub record AnswersOnce {O C R : Type 0} (g : Mut O (Bor C × Unit {0}) (Result R AllocError)) (left : O → Option R) (refused : O → Bool) : Type 0 where
   pub given : (f f' : O) (x : C) (r : R) → CalledAt g f x (Ok r) f' → (left f ≡ Some r) × (left f' ≡ None) × (refused f' ≡ refused f)
   pub refuses : (f f' : O) (x : C) (e : AllocError) → CalledAt g f x (Err e) f' → (left f ≡ None) × (refused f' ≡ true)
@@ -34,7 +34,7 @@ module _ {C R : Type 0} (eq : C → C → Bool) (same : R → R → Bool) (answe
   GoesOnAfter-next x call (q ∷ []) a k = absurd k.2
   GoesOnAfter-next x call (q ∷ (p ∷ qs)) a k = ap (λ z. same z q.1) (sym a) ∙ k.1
 
--- what a look-up with such an oracle tells: whether it noted a refusal, what it was refused after, and what it found
+-- a look-up with such an oracle: whether the oracle noted a failure, after which calls it failed, and what was found
 pub record Told {C R K T B : Type 0} (eq : C → C → Bool) (same : R → R → Bool) (answer : R) (us : List (Stored K C R T)) (value : B → Option T) (r : Result B AllocError) (refused : Bool) : Type 0 where
   pub noted : is_err r ≡ refused
   pub goes_on : IfErr r (λ _. Any (λ e. GoesOnAfter same answer e.path) us)
@@ -54,7 +54,7 @@ module _ {O C R : Type 0} (g : Mut O (Bor C × Unit {0}) (Result R AllocError)) 
       let e = (once.given h.0 h.2.0 y.0 y.1 h.2.1).0 in
       cc
 
-  -- where it is refused next, it was answered once
+  -- if it fails next, it was answered once
   after : (eq : C → C → Bool) (same : R → R → Bool) (asked : List (C × R)) (f at : O) (call : C) (path : List (C × R)) → left f ≡ Some answer → Answered g f asked at → left at ≡ None → IsNext eq same asked call path → GoesOnAfter same answer path
   after eq same [] f at call path some h none k = let e : left f ≡ None = ap left h ∙ none in cc
   after eq same (x ∷ []) f at call path some h none k = GoesOnAfter-next eq same answer x call path (one_given (x ∷ []) f at some h).0 k
@@ -100,7 +100,7 @@ module _ {O C R : Type 0} (g : Mut O (Bor C × Unit {0}) (Result R AllocError)) 
         let k = h.refused in
         (k.0, k.1, k.2, k.3, after eq same h.asked f h.at h.call k.1.path some h.answered (once.refuses h.at f' h.call e h.called).0 k.4)
 
-    -- what a look-up by such an oracle tells
+    -- the result of a look-up with such an oracle
     module _ {B : Type 0} (value : B → Option T) (r : Result B AllocError) (asked : IfOk r (λ b. LooksUp g eq same us f f' (value b))) (refuses : IfErr r (λ e. IsLookupRefused g eq same us f e f')) where
       pub told : Told eq same answer us value r (refused f')
       told = elim r as (λ r. IfOk r (λ b. LooksUp g eq same us f f' (value b)) → IfErr r (λ e. IsLookupRefused g eq same us f e f') → Told eq same answer us value r (refused f')) [

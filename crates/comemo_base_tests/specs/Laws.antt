@@ -1,4 +1,4 @@
--- What it means that no definition tells equal keys, calls or answers apart, said of each definition.
+-- For each definition: it does not distinguish equal keys, calls or answers.
 use Rattle.std.specs.Prelude.{◌≡◌, ◌↔◌, Bool, List, IsTrue, Option, Some, None}
 use Rattle.std.specs.List.{AllZip}
 use Rattle.comemo_base.specs.Answers.{Respects, Agrees}
@@ -8,7 +8,7 @@ use Rattle.comemo_base.specs.Lookup.{under, IsNext, IsAsked, IsRefused, FindsAgr
 use Rattle.comemo_base.specs.Insertion.{Exists, Misses, IsStem, IsNewPath, outside}
 
 module _ {C R : Type 0} (eq : C → C → Bool) (same : R → R → Bool) where
-  -- Answers that tell no equal calls apart agree with both of two equal paths, or with neither.
+  -- Answers that are the same for equal calls agree with both of two equal paths, or with neither.
   abbrev pub AgreesAlike : Type 0
   AgreesAlike = (m : C → R) (ps qs : List (C × R)) → Respects eq same m → IsSamePath eq same ps qs → Agrees same m ps ↔ Agrees same m qs
 
@@ -20,40 +20,40 @@ module _ {C R : Type 0} (eq : C → C → Bool) (same : R → R → Bool) where
   abbrev pub HeldAlike : Type 0
   HeldAlike = (ps qs : List (C × R)) (a b : C) → IsSamePath eq same ps qs → IsTrue (eq a b) → held eq ps a ≡ held eq qs b
 
-  -- What is absorbed by equal pairs of equal pairs is equal.
+  -- Equal sequences that absorb equal pairs stay equal.
   abbrev pub AbsorbedAlike : Type 0
   AbsorbedAlike = (ps ps' qs qs' : List (C × R)) → IsSamePath eq same ps ps' → IsSamePath eq same qs qs' → IsSamePath eq same (absorbed eq ps qs) (absorbed eq ps' qs')
 
-  -- What equal sequences have outside equal fronts is equal.
+  -- The pairs of equal sequences outside equal prefixes are equal.
   abbrev pub OutsideAlike : Type 0
   OutsideAlike = (ps ps' s s' : List (C × R)) → IsSamePath eq same ps ps' → IsSamePath eq same s s' → IsSamePath eq same (outside eq ps s) (outside eq ps' s')
 
-  -- Where two paths part, so do any two that are equal to them.
+  -- If two paths part, so do any two that are equal to them.
   abbrev pub PartsAlike : Type 0
   PartsAlike = (ps ps' qs qs' : List (C × R)) → IsSamePath eq same ps ps' → IsSamePath eq same qs qs' → Parts eq same ps qs ↔ Parts eq same ps' qs'
 
-  -- Where a path is a front of another, so is any that is equal to it of any that is equal to the other.
+  -- If a path is a prefix of another, so is any path equal to it of any path equal to the other.
   abbrev pub IsFrontAlike : Type 0
   IsFrontAlike = (ps ps' qs qs' : List (C × R)) → IsSamePath eq same ps ps' → IsSamePath eq same qs qs' → IsFront eq same ps qs ↔ IsFront eq same ps' qs'
 
-  -- After equal fronts of equal paths, equal calls are next.
+  -- After equal prefixes of equal paths, equal calls are next.
   abbrev pub IsNextAlike : Type 0
   IsNextAlike = (ps ps' qs qs' : List (C × R)) (a b : C) → IsSamePath eq same ps ps' → IsTrue (eq a b) → IsSamePath eq same qs qs' → IsNext eq same ps a qs ↔ IsNext eq same ps' b qs'
 
   module _ (K T : Type 0) where
-    -- A look-up that asks one of two equal lists finds what one that asks the other finds.
+    -- Look-ups that ask equal lists find the same.
     abbrev pub IsAskedAlike : Type 0
     IsAskedAlike = (us : List (Stored K C R T)) (ps qs : List (C × R)) (r : Option T) → IsSamePath eq same ps qs → IsAsked eq same us ps r ↔ IsAsked eq same us qs r
 
-    -- A look-up is refused equal calls after equal lists.
+    -- Look-ups that ask equal lists fail at equal calls.
     abbrev pub IsRefusedAlike : Type 0
     IsRefusedAlike = (us : List (Stored K C R T)) (ps qs : List (C × R)) (a b : C) → IsSamePath eq same ps qs → IsTrue (eq a b) → IsRefused eq same us ps a ↔ IsRefused eq same us qs b
 
-    -- Answers that are equal at each call find the same.
+    -- Answers that are equal at each call find the same entries.
     abbrev pub FindsAlike : Type 0
     FindsAlike = (us : List (Stored K C R T)) (m m' : C → R) (r : Option T) → ((c : C) → IsTrue (same (m c) (m' c))) → FindsAgreeing eq same us m r ↔ FindsAgreeing eq same us m' r
 
-    -- They find any of two equal paths, with the same value, or no path.
+    -- They find equal paths with the same value, or no path.
     abbrev pub FindsPathAlike : Type 0
     FindsPathAlike =
         (us : List (Stored K C R T)) (m m' : C → R)
@@ -73,11 +73,11 @@ module _ {C R : Type 0} (eq : C → C → Bool) (same : R → R → Bool) where
     abbrev pub IsStemAlike : Type 0
     IsStemAlike = (us : List (Stored K C R T)) (s s' ps qs : List (C × R)) → IsSamePath eq same s s' → IsSamePath eq same ps qs → IsStem eq same us s ps ↔ IsStem eq same us s' qs
 
-    -- Of equal sequences equal paths are stored.
+    -- Equal sequences are stored at equal paths.
     abbrev pub IsNewPathAlike : Type 0
     IsNewPathAlike = (us : List (Stored K C R T)) (s s' ps : List (C × R)) → IsSamePath eq same s s' → IsNewPath eq same us s ps → (qs : List (C × R)) × IsNewPath eq same us s' qs × IsSamePath eq same ps qs
 
-    -- Entries with equal keys and paths in the same places are both a tree's, or neither.
+    -- Lists of entries with equal keys and paths, place by place, are both a tree's, or neither is.
     abbrev pub IsTreeAlike : (K → K → Bool) → Type 0
     IsTreeAlike eqk = (es es' : List (Stored K C R T)) → AllZip (λ e e'. IsTrue (eqk e.key e'.key) × IsSamePath eq same e.path e'.path) es es' → IsTree eq same eqk es ↔ IsTree eq same eqk es'
 
@@ -85,6 +85,6 @@ module _ {C R : Type 0} (eq : C → C → Bool) (same : R → R → Bool) where
 abbrev pub WasSeenAlike : {C : Type 0} → (C → C → Bool) → Type 0 → Type 0
 WasSeenAlike {C} eq R = (s : Sequence C R) (a b : C) → IsTrue (eq a b) → was_seen eq s a ≡ was_seen eq s b
 
--- Under equal keys are the same entries.
+-- Equal keys have the same entries.
 abbrev pub UnderAlike : {K : Type 0} → (K → K → Bool) → (C R T : Type 0) → Type 0
 UnderAlike {K} eqk C R T = (es : List (Stored K C R T)) (k k' : K) → IsTrue (eqk k k') → under eqk es k ≡ under eqk es k'

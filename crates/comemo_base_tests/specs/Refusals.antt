@@ -1,4 +1,4 @@
--- What a look-up tells whose oracle answers one call and refuses every later one.
+-- A look-up with an oracle that answers one call and fails at every later one.
 use Rattle.std.specs.Prelude.{◌≡◌, Bool, List, [], ◌∷◌, ◌⊎◌, IsTrue}
 use Rattle.std.specs.List.{All, Any}
 use Rattle.comemo_base.specs.Tree.{Stored, IsFront}

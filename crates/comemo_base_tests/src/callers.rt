@@ -1,5 +1,5 @@
-//! Callers of a tree's look-ups. Each lends its oracle, and shows from the contracts alone that what was found agrees with
-//! the map that its oracle answers from.
+//! Callers of a tree's look-ups. Each lends its oracle, and shows from the contracts alone that what was found agrees
+//! with the map that its oracle answers from.
 ghost use Rattle.std.specs.Prelude.{◌≡◌, ◌<◌, Some, IsTrue, length, nat_eq, slice_index, option_copied, option_map, IfOk, OnErr, IfErr};
 ghost use Rattle.std.proofs.Common.{rules};
 ghost use Rattle.std.specs.List.{All, Any};
@@ -17,7 +17,7 @@ fn answer_in(table: &[u128], call: u8) -> u128
     if at < table.len() { table[at] } else { 0 }
 }
 
-/// The value whose path agrees with a table of answers. No answer is refused, so the look-up gives no error.
+/// The value whose path agrees with a table of answers. No answer fails, so the look-up doesn't.
 pub fn get_by_table<'a, T>(
     tree: &'a PlainTree<u128, u8, u128, T>,
     key: u128,
@@ -32,8 +32,7 @@ pub fn get_by_table<'a, T>(
     }
 }
 
-/// The path that agrees with a table of answers, and its value. Where an error comes, such a path is stored,
-/// and there was no memory for its clone.
+/// The path that agrees with a table of answers, and its value. Fails if out of memory for the clone of a stored path.
 pub fn find_by_table<'a, T>(
     tree: &'a PlainTree<u128, u8, u128, T>,
     key: u128,
@@ -48,8 +47,8 @@ pub fn find_by_table<'a, T>(
     tree.find(&key, &mut |call: &u8| Ok(answer_in(table, *call)))
 }
 
-/// Stores a value, and looks it up by a table that agrees with its sequence: what was stored is found, whatever else the
-/// tree has.
+/// Stores a value, and looks it up by a table that agrees with its sequence. Finds what was stored, whatever else is in
+/// the tree.
 pub fn insert_then_get<'a, T: Drop>(
     tree: &'a mut PlainTree<u128, u8, u128, T>,
     key: u128,
@@ -64,17 +63,17 @@ pub fn insert_then_get<'a, T: Drop>(
     Ok(get_by_table(tree, key, table))
 }
 
-/// An input that answers calls, where it finds memory.
+/// An input that answers calls, and fails if out of memory.
 pub trait Input {
-    /// What it is asked.
+    /// The type of its calls.
     type Call: Clone + Eq + Hash;
 
-    /// What it answers.
+    /// The type of its answers.
     type Answer: Clone + Ord;
 
     ghost answers: { Self → Self.Call → Self.Answer };
 
-    /// The answer to a call, which changes no answer.
+    /// The answer to a call. Changes no answer.
     fn call(&mut self, call: &Self::Call) -> Result<Self::Answer, AllocError>
         ensures answer { IfOk result (λ r. IsTrue (Self.Answer.eq (answers self.old call.now) r)) }
         ensures same { (c : Self.Call) → answers self.new c ≡ answers self.old c };
@@ -84,7 +83,7 @@ pub trait Input {
         → IsTrue (Self.Answer.eq (answers x a) (answers x b)) };
 }
 
-/// The value whose path agrees with the answers of an input, which stay as they were.
+/// The value whose path agrees with the answers of an input, which are unchanged.
 pub fn get_by_input<'a, K: Eq + Hash, I: Input, T>(
     tree: &'a PlainTree<K, I::Call, I::Answer, T>,
     key: &K,
@@ -106,7 +105,7 @@ pub fn get_by_input<'a, K: Eq + Hash, I: Input, T>(
     )
 }
 
-/// The path that agrees with the answers of an input, and its value. The input's answers stay as they were.
+/// The path that agrees with the answers of an input, and its value. The input's answers are unchanged.
 pub fn find_by_input<'a, K: Eq + Hash, I: Input, T>(
     tree: &'a PlainTree<K, I::Call, I::Answer, T>,
     key: &K,
@@ -151,7 +150,7 @@ impl Input for Page {
     }
 }
 
-/// The value whose path agrees with a page, under a text as key.
+/// The value whose path agrees with a page, with a text as key.
 pub fn get_by_page<'a>(
     tree: &'a PlainTree<String, (), String, u32>,
     key: &String,
@@ -166,7 +165,7 @@ pub fn get_by_page<'a>(
     get_by_input(tree, key, page)
 }
 
-/// The path that agrees with a page, under a text as key, and its value.
+/// The path that agrees with a page, with a text as key, and its value.
 pub fn find_by_page<'a>(
     tree: &'a PlainTree<String, (), String, u32>,
     key: &String,

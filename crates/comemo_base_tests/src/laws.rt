@@ -1,11 +1,12 @@
-//! Laws of the definitions that `comemo_base`'s contracts cite: none of them tells equal keys, calls or answers apart.
+//! Laws of the definitions that `comemo_base`'s contracts cite: none of them distinguishes equal keys, calls or
+//! answers.
 //!
 //! Each function here does nothing when it runs. What it ensures is the law.
 ghost use Rattle.comemo_base_tests.specs.Laws.{AgreesAlike, HasDistinctCallsAlike, PartsAlike, FindsAlike, ExistsAlike, MissesAlike, UnderAlike, HeldAlike, AbsorbedAlike, OutsideAlike, IsFrontAlike, IsNextAlike, IsAskedAlike, IsRefusedAlike, FindsPathAlike, IsStemAlike, IsNewPathAlike, IsTreeAlike, WasSeenAlike};
 
 use std::hash::Hash;
 
-/// Answers that tell no equal calls apart agree with both of two equal paths, or with neither.
+/// Answers that are the same for equal calls agree with both of two equal paths, or with neither.
 pub fn agree_alike<C: Eq + Hash, R: Ord>()
     ensures { AgreesAlike C.eq R.eq }
 {}
@@ -15,12 +16,12 @@ pub fn have_distinct_calls_alike<C: Eq + Hash, R: Ord>()
     ensures { HasDistinctCallsAlike C.eq R.eq }
 {}
 
-/// Where two paths part, so do any two that are equal to them.
+/// If two paths part, so do any two that are equal to them.
 pub fn part_alike<C: Eq + Hash, R: Ord>()
     ensures { PartsAlike C.eq R.eq }
 {}
 
-/// Answers that are equal at each call find the same.
+/// Answers that are equal at each call find the same entries.
 pub fn find_alike<K, C: Eq + Hash, R: Ord, T>()
     ensures { FindsAlike C.eq R.eq K T }
 {}
@@ -40,37 +41,37 @@ pub fn hold_alike<C: Eq + Hash, R: Ord>()
     ensures { HeldAlike C.eq R.eq }
 {}
 
-/// What is absorbed by equal pairs of equal pairs is equal.
+/// Equal sequences that absorb equal pairs stay equal.
 pub fn absorb_alike<C: Eq + Hash, R: Ord>()
     ensures { AbsorbedAlike C.eq R.eq }
 {}
 
-/// What equal sequences have outside equal fronts is equal.
+/// The pairs of equal sequences outside equal prefixes are equal.
 pub fn are_outside_alike<C: Eq + Hash, R: Ord>()
     ensures { OutsideAlike C.eq R.eq }
 {}
 
-/// Where a path is a front of another, so is any that is equal to it of any that is equal to the other.
+/// If a path is a prefix of another, so is any path equal to it of any path equal to the other.
 pub fn are_fronts_alike<C: Eq + Hash, R: Ord>()
     ensures { IsFrontAlike C.eq R.eq }
 {}
 
-/// After equal fronts of equal paths, equal calls are next.
+/// After equal prefixes of equal paths, equal calls are next.
 pub fn are_next_alike<C: Eq + Hash, R: Ord>()
     ensures { IsNextAlike C.eq R.eq }
 {}
 
-/// A look-up that asks one of two equal lists finds what one that asks the other finds.
+/// Look-ups that ask equal lists find the same.
 pub fn are_asked_alike<K, C: Eq + Hash, R: Ord, T>()
     ensures { IsAskedAlike C.eq R.eq K T }
 {}
 
-/// A look-up is refused equal calls after equal lists.
+/// Look-ups that ask equal lists fail at equal calls.
 pub fn are_refused_alike<K, C: Eq + Hash, R: Ord, T>()
     ensures { IsRefusedAlike C.eq R.eq K T }
 {}
 
-/// Answers that are equal at each call find any of two equal paths, with the same value, or no path.
+/// Answers that are equal at each call find equal paths with the same value, or no path.
 pub fn find_paths_alike<K, C: Eq + Hash, R: Ord, T>()
     ensures { FindsPathAlike C.eq R.eq K T }
 {}
@@ -80,12 +81,12 @@ pub fn are_stems_alike<K, C: Eq + Hash, R: Ord, T>()
     ensures { IsStemAlike C.eq R.eq K T }
 {}
 
-/// Of equal sequences equal paths are stored.
+/// Equal sequences are stored at equal paths.
 pub fn are_new_paths_alike<K, C: Eq + Hash, R: Ord, T>()
     ensures { IsNewPathAlike C.eq R.eq K T }
 {}
 
-/// Entries with equal keys and paths in the same places are both a tree's, or neither.
+/// Lists of entries with equal keys and paths, place by place, are both a tree's, or neither is.
 pub fn are_trees_alike<K: Eq + Hash, C: Eq + Hash, R: Ord, T>()
     ensures { IsTreeAlike C.eq R.eq K T K.eq }
 {}
@@ -95,7 +96,7 @@ pub fn were_seen_alike<C: Eq + Hash, R>()
     ensures { WasSeenAlike C.eq R }
 {}
 
-/// Under equal keys are the same entries.
+/// Equal keys have the same entries.
 pub fn are_under_alike<K: Eq + Hash, C, R, T>()
     ensures { UnderAlike K.eq C R T }
 {}

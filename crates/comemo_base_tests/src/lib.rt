@@ -1,5 +1,5 @@
 //! Tests of `comemo_base` from outside, through its public contracts alone: proved callers, laws of its definitions,
-//! worked examples, and numbers that another program made.
+//! worked examples, and hashes from another program.
 #![tactic(auto)]
 
 #[cfg(test)]

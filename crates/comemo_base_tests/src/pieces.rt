@@ -2,13 +2,13 @@
 use comemo_base::{SipHasher13, hash};
 use std::hash::Hasher;
 
-// The number of a hasher after some more bytes.
+// The hash after some more bytes.
 fn number_after(mut hasher: SipHasher13, bytes: &[u8]) -> u128 {
     hasher.write(bytes);
     hasher.finish128()
 }
 
-// A hasher that holds the bytes 1 to the count.
+// A hasher that has read the bytes 1 to the count.
 fn begun(count: u8) -> SipHasher13 {
     let mut hasher = SipHasher13::new();
     for i in 0..count {
@@ -37,7 +37,7 @@ fn the_short_number_is_the_low_half(rt: HostRuntime) {
     }
 }
 
-// Whether numbers of 8, 16 and 32 bits are written as their bytes, after so many bytes.
+// Whether numbers of 8, 16 and 32 bits are written as their bytes, after this many bytes.
 fn writes_short_numbers(count: u8) -> bool {
     let held = begun(count);
     let mut byte = held;
@@ -52,7 +52,7 @@ fn writes_short_numbers(count: u8) -> bool {
     is_byte && is_short && is_word
 }
 
-// Whether numbers of 64 and 128 bits are written as their bytes, after so many bytes.
+// Whether numbers of 64 and 128 bits are written as their bytes, after this many bytes.
 fn writes_long_numbers(count: u8) -> bool {
     let low: &[u8] = &[0x18, 0x07, 0xf6, 0xe5, 0xd4, 0xc3, 0xb2, 0xa1];
     let high: &[u8] = &[0x96, 0x85, 0x74, 0x63, 0x52, 0x41, 0x30, 0x29];

@@ -1,25 +1,25 @@
-//! Generic callers of values that keep their hash. Each shows, from the contracts alone, what a caller can build on.
+//! Generic callers of values that keep their hash. Each shows what follows from the contracts alone.
 ghost use Rattle.std.specs.Prelude.{◌≡◌, IsTrue};
 ghost use Rattle.std.specs.Fn.{FnOnceReturnsAtMut};
 
 use comemo_base::{Prehashed, Tagged, hash, hash_any};
 use std::hash::Hash;
 
-/// Whether two values are equal, and the hash of each. Equal values have one hash, since they feed the same bytes.
+/// Whether two values are equal, and the hash of each. Equal values have the same hash, since they feed the same bytes.
 pub fn compare<T: Hash + Tagged>(a: &Prehashed<T>, b: &Prehashed<T>) -> (bool, u128, u128)
     ensures { IsTrue result.0 → result.1 ≡ result.2 }
 {
     (a == b, hash(a), hash(b))
 }
 
-/// Whether two values of one item are equal: they are, however each was made.
+/// Whether two values of one item are equal. They are, however each was made.
 pub fn equals_a_second(item: u32) -> bool
     ensures { IsTrue result }
 {
     Prehashed::from(item) == Prehashed::new(item)
 }
 
-/// The value of an item, made by `from` and by `new`: both are the same.
+/// The value of an item, made by `from` and by `new`. Both are the same.
 pub fn make_both_ways<T: Hash + Tagged + Copy>(item: T) -> (Prehashed<T>, Prehashed<T>)
     ensures from { result.0 ≡ item }
     ensures new { result.1 ≡ result.0 }
@@ -27,7 +27,7 @@ pub fn make_both_ways<T: Hash + Tagged + Copy>(item: T) -> (Prehashed<T>, Prehas
     (Prehashed::from(item), Prehashed::new(item))
 }
 
-/// The item of the default, which is a default of the item's type.
+/// The item of the default value, which is a default of the item's type.
 pub fn take_default<T: Hash + Tagged + Default>() -> T
     ensures { T.is_default result }
 {
@@ -35,7 +35,7 @@ pub fn take_default<T: Hash + Tagged + Default>() -> T
     value.into_inner()
 }
 
-/// The item of a value, as it is lent and as it is taken out: both are the same.
+/// The item of a value, borrowed and taken out. Both are the same.
 pub fn read_and_take<T: Hash + Tagged + Copy>(value: Prehashed<T>) -> (T, T)
     ensures lent { result.0 ≡ value }
     ensures taken { result.1 ≡ value }
@@ -44,8 +44,8 @@ pub fn read_and_take<T: Hash + Tagged + Copy>(value: Prehashed<T>) -> (T, T)
     (lent, value.into_inner())
 }
 
-/// Changes the item of a value by a function, and gives the hash of the value and that of its new item's number: both are
-/// the same, so the number that the value feeds is the new item's.
+/// Changes the item of a value by a function, and returns the hash of the value and that of its new item's number. Both
+/// are the same, since the number that the value feeds is that of the new item.
 pub fn update_and_hash<T: Hash + Tagged, F: FnOnce(&mut T)>(
     value: &mut Prehashed<T>,
     change: F,
@@ -72,7 +72,7 @@ mod tests {
         hasher.finish128()
     }
 
-    // Whether a value has the item 7, and not another's.
+    // Whether a value has the item 7, and not the other's item.
     fn is_seven(value: Prehashed<u32>, other: Prehashed<u32>) -> bool {
         let is_item = *value == 7;
         let is_equal = value == Prehashed::new(7);
@@ -81,7 +81,7 @@ mod tests {
         is_item && is_equal && !is_other && is_taken
     }
 
-    // Whether a value and a clone of it keep their item where the value's own place gets another.
+    // Whether a value and its clone keep their item when the value's own place is overwritten.
     fn stays_apart(mut value: Prehashed<u32>) -> bool {
         let copied = value;
         let Ok(cloned) = value.clone() else {

@@ -1,4 +1,4 @@
-//! A caller whose oracle answers one call and refuses every later one.
+//! A caller whose oracle answers one call and fails at every later one.
 ghost use Rattle.std.specs.Prelude.{◌≡◌, is_err, IfOk, IfErr, IfSome, IfNone, Some, None, true, option_copied};
 ghost use Rattle.std.specs.List.{Any};
 ghost use Rattle.comemo_base.specs.Lookup.{under};
@@ -8,10 +8,10 @@ use comemo_base::PlainTree;
 use std::alloc::AllocError;
 use std::hash::Hash;
 
-/// What a tree finds where the first call is given the answer and every later one is refused, and whether one was refused.
+/// What a tree finds with an oracle that answers the first call and fails at every later one, and whether the oracle
+/// failed.
 ///
-/// A refusal is passed on: the look-up gives an error exactly where its oracle refused a call, so a miss never stands for
-/// a refusal.
+/// The look-up fails exactly if its oracle did, so a miss never stands for a failed call.
 pub fn get_with_one_answer<'a, K: Eq + Hash, C: Eq + Hash, R: Ord + Drop, T>(
     tree: &'a PlainTree<K, C, R, T>,
     key: &K,
@@ -51,7 +51,7 @@ mod tests {
     use super::*;
     use crate::rows::stores;
 
-    // Whether a look-up ended with this, and no error.
+    // Whether a look-up did not fail, and found this.
     fn is_found(found: Result<Option<&char>, AllocError>, wanted: Option<char>) -> bool {
         match found {
             Ok(found) => found.copied() == wanted,

@@ -1,10 +1,11 @@
-//! Worked examples of sequences: calls are bytes, answers numbers. The rows of `bench rows` have more, and those of trees.
+//! Worked examples of sequences, with bytes as calls and numbers as answers. The rows of `bench rows` have more, and
+//! those of trees.
 use comemo_base::{CallSequence, PlainTree};
 use std::alloc::Global;
 
 pub(crate) type Tree = PlainTree<u128, u8, u128, char>;
 
-// Whether a sequence saw none of these calls before, and takes their pairs in.
+// Whether a sequence saw none of these calls before, and absorbs their pairs.
 fn takes(sequence: &mut CallSequence<u8, u128>, pairs: &[(u8, u128)]) -> bool {
     for (call, answer) in pairs {
         let Ok(true) = sequence.insert(*call, *answer) else {
@@ -55,7 +56,7 @@ fn a_sequence_absorbs_what_it_never_saw(rt: HostRuntime) {
     assert!(rt; left.absorb(right).is_ok());
     assert!(rt; has_pairs(&left, &[(b'a', 1), (b'b', 2), (b'c', 3)]));
     assert!(rt; leaves_out(&mut left, b'c', 4));
-    // What was taken out of the one stays seen; what was taken out of the other is not absorbed.
+    // What was extracted from the one counts as seen there. What was extracted from the other is not absorbed.
     assert_eq!(rt; left.extract(&b'b'), Some(2));
     let mut other = CallSequence::new(alloc);
     assert!(rt; takes(&mut other, &[(b'd', 4), (b'b', 9), (b'e', 5)]));
@@ -66,7 +67,7 @@ fn a_sequence_absorbs_what_it_never_saw(rt: HostRuntime) {
     assert!(rt; leaves_out(&mut left, b'e', 6));
 }
 
-// Whether a sequence of pairs, of which two have one call, has the first of these alone.
+// Whether a sequence of pairs, two of which have the same call, holds only the first of these.
 fn keeps_first_pairs(alloc: Global) -> bool {
     let given: &[(u8, u128)] = &[(b'a', 1), (b'b', 2), (b'a', 9)];
     let Ok(mut sequence) = CallSequence::from_pairs(alloc, given.iter().copied()) else {

@@ -1,10 +1,10 @@
-//! The hash of a value with the tag of its type, against bytes written by hand: the tag as eight bytes, the least first,
+//! The hash of a value with the tag of its type, against bytes written by hand: the tag as eight little-endian bytes,
 //! and then the value's own.
 use comemo_base::{Prehashed, SipHasher13, Tagged, hash, hash_any};
 use std::hash::{Hash, Hasher};
 use std::test::Fail;
 
-// The hash of a tag below 256 and of some bytes after it, with both keys 0.
+// The hash of a tag below 256, followed by some bytes, with both keys 0.
 fn number_of(tag: u8, bytes: &[u8]) -> u128 {
     let mut hasher = SipHasher13::new();
     hasher.write(&[tag, 0, 0, 0, 0, 0, 0, 0]);
@@ -66,7 +66,7 @@ fn a_type_of_a_program_has_its_own_tag(rt: HostRuntime) {
     let number = hasher.finish128();
     let line = Line { number: 7 };
     assert!(rt; hash_any(&line) == number);
-    // A value that keeps its hash feeds this number.
+    // A value that keeps its hash feeds this hash.
     let mut by_hand = SipHasher13::new();
     by_hand.write(&number.to_le_bytes());
     assert!(rt; hash(&Prehashed::new(line)) == by_hand.finish128());

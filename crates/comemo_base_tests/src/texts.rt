@@ -1,10 +1,10 @@
-//! A sequence with texts as calls and answers, each made anew where it is used.
+//! A sequence with texts as calls and answers, each allocated where it is used.
 use comemo_base::CallSequence;
 use std::alloc::{AllocError, Global};
 
 type Texts = CallSequence<String, String>;
 
-// Adds the pair of a call, and answers whether the call is new.
+// Adds the pair of a call, and returns whether the call is new.
 fn insert(
     alloc: Global,
     sequence: &mut Texts,
@@ -16,7 +16,7 @@ fn insert(
     sequence.insert(call, answer)
 }
 
-// Whether the pair of a call is taken out, with this answer.
+// Whether the pair of a call is extracted, with this answer.
 fn gives(alloc: Global, sequence: &mut Texts, call: &str, wanted: &str) -> bool {
     let Ok(call) = String::from_str(alloc, call) else {
         return false;

@@ -1,12 +1,12 @@
-//! The numbers of SipHash-1-3 with 128 bits, of 72 texts under two pairs of keys.
+//! The 128-bit hashes of SipHash-1-3 for 72 texts under two pairs of keys.
 use comemo_base::SipHasher13;
 use std::alloc::{AllocError, Global};
 use std::hash::Hasher;
 
-// Each pair is the length of a text and its number, under both keys 0. Byte i of a text is (7 i + 3) modulo 256.
+// Each pair is the length of a text and its hash, with both keys 0. Byte i of a text is (7 i + 3) modulo 256.
 //
-// The numbers, here and in the next table, were made by the `SipHasher13` of 128 bits of the Rust crate `siphasher`, the
-// hasher that comemo 0.5.1 uses. A second program, written from the description of the algorithm, gave the same ones.
+// The hashes, here and in the next table, come from the 128-bit `SipHasher13` of the Rust crate `siphasher`, which
+// comemo 0.5.1 uses. A second program, written from the description of the algorithm, gave the same ones.
 const UNDER_ZERO_KEYS: &[(usize, u128)] = &[
     (0, 0xb91c5ed0_31fb3303_2134935d_61d9b40d),
     (1, 0xccb70af7_614c5cd4_c45292aa_0dcbc16b),
@@ -82,7 +82,7 @@ const UNDER_ZERO_KEYS: &[(usize, u128)] = &[
     (1000, 0x4e65e25a_f5c35518_4f002a35_87d034e5),
 ];
 
-// The same texts under the keys 0x0706_0504_0302_0100 and 0x0f0e_0d0c_0b0a_0908.
+// The same texts with the keys 0x0706_0504_0302_0100 and 0x0f0e_0d0c_0b0a_0908.
 const UNDER_COUNTING_KEYS: &[(usize, u128)] = &[
     (0, 0x013030dd_6adb62fd_bea58827_b2bc7ee7),
     (1, 0x084510ab_fa9db2ae_286c123c_6a4dba53),
@@ -169,7 +169,7 @@ fn text(alloc: Global, count: usize) -> Result<Vec<u8>, AllocError> {
     Ok(bytes)
 }
 
-// Whether the text of a length has a number under two keys.
+// Whether the text of a length has this hash under two keys.
 fn has_number(alloc: Global, k0: u64, k1: u64, count: usize, number: u128) -> bool {
     let Ok(bytes) = text(alloc, count) else {
         return false;

@@ -1,4 +1,4 @@
--- What an answer of a text holds that is equal to one of a kind.
+-- What an answer of a text holds that is equal to a text or to a length.
 use Rattle.std.proofs.Common.{◌≡◌, ℕ, IsTrue, rules}
 use Rattle.std.specs.Prelude.{String, string_bytes}
 use Rattle.std.specs.Global.{Global}

@@ -5,7 +5,7 @@ use Rattle.comemo_guide.specs.declared.chains.ChainCall.{ChainCall}
 use Rattle.comemo_guide.specs.declared.chains.ChainCall.TheVariants.{Contains}
 
 abbrev mutual
-  -- the number is this chain's, or in the one before
+  -- the number is this chain's own, or in the chain before
   pub has : ℕ → Chain → Bool
   has n (Chain' outer value) = nat_eq value n || has_before n outer
 

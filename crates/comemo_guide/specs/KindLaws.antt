@@ -1,4 +1,4 @@
--- That equal questions to a text have equal answers, and that a clone of an answer is equal.
+-- Equal questions to a text have equal answers, and a clone of an answer is equal to it.
 use Rattle.std.proofs.Common.{IsTrue, rules}
 use Rattle.std.specs.Prelude.{String}
 use Rattle.std.specs.Global.{Global}

@@ -1,4 +1,4 @@
--- That equal writes to a log put the same text on a line, which a law asks. It says nothing that a reader must believe.
+-- Equal writes to a log put the same text on a line, which a law requires. It is proved, and defines nothing.
 use Rattle.std.specs.Prelude.{◌≡◌}
 use Rattle.std.proofs.Common.{IsTrue}
 use Rattle.comemo.proofs.Texts.{bytes_of_equal}

@@ -1,4 +1,4 @@
--- That lists of bytes are equal by their test where they are the same, and the other way round.
+-- Lists of bytes are equal by their test exactly if they are the same.
 use Rattle.std.proofs.Common.{◌≡◌, ℕ, List, IsTrue, rules}
 use Rattle.std.specs.Prelude.{nat_eq}
 use Rattle.std.specs.Cmp.Lexicographic.{pointwise, same_text}

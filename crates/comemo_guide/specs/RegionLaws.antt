@@ -1,4 +1,4 @@
--- That equal questions to a region have equal answers.
+-- Equal questions to a region have equal answers.
 use Rattle.std.proofs.Common.{rules}
 use Rattle.std.specs.Prelude.{ℕ, nat_eq}
 use Rattle.comemo.specs.Answers.{Respects}

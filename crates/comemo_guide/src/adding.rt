@@ -6,7 +6,7 @@ ghost use Rattle.comemo.specs.MeaningLaws.{exact_laws};
 use comemo::{CacheData, Fault, FunctionMut, MemoOfMut, RecorderMut};
 use comemo_samples::{Counter, CounterCall};
 
-/// Adds a number to a counter, and then one more. It gives their sum, which wraps at 64 bits.
+/// Adds a number to a counter, and then 1. Returns their sum, which wraps at 64 bits.
 pub struct Adds;
 
 impl FunctionMut for Adds {
@@ -37,7 +37,7 @@ impl FunctionMut for Adds {
     }
 }
 
-/// Adds twice by `Adds`, a number and then what that gave. It gives what the second gave.
+/// Calls `Adds` twice: with a number, and with the first result. Returns the second result.
 pub struct AddsTwice;
 
 impl FunctionMut for AddsTwice {

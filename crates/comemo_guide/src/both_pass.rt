@@ -1,4 +1,4 @@
-//! A function whose run leaves its questions to a helper.
+//! A function whose run asks through a helper.
 ghost use Rattle.std.specs.Prelude.{◌≡◌, min, nat_lt};
 ghost use Rattle.std.proofs.Common.{rules};
 ghost use Rattle.comemo.specs.Function.{Tells};
@@ -8,7 +8,7 @@ use comemo::internal::Told;
 use comemo::{Fault, Function, Recorder};
 use comemo_samples::{Town, TownCall};
 
-/// How many live in a town, and how many degrees it has.
+/// The people and the degrees of a town.
 fn people_and_degrees(town: &mut Recorder<'_, Town>) -> Result<(u64, u64), Fault>
     ensures { Tells ⟦<Town as Told>⟧.fits town.old town.new result
         (λ answer m. answer ≡ (m People, m Degrees)) }
@@ -18,9 +18,9 @@ fn people_and_degrees(town: &mut Recorder<'_, Town>) -> Result<(u64, u64), Fault
     Ok((people, degrees))
 }
 
-/// Whether a town has more than a number of both, people and degrees.
+/// Whether the people and the degrees of a town both exceed a number.
 ///
-/// It asks for the people, and then for the degrees, whatever the people are.
+/// A run asks for the people, then for the degrees, whatever the people are.
 pub struct BothPass;
 
 impl Function for BothPass {

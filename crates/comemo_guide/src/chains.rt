@@ -1,4 +1,4 @@
-//! Chains of numbers by plain references, and a function that asks a chain for a number.
+//! Chains of numbers, linked by plain references, and a function that asks a chain for a number.
 ghost use Rattle.std.specs.Prelude.{◌≡◌, ℕ, ◌||◌, false, nat_eq, refl};
 ghost use Rattle.std.proofs.Common.{rules};
 ghost use Rattle.comemo.specs.Meaning.{reading};
@@ -32,7 +32,7 @@ impl Call for ChainCall {
     }
 }
 
-/// A number, with the chain before it where there is one, which it borrows. It takes no memory and refuses nothing.
+/// A number, and the chain before it, if any, which it borrows. Does not allocate, and no read fails.
 #[derive(Drop)]
 pub struct Chain<'a> {
     outer: Option<&'a Chain<'a>>,
@@ -40,14 +40,14 @@ pub struct Chain<'a> {
 }
 
 impl<'a> Chain<'a> {
-    /// A chain of one number. It takes constant time.
+    /// A chain of one number.
     pub fn new(value: u32) -> Self
         ensures { (n : ℕ) → has n result ≡ nat_eq value n }
     {
         Chain { outer: None, value }
     }
 
-    /// A chain with one more number. The chain before is as it was. It takes constant time.
+    /// A chain with one more number, which borrows the chain before.
     pub fn insert(outer: &'a Chain<'a>, value: u32) -> Self
         ensures { (n : ℕ) → has n result ≡ (nat_eq value n || has n outer.now) }
     {
@@ -57,9 +57,9 @@ impl<'a> Chain<'a> {
         }
     }
 
-    /// Whether a number is in the chain: here, or in the chain before.
+    /// Whether a number is in the chain.
     ///
-    /// It looks from the last number back until it finds it, and calls itself once for each number that it passes.
+    /// Searches from the last number back, and recurses once for each number that it passes.
     pub fn contains(&self, value: u32) -> bool
         ensures { result ≡ has value self.now }
     {
@@ -93,7 +93,7 @@ impl<'a> Track for Chain<'a> {
     }
 }
 
-/// Whether a number is in a chain. It asks the chain for that number alone.
+/// Whether a number is in a chain. Asks the chain for that number alone.
 pub struct IsInChain;
 
 impl Memo for IsInChain {

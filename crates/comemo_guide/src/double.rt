@@ -4,7 +4,7 @@ ghost use Rattle.std.proofs.Common.{rules};
 
 use comemo::{Fault, Function, Recorder};
 
-/// Twice a number, which wraps at 32 bits. It asks nothing, and its run takes no memory.
+/// Twice a number, which wraps at 32 bits. Asks nothing. Its run does not allocate.
 pub struct Double;
 
 impl Function for Double {

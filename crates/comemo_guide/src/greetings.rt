@@ -1,11 +1,11 @@
-//! A text that is lent and asked, and a text that is always the same.
+//! A tracked text, and a text that is always the same.
 ghost use Rattle.std.specs.Prelude.{◌≡◌, codes, string_bytes};
 ghost use Rattle.std.proofs.Common.{rules};
 
 use comemo::{Fault, Function, Recorder, Track};
 use std::alloc::{AllocError, Global};
 
-/// What the world is, as a text that each run makes. It asks nothing, and needs an allocator.
+/// What the world is: a constant text, which each run allocates. Asks nothing, and needs an allocator.
 pub struct World;
 
 impl Function for World {
@@ -26,7 +26,7 @@ impl Function for World {
     }
 }
 
-/// A text that is tracked. Its one question is whether it is `hello`, which takes no memory and is never refused.
+/// A tracked text. Its one question is whether it is `hello`. The answer does not allocate and never fails.
 #[derive(Drop)]
 pub struct Greeting {
     /// The text.
@@ -51,7 +51,7 @@ impl Track for Greeting {
     }
 }
 
-/// Whether a text is `hello`. It asks that one question, and doesn't see the text.
+/// Whether a text is `hello`. Asks that one question, and doesn't see the text.
 pub struct SaysHello;
 
 impl Function for SaysHello {

@@ -1,4 +1,4 @@
-//! A tracked text that answers two kinds of questions, one of which has an argument, and a function of each.
+//! A tracked text with two kinds of questions, of which one has an argument, and a function for each.
 ghost use Rattle.std.specs.Prelude.{◌≡◌, false, nat_lt, refl, string_bytes};
 ghost use Rattle.std.proofs.Common.{rules};
 ghost use Rattle.comemo_guide.specs.Kinds.{text_in, length_in};
@@ -12,7 +12,7 @@ use std::alloc::AllocError;
 pub enum TextCall {
     /// The text itself.
     Itself,
-    /// The sum of its length in bytes and a number, which wraps.
+    /// The sum of its length in bytes and a number, which wraps at 64 bits.
     LengthPlus(u64),
 }
 
@@ -34,16 +34,16 @@ impl Call for TextCall {
     }
 }
 
-/// What a text answers: to each kind of question an answer of its own kind.
+/// What a text answers: one variant for each kind of question.
 #[derive(Clone, Drop, Debug, PartialEq, Eq, PartialOrd, Ord)]
 pub enum TextAnswer {
-    /// The text itself, as `TextCall::Itself` is answered.
+    /// The text itself: the answer to `TextCall::Itself`.
     Text(String),
-    /// The length in bytes and the number that was added, as `TextCall::LengthPlus` is answered.
+    /// The sum of the length in bytes and the number: the answer to `TextCall::LengthPlus`.
     Length(u64),
 }
 
-/// A text. Asked for itself, it answers a copy, and refuses where there is no memory for that.
+/// A text. The answer to `TextCall::Itself` is a copy, and fails if out of memory.
 #[derive(Drop)]
 pub struct Text {
     /// The text.
@@ -75,7 +75,7 @@ impl Track for Text {
     }
 }
 
-/// A text itself. It asks for the text, so another text is another answer.
+/// A text itself. Asks for the text, so another text is another answer.
 pub struct Selfie;
 
 impl Function for Selfie {
@@ -92,6 +92,7 @@ impl Function for Selfie {
     ghost laws = { Prim.search rules };
 
     fn run(_key: &(), text: &mut Recorder<'_, Text>, _needs: &mut ()) -> Result<String, Fault> {
+        // The answer to this question is a text, so the other branch does not occur.
         let TextAnswer::Text(itself) = text.ask(TextCall::Itself)? else {
             unreachable!();
         };
@@ -99,7 +100,7 @@ impl Function for Selfie {
     }
 }
 
-/// Whether a text is long: whether its length in bytes and five pass ten. It asks for that sum alone.
+/// Whether a text is long: whether its length in bytes plus 5 exceeds 10. Asks for that sum alone.
 pub struct IsLong;
 
 impl Function for IsLong {
@@ -116,6 +117,7 @@ impl Function for IsLong {
     ghost laws = { Prim.search rules };
 
     fn run(_key: &(), text: &mut Recorder<'_, Text>, _needs: &mut ()) -> Result<bool, Fault> {
+        // The answer to this question is a length, so the other branch does not occur.
         let TextAnswer::Length(length) = text.ask(TextCall::LengthPlus(5))? else {
             unreachable!();
         };

@@ -10,7 +10,7 @@ use comemo::{
 use comemo_samples::{Counter, CounterCall};
 use std::marker::PhantomData;
 
-/// Gives a counter's number, and then adds to it.
+/// Returns a counter's number, and then adds to it.
 pub struct Bump;
 
 impl FunctionMut for Bump {
@@ -40,7 +40,7 @@ impl FunctionMut for Bump {
     }
 }
 
-/// Adds to a counter, and then gives its number.
+/// Adds to a counter, and then returns its number.
 pub struct Readback;
 
 impl FunctionMut for Readback {
@@ -70,7 +70,7 @@ impl FunctionMut for Readback {
     }
 }
 
-/// Gives the sum of what `Bump` gives twice, through a cache `H`.
+/// Calls `Bump` twice, through a cache `H`. Returns the sum of both outputs.
 pub struct Twice<H> {
     held: PhantomData<H>,
 }
@@ -102,7 +102,7 @@ impl<H: Hold<MemoOfMut<Bump>>> FunctionMut for Twice<H> {
     }
 }
 
-/// Adds 1 to the first of two counters, and gives the number of the second.
+/// Adds 1 to the first of two counters. Returns the number of the second.
 pub struct AddsAndGets;
 
 impl Memo for AddsAndGets {
@@ -136,6 +136,7 @@ impl<'a> FunctionMutOf<BothMut<'a, Counter, Counter>> for AddsAndGets {
     ) -> Result<u64, Fault> {
         both.write(MultiCall::A(CounterCall::Add(1)))?;
         match both.ask(MultiCall::B(CounterCall::Get))? {
+            // This does not occur: a question to the second counter has an answer of the second.
             MultiAnswer::A(_) => Ok(0),
             MultiAnswer::B(number) => Ok(number),
         }

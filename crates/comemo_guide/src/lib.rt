@@ -1,7 +1,7 @@
-//! Memoized functions as a user of the library writes them: five, from the simplest to one that calls others, and those
-//! of other kinds of arguments and answers.
+//! Memoized functions as a user of the library writes them: from one that asks nothing to ones that call others, call
+//! themselves or write.
 //!
-//! How warm a town is, asked before the town has grown and after it:
+//! How warm a town is, asked before it grows and after:
 //!
 //! ```rust
 //! use comemo::{CacheData, How, MemoOf, Track, memoized};
@@ -18,9 +18,9 @@
 //! assert_eq!(rt; (grown.output, grown.how), (21, How::Hit));
 //! ```
 //!
-//! Each function says which questions a run asks, since that is what its output is kept under. A run is refused, with
-//! `Fault::Memory`, where there is no memory for an answer, for the recording or for its output; one that calls others
-//! hands on their faults too.
+//! Each function states which questions a run asks, since its output is kept under them. A run fails with
+//! `Fault::Memory` if out of memory for an answer, the recording or its output. One that calls others passes on their
+//! faults.
 #![tactic(auto)]
 
 pub mod adding;

@@ -1,4 +1,4 @@
-//! Bytes by path from a boxed loader that is known by its trait alone, and a function that asks for them.
+//! Bytes by path from a boxed loader, of which only the trait is known, and a function that asks for them.
 ghost use Rattle.std.specs.Prelude.{◌≡◌, ℕ, List, Vec, false, refl, IfOk, string_bytes};
 ghost use Rattle.std.specs.Global.{Global as AnyGlobal};
 ghost use Rattle.std.specs.List.{each_same};
@@ -8,12 +8,12 @@ use comemo::{Call, Fault, Function, Recorder, Track};
 use std::alloc::AllocError;
 use std::marker::PhantomData;
 
-/// What gives bytes for a path. Its `gives` says which.
+/// A source of bytes by path. `gives` specifies the bytes.
 pub trait Loader: Drop {
     // the bytes for a path
     ghost gives: { Self → List ℕ → Vec ℕ AnyGlobal };
 
-    /// The bytes for a path. An error says that there was no memory for them. What it costs is up to the loader.
+    /// The bytes for a path. Fails if out of memory. The cost is up to the loader.
     fn load(&self, path: &str) -> Result<Vec<u8>, AllocError>
         ensures { IfOk result (λ bytes. bytes.items ≡ (gives self.now path.now).items) };
 }
@@ -43,7 +43,7 @@ impl Call for LibraryCall {
     }
 }
 
-/// A library that loads by any loader. It refuses where the loader does.
+/// A library that loads by any loader. A read fails if the loader fails.
 #[derive(Drop)]
 pub struct Library<L> {
     /// The loader.
@@ -71,7 +71,7 @@ impl<L: Loader> Track for Library<L> {
     }
 }
 
-/// The bytes for a path, which is the key. It asks the library for that path alone.
+/// The bytes for a path, which is the key. Asks the library for that path alone.
 pub struct Contents<L> {
     loader: PhantomData<L>,
 }

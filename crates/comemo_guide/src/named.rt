@@ -1,4 +1,4 @@
-//! Functions that name the calls that they ask, so that no run is lost to another order of its calls.
+//! Functions that name the calls that they ask, so that storing a run never fails because of the order of its calls.
 ghost use Rattle.std.specs.Prelude.{◌≡◌, ◌+◌, ◌%◌, ◌^◌, ⊤, nat_lt};
 ghost use Rattle.std.proofs.Common.{rules};
 ghost use Rattle.comemo.specs.Meaning.{names};
@@ -6,9 +6,9 @@ ghost use Rattle.comemo.specs.Meaning.{names};
 use comemo::{CacheData, Fault, Function, MemoOf, Recorder};
 use comemo_samples::{Context, ContextCall};
 
-/// Where a context is and how it is set, together.
+/// The sum of a context's location and its styles, which wraps at 64 bits.
 ///
-/// It asks both, first the one that its needs name.
+/// Asks both, first the one that its needs name.
 pub struct Sum;
 
 impl Function for Sum {
@@ -24,7 +24,7 @@ impl Function for Sum {
 
     ghost means = { λ _ m out. out ≡ (m Location + m Styles) % 2 ^ 64 };
 
-    // both calls are asked, whatever is answered
+    // both calls are asked, whatever the answers are
     ghost naming = { names (λ _ _ _. ⊤) };
 
     ghost laws = { Prim.search rules };
@@ -49,10 +49,10 @@ impl Function for Sum {
     }
 }
 
-/// Whether the sum of a context is more than a number.
+/// Whether the sum of a context exceeds a number.
 ///
-/// It calls `Sum`, which is lent its own cache and the question that comes first; what that one asked, or had asked when
-/// its kept output was made, counts as asked here.
+/// Calls `Sum` with a cache and the question that comes first. What `Sum` asked, or had asked when its kept output was
+/// made, counts as asked here.
 pub struct IsOver;
 
 impl Function for IsOver {
@@ -68,7 +68,7 @@ impl Function for IsOver {
 
     ghost means = { λ n m out. out ≡ nat_lt n ((m Location + m Styles) % 2 ^ 64) };
 
-    // what the sum asks
+    // what `Sum` asks
     ghost naming = { names (λ n m call. ⊤) };
 
     ghost laws = { Prim.search rules };

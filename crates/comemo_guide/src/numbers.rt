@@ -1,5 +1,5 @@
-//! Functions of numbers, which ask nothing and whose runs take no memory: of one, of two, and of one that is equal by
-//! its number and hashed as nothing.
+//! Functions of numbers, which ask nothing and whose runs do not allocate: of one number, of two, and of one that is
+//! compared by its number and hashed as nothing.
 ghost use Rattle.std.specs.Prelude.{◌≡◌, ◌+◌, ◌%◌, ◌^◌, [], refl};
 ghost use Rattle.std.specs.List.{sum, range_with_len};
 ghost use Rattle.std.proofs.Common.{rules};
@@ -49,7 +49,7 @@ impl Function for Sum {
     }
 }
 
-/// The sum of the numbers below a number. It takes as many steps and no memory, and refuses nothing.
+/// The sum of the numbers below a number. Takes one step for each, does not allocate, and never fails.
 pub fn sum_below(n: u32) -> u64
     ensures { result ≡ sum (range_with_len 0 n) }
 {
@@ -60,7 +60,7 @@ pub fn sum_below(n: u32) -> u64
     total
 }
 
-/// The sum of the numbers below a number: `sum_below`, memoized.
+/// `sum_below`, memoized.
 pub struct SumBelow;
 
 impl Function for SumBelow {
@@ -81,7 +81,7 @@ impl Function for SumBelow {
     }
 }
 
-/// A number that is equal by its number, and feeds nothing to a hasher: all such numbers have one hash.
+/// A number that is compared by its number and feeds nothing to a hasher: all such numbers have one hash.
 #[derive(Clone, Copy, Drop, Debug, PartialEq, Eq)]
 pub struct Flat(pub u32);
 

@@ -1,4 +1,4 @@
-//! Functions that do not always ask the same: which question they ask, or which one first, is no argument of theirs.
+//! Functions whose runs differ in which questions they ask, or in which order. No argument settles that.
 ghost use Rattle.std.specs.Prelude.{◌≡◌, ◌||◌, ⊤, nat_lt};
 ghost use Rattle.std.proofs.Common.{rules};
 
@@ -14,10 +14,10 @@ pub enum Turn {
     Degrees,
 }
 
-/// What a town answers to one of its questions. Any output is right.
+/// A town's answer to one of its questions. Any output is right.
 ///
-/// It asks the one that its turn names, which no cache knows of: so a run may lack what a stored one asked, and is not
-/// kept then.
+/// Asks the question that its turn names, which no cache sees. A run may therefore lack a question of a stored run, and
+/// is then not stored.
 pub struct Either;
 
 impl Function for Either {
@@ -41,9 +41,9 @@ impl Function for Either {
     }
 }
 
-/// What a town answers to both of its questions: the people, and then the degrees.
+/// A town's answers to both of its questions: the people, and the degrees.
 ///
-/// It asks both, first the one that its turn names.
+/// Asks both, first the one that its turn names.
 pub struct Both;
 
 impl Function for Both {
@@ -77,7 +77,8 @@ impl Function for Both {
     }
 }
 
-/// Whether a town has more people than a number or, which is asked only where it has not, more degrees.
+/// Whether a town has more people than a number, or more degrees. Asks for the degrees only if the people don't exceed
+/// it.
 pub struct Exceeds;
 
 impl Function for Exceeds {

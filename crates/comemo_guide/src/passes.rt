@@ -5,9 +5,9 @@ ghost use Rattle.std.proofs.Common.{rules};
 use comemo::{Fault, Function, Recorder};
 use comemo_samples::{Town, TownCall};
 
-/// Whether what a town has most of, people or degrees, passes a number.
+/// Whether the greater of a town's people and degrees exceeds a number.
 ///
-/// It asks for the people, and then for the degrees, whatever the people are.
+/// Asks for the people, then for the degrees, whatever the people are.
 pub struct Passes;
 
 impl Function for Passes {

@@ -11,7 +11,7 @@ use comemo::{
 };
 use comemo_samples::{Counter, CounterCall, Town, TownCall};
 
-/// Adds the degrees of a town to a counter, and gives them.
+/// Adds the degrees of a town to a counter, and returns them.
 ///
 /// The run calls `Warmth` for the degrees.
 pub struct TallyWarmth;
@@ -50,7 +50,7 @@ impl<'a> FunctionMutOf<ReadAndWrite<'a, Town, Counter>> for TallyWarmth {
     }
 }
 
-/// Adds the degrees of a town to a counter, and gives the number that the counter had before.
+/// Adds the degrees of a town to a counter, and returns the number that the counter had before.
 pub struct AddsDegrees;
 
 impl Memo for AddsDegrees {
@@ -88,7 +88,7 @@ impl<'a> FunctionMutOf<ReadAndWrite<'a, Town, Counter>> for AddsDegrees {
     }
 }
 
-/// Adds the degrees of a town to a counter, and then one more, by `Adds`. It gives what `Adds` gives.
+/// Adds the degrees of a town to a counter, and then 1, by `Adds`. Returns the output of `Adds`.
 pub struct AddsOneMore;
 
 impl Memo for AddsOneMore {

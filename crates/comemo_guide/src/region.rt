@@ -36,7 +36,7 @@ impl Call for RegionCall {
     }
 }
 
-/// Three towns that live elsewhere. It answers as they do, without memory, and refuses nothing.
+/// Three borrowed towns. Their answers are its answers. No read allocates or fails.
 #[derive(Drop)]
 pub struct Region<'a> {
     /// The town on the coast.
@@ -79,7 +79,7 @@ impl<'a> Track for Region<'a> {
 
 /// How warm the warmest town of a region is, in degrees.
 ///
-/// It asks each town for its degrees: that on the coast, that by the river, that on the hill.
+/// Asks each town for its degrees, in this order: coast, river, hill.
 pub struct Warmest;
 
 impl Memo for Warmest {

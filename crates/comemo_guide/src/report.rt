@@ -7,13 +7,13 @@ use crate::warmth::Warmth;
 use comemo::{CacheData, Fault, Function, MemoOf, Recorder};
 use comemo_samples::Town;
 
-/// The caches of the two functions that a report calls: of `Passes`, and of `Warmth`.
+/// The caches of the functions that a report calls: of `Passes`, and of `Warmth`.
 pub type Kept = (CacheData<MemoOf<Passes>>, CacheData<MemoOf<Warmth>>);
 
-/// How warm a town is if it passes the first number, and else the second number.
+/// How warm a town is if it passes the first number, otherwise the second number.
 ///
-/// It calls `Passes`, and `Warmth` where the town passes; what those asked counts as asked by it. A fault of theirs is
-/// its own, and what they kept before stays.
+/// Calls `Passes`, and `Warmth` if the town passes. What those asked counts as asked here. Their faults are passed on,
+/// and what they stored before stays.
 pub struct Report;
 
 impl Function for Report {

@@ -27,7 +27,7 @@ impl RecursiveMut for Ruler {
         (λ x y h. Prim.search rules) (λ a b h. Prim.search rules) };
 }
 
-/// Draws the marks up to a height, which are kept: the lower ones are drawn once by a run, and again by a hit.
+/// Draws the marks up to a height, through a cache. A run draws the lower marks first by a call, and again by a hit.
 #[cycle(drawing)]
 pub fn ruled<H: Hold<MemoOfRecursiveMut<Ruler>>>(
     cache: &mut H,
@@ -48,7 +48,7 @@ pub fn ruled<H: Hold<MemoOfRecursiveMut<Ruler>>>(
     book.finish(cache, &height, run, ran)
 }
 
-/// The run of it.
+/// The run of `ruled`.
 #[cycle(drawing)]
 fn draw<H: Hold<MemoOfRecursiveMut<Ruler>>>(
     cache: &mut H,
@@ -71,9 +71,9 @@ fn draw<H: Hold<MemoOfRecursiveMut<Ruler>>>(
     ruled(cache, height - 1, book)
 }
 
-/// Draws the marks up to a height into a notebook, by the marks that the cache keeps.
+/// Draws the marks up to a height into a notebook, through a cache.
 ///
-/// After a fault the notebook has a beginning of them.
+/// After a fault the notebook holds a prefix of them.
 pub fn rule<H: Hold<MemoOfRecursiveMut<Ruler>>>(
     alloc: Global,
     cache: &mut H,

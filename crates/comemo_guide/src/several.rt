@@ -7,7 +7,7 @@ use crate::warmth::Warmth;
 use comemo::{Both, CacheData, Fault, FunctionOf, Memo, MemoOf, MultiAnswer, MultiCall, Recorder};
 use comemo_samples::{Town, TownCall};
 
-/// Whether the first of two towns is warmer than the second. It asks each for its degrees, the first one first.
+/// Whether the first of two towns is warmer than the second. Asks each for its degrees, the first one first.
 pub struct IsWarmer;
 
 impl Memo for IsWarmer {
@@ -44,10 +44,10 @@ impl<'a> FunctionOf<Both<'a, Town, Town>> for IsWarmer {
     }
 }
 
-/// How many degrees the first of two towns is warmer than the second; 0 where it isn't.
+/// How many degrees the first of two towns is warmer than the second; 0 if it isn't.
 ///
-/// It calls `Warmth` of each, the first one first, with one cache for both. A fault of theirs is its own, and what they
-/// kept before stays.
+/// Calls `Warmth` for each, the first one first, through one cache. Its faults are passed on, and what it stored before
+/// stays.
 pub struct Lead;
 
 impl Memo for Lead {

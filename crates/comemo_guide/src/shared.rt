@@ -8,7 +8,7 @@ use std::alloc::{AllocError, Global};
 use std::sync::Wait;
 use std::thread::{Threads, join, map_indices};
 
-/// How warm a town is, kept in a cache that other threads use too.
+/// How warm a town is, through a cache that threads share.
 pub fn shared_warmth<R: Wait>(
     rt: &R,
     alloc: Global,
@@ -23,7 +23,7 @@ pub fn shared_warmth<R: Wait>(
     Ok(reply.output)
 }
 
-/// How warm two towns are, each asked in a thread of its own.
+/// How warm two towns are, each asked in its own thread.
 pub fn both_warmths<R: Threads + Wait + Sync>(
     rt: &R,
     alloc: Global,
@@ -42,9 +42,9 @@ pub fn both_warmths<R: Threads + Wait + Sync>(
     Ok((left?, right?))
 }
 
-/// How warm each of these towns is, in their order: a table that threads make through one cache.
+/// How warm each of these towns is, in their order: a table that threads fill through one cache.
 ///
-/// Fails if there was no memory for the table. A town whose call failed has its fault in the table.
+/// Fails if out of memory for the table. A town whose call fails has its fault in the table.
 pub fn warmths<R: Threads + Wait + Sync>(
     rt: &R,
     alloc: Global,

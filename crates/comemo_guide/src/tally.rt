@@ -1,4 +1,4 @@
-//! A function of two tracked values, of which it reads one and writes the other.
+//! A function that reads one tracked value and writes another.
 ghost use Rattle.std.specs.Prelude.{◌≡◌, [], ◌∷◌};
 ghost use Rattle.std.proofs.Common.{rules};
 ghost use Rattle.comemo.specs.MeaningLaws.{exact_memo_laws};
@@ -6,7 +6,7 @@ ghost use Rattle.comemo.specs.MeaningLaws.{exact_memo_laws};
 use comemo::{BothMut, Fault, FunctionMutOf, Memo, MultiAnswer, MultiCall, RecorderMut};
 use comemo_samples::{Counter, CounterCall, Town, TownCall};
 
-/// Adds the degrees of a town to a counter, and gives them.
+/// Adds the degrees of a town to a counter, and returns them.
 pub struct Tally;
 
 impl Memo for Tally {
@@ -37,6 +37,7 @@ impl<'a> FunctionMutOf<BothMut<'a, Town, Counter>> for Tally {
         both: &mut RecorderMut<'_, '_, BothMut<'a, Town, Counter>>,
         _: &mut (),
     ) -> Result<u64, Fault> {
+        // A question to the first value has an answer of the first, so the other branch does not occur.
         let MultiAnswer::A(degrees) = both.ask(MultiCall::A(TownCall::Degrees))? else {
             unreachable!()
         };

@@ -4,7 +4,7 @@ ghost use Rattle.std.proofs.Common.{rules};
 
 use comemo::{Fault, Function, Recorder};
 
-/// A text itself, kept under it. It asks nothing, and copies the text.
+/// A text itself, which is the key. Asks nothing, and copies the text.
 pub struct Same;
 
 impl Function for Same {

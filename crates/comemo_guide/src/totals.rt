@@ -1,4 +1,4 @@
-//! A function that calls itself, reads one value, cells, and writes another, a notebook.
+//! A function that calls itself, reads cells, and writes to a notebook.
 ghost use Rattle.std.specs.Prelude.{◌≡◌, map};
 ghost use Rattle.std.proofs.Common.{rules};
 ghost use Rattle.comemo.specs.FunctionMut.{TellsWrites, lent};
@@ -33,8 +33,8 @@ impl Memo for RunningTotal {
         (λ x y h. Prim.search rules) (λ a b h. Prim.search rules) (λ x y h. Prim.search rules) };
 }
 
-/// The total of so many cells, which is kept: a later call notes the totals up to it again by a hit, while these cells
-/// are as they were.
+/// The total of the first cells, through a cache. As long as these cells are unchanged, a later call notes the totals
+/// again by a hit.
 #[cycle(totalling)]
 pub fn totalled<'a, H: Hold<RunningTotal>>(
     cache: &mut H,
@@ -58,7 +58,7 @@ pub fn totalled<'a, H: Hold<RunningTotal>>(
     both.finish(cache, &count, run, ran)
 }
 
-/// The run of it.
+/// The run of `totalled`.
 #[cycle(totalling)]
 fn add_up<'a, H: Hold<RunningTotal>>(
     cache: &mut H,
@@ -84,9 +84,9 @@ fn add_up<'a, H: Hold<RunningTotal>>(
     Ok(total)
 }
 
-/// The total of the first cells, with the totals up to it noted, as a function that is called like any.
+/// The total of the first cells, with the totals up to it noted, as a function that is called like any other.
 ///
-/// The run calls `totalled`. After a fault the notebook has a beginning of the totals.
+/// The run calls `totalled`. After a fault the notebook holds a prefix of the totals.
 pub struct NotesTotals;
 
 impl Memo for NotesTotals {

@@ -5,7 +5,7 @@ ghost use Rattle.std.proofs.Common.{rules};
 use comemo::{Fault, Function, Recorder};
 use comemo_samples::{Town, TownCall};
 
-/// How warm a town is, in degrees. It asks for the degrees alone.
+/// How warm a town is, in degrees. Asks for the degrees alone.
 pub struct Warmth;
 
 impl Function for Warmth {

@@ -3,7 +3,7 @@ use comemo::Track;
 use comemo_samples::{Cells, Get, Town, TownCall};
 use std::alloc::Global;
 
-/// Whether cells and a town answer as they are said to.
+/// Whether cells and a town answer as documented.
 fn are_answered(alloc: Global) -> bool {
     let Ok(mut cells) = Cells::new(alloc, 3) else {
         return false;

@@ -5,16 +5,16 @@ use comemo_guide::named::Sum;
 use comemo_samples::{Context, ContextCall};
 use std::alloc::Global;
 
-/// What an explanation says.
+/// A shortened explanation.
 #[derive(Drop)]
 enum Said<'a> {
     Hit,
     NeverKept,
-    /// These answers still stand, and this call has another one.
+    /// These answers still hold, and this call now has another one.
     Changed(&'a [(ContextCall, u64)], ContextCall, u64),
 }
 
-/// Whether this is said of a call at a context.
+/// Whether a call at a context has this explanation.
 fn says<H: Hold<MemoOf<Sum>>>(
     alloc: Global,
     cache: &mut H,
@@ -39,7 +39,7 @@ fn says<H: Hold<MemoOf<Sum>>>(
     }
 }
 
-/// Whether the sum of a context is this, where its location is asked first.
+/// Whether a call returns this sum of a context, whose location is asked first.
 fn sums<H: Hold<MemoOf<Sum>>>(
     alloc: Global,
     cache: &mut H,
@@ -55,7 +55,7 @@ fn sums<H: Hold<MemoOf<Sum>>>(
     }
 }
 
-/// Whether each answer is explained, before and after a run of (1, 2) and one of (1, 5), through any holder.
+/// Whether calls are explained correctly, before and after a run of (1, 2) and one of (1, 5), through any holder.
 fn is_explained<H: Hold<MemoOf<Sum>>>(alloc: Global, cache: &mut H) -> bool {
     let location = ContextCall::Location;
     let styles = ContextCall::Styles;

@@ -1,7 +1,7 @@
-//! The functions at work: which calls ran, and which were answered from the cache. The rows of `bench_rows` have those
-//! that are neither here nor in `writing`.
+//! Which calls run, and which are hits. The rows of `bench_rows` have the functions that are neither here nor in
+//! `writing`.
 //!
-//! Some helpers say how many of some calls, from the first on, are as said.
+//! Some helpers return how many calls, from the first on, have the wanted results.
 
 use comemo::{CacheData, Caches, Function, How, MemoOf, Top, Track, memoized, memoized_with};
 use comemo_guide::both_pass::BothPass;
@@ -15,14 +15,14 @@ use comemo_guide::warmth::Warmth;
 use comemo_samples::Town;
 use std::alloc::Global;
 
-/// How many live in a town, and how many degrees it has.
+/// The people and the degrees of a town.
 type Of = (u64, u64);
 
 fn town((people, degrees): Of) -> Town {
     Town { people, degrees }
 }
 
-/// Whether a call of a town gives this output, and this becomes of it. It is enabled unless it is said not to be.
+/// Whether a call of a town returns this output and ends as `how`. It is enabled unless `how` is `Disabled`.
 fn gives<O: Copy + PartialEq, F: Function<Of = Town, Out = O>>(
     alloc: Global,
     cache: &mut CacheData<MemoOf<F>>,
@@ -41,7 +41,7 @@ fn gives<O: Copy + PartialEq, F: Function<Of = Town, Out = O>>(
     }
 }
 
-/// How many calls give the degrees of a town, each with the number of entries that are kept then.
+/// How many calls return the degrees of a town, each with the number of entries then.
 fn degrees(alloc: Global, calls: &[(Of, How, usize)]) -> usize {
     let mut cache: CacheData<MemoOf<Warmth>> = CacheData::new(alloc);
     let mut held: usize = 0;
@@ -58,7 +58,7 @@ fn degrees(alloc: Global, calls: &[(Of, How, usize)]) -> usize {
 #[test]
 fn only_what_was_asked_counts(rt: HostRuntime) {
     let calls: &[(Of, How, usize)] = &[
-        // what isn't enabled runs and keeps nothing
+        // a disabled call runs and stores nothing
         ((900, 21), How::Disabled, 0),
         ((900, 21), How::Disabled, 0),
         // as at the head of `comemo_guide`
@@ -69,7 +69,7 @@ fn only_what_was_asked_counts(rt: HostRuntime) {
     assert_eq!(rt; degrees(rt.alloc(), calls), 5);
 }
 
-/// How many calls of a function of a town and a number are so.
+/// How many calls of a function of a town and a number have these results.
 fn answers<F: Function<Key = u64, Of = Town, Needs = (), Out = bool>>(
     alloc: Global,
     number: u64,
@@ -89,7 +89,7 @@ fn answers<F: Function<Key = u64, Of = Town, Needs = (), Out = bool>>(
 #[test]
 fn what_was_asked_alone_counts(rt: HostRuntime) {
     let alloc = rt.alloc();
-    // A number is kept with both answers.
+    // Entries for both answers are kept under one number.
     let passes: &[(Of, bool, How)] = &[
         ((900, 21), true, How::Stored),
         ((900, 21), true, How::Hit),
@@ -98,7 +98,7 @@ fn what_was_asked_alone_counts(rt: HostRuntime) {
         ((900, 21), true, How::Hit),
     ];
     assert_eq!(rt; answers::<Passes>(alloc, 500, passes), 5);
-    // What a helper asked counts for its caller.
+    // What a helper asked counts as asked by its caller.
     let both_pass: &[(Of, bool, How)] = &[
         ((900, 21), true, How::Stored),
         ((900, 21), true, How::Hit),
@@ -120,7 +120,7 @@ fn what_a_called_function_asked_counts_for_its_caller(rt: HostRuntime) {
     let alloc = rt.alloc();
     let mut cache: CacheData<MemoOf<Report>> = CacheData::new(alloc);
     let mut kept = (CacheData::new(alloc), CacheData::new(alloc));
-    // How many entries each of the called functions keeps then stands last.
+    // The last columns are the numbers of entries of the called functions.
     let calls: &[(Of, u64, How, usize, usize)] = &[
         ((900, 21), 21, How::Stored, 1, 1),
         ((900, 21), 21, How::Hit, 1, 1),
@@ -166,7 +166,7 @@ fn keys_of_one_hash_are_told_apart(rt: HostRuntime) {
     assert_eq!(rt; doubles(rt.alloc(), calls), 3);
 }
 
-/// How many calls of a function that asks in this order are so, each with the number of entries that are kept then.
+/// How many calls of a function with this order of questions have these results, each with the number of entries then.
 fn in_turn<O: Copy + PartialEq, F: Function<Key = (), Of = Town, Needs = Turn, Out = O>>(
     alloc: Global,
     calls: &[(Turn, Of, O, How, usize)],
@@ -201,7 +201,7 @@ fn the_order_of_questions_may_change_but_none_may_be_lacking(rt: HostRuntime) {
     assert_eq!(rt; in_turn::<Of, Both>(alloc, both), 4);
 }
 
-/// Whether it is said so which of two towns is warmer, and this becomes of the call.
+/// Whether a call returns which of two towns is warmer, and ends as `how`.
 fn compares(
     alloc: Global,
     cache: &mut CacheData<IsWarmer>,
@@ -230,7 +230,7 @@ fn two_towns_are_asked_of_what_was_asked_of_each(rt: HostRuntime) {
         // both have grown
         (((1000, 21), (2000, 24)), false, How::Hit),
         (((1000, 21), (2000, 20)), true, How::Stored),
-        // the other one first
+        // in the other order
         (((2000, 20), (1000, 21)), false, How::Stored),
         (((1000, 21), (2000, 20)), true, How::Hit),
     ];
@@ -240,7 +240,7 @@ fn two_towns_are_asked_of_what_was_asked_of_each(rt: HostRuntime) {
     }
 }
 
-/// Whether one town is so much warmer than another, and this becomes of the call.
+/// Whether a call returns how much warmer one town is than another, and ends as `how`.
 fn leads(
     alloc: Global,
     cache: &mut CacheData<Lead>,
@@ -266,12 +266,12 @@ fn a_function_of_two_towns_calls_one_of_each(rt: HostRuntime) {
     let alloc = rt.alloc();
     let mut cache: CacheData<Lead> = CacheData::new(alloc);
     let mut kept: CacheData<MemoOf<Warmth>> = CacheData::new(alloc);
-    // How many entries the called function keeps then stands last.
+    // The last column is the number of entries of the called function.
     let calls: &[((Of, Of), u64, How, usize)] = &[
         (((900, 24), (50, 21)), 3, How::Stored, 2),
         // both have grown
         (((1000, 24), (2000, 21)), 3, How::Hit, 2),
-        // the other one first
+        // in the other order
         (((2000, 21), (1000, 24)), 0, How::Stored, 2),
         (((1000, 24), (2000, 20)), 4, How::Stored, 3),
     ];
@@ -282,7 +282,7 @@ fn a_function_of_two_towns_calls_one_of_each(rt: HostRuntime) {
     }
 }
 
-/// Whether the warmest of three towns is so warm, and this becomes of the call.
+/// Whether the warmest of three towns is this warm, and the call ends as `how`.
 fn is_warmest(
     alloc: Global,
     cache: &mut CacheData<Warmest>,
@@ -311,7 +311,7 @@ fn three_towns_are_asked_as_one(rt: HostRuntime) {
         (((900, 21), (50, 24), (10, 15)), 24, How::Stored),
         (((900, 21), (50, 24), (20, 15)), 24, How::Hit),
         (((900, 21), (50, 24), (20, 30)), 30, How::Stored),
-        // the second one first
+        // with the first two swapped
         (((50, 24), (900, 21), (20, 30)), 30, How::Stored),
         (((900, 21), (50, 24), (20, 15)), 24, How::Hit),
     ];

@@ -1,4 +1,4 @@
-//! The functions of the guide at work.
+//! Tests of the functions of the guide.
 #![tactic(auto)]
 
 #[cfg(test)]

@@ -1,14 +1,14 @@
-//! The functions that name their calls, at work.
+//! Tests of the functions that name their calls.
 
 use comemo::{CacheData, How, MemoOf, Top, Track, memoized_with};
 use comemo_guide::named::{IsOver, Sum};
 use comemo_samples::{Context, ContextCall};
 use std::alloc::Global;
 
-/// Where a context is, and how it is set.
+/// A context's location and its styles.
 type Of = (u64, u64);
 
-/// Whether the sum of a context, of which this is asked first, is so, and this becomes of the call.
+/// Whether a call returns the sum of a context, of which this is asked first, and ends as `how`.
 fn sums(
     alloc: Global,
     cache: &mut CacheData<MemoOf<Sum>>,
@@ -29,7 +29,7 @@ fn sums(
 fn two_questions_are_kept_in_either_order(rt: HostRuntime) {
     let alloc = rt.alloc();
     let mut cache: CacheData<MemoOf<Sum>> = CacheData::new(alloc);
-    // How many entries are kept then stands last.
+    // The last column is the number of entries then.
     let calls: &[(ContextCall, Of, u64, How, usize)] = &[
         (ContextCall::Location, (1, 2), 3, How::Stored, 1),
         (ContextCall::Styles, (1, 2), 3, How::Hit, 1),
@@ -43,7 +43,7 @@ fn two_questions_are_kept_in_either_order(rt: HostRuntime) {
     }
 }
 
-/// Whether it is said so if the sum of a context is over 4, and this becomes of the call.
+/// Whether a call returns whether the sum of a context exceeds 4, and ends as `how`.
 fn is_over(
     alloc: Global,
     cache: &mut CacheData<MemoOf<IsOver>>,

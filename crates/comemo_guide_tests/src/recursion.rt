@@ -1,4 +1,4 @@
-//! The functions that call themselves and write, at work.
+//! Tests of the functions that call themselves and write.
 
 use comemo::{CacheData, Fault, MemoOfRecursiveMut, ReadAndWrite, Top, Track, memoized_mut_with};
 use comemo_guide::ruler::{Ruler, rule};
@@ -7,8 +7,8 @@ use comemo_samples::{Cells, Notebook};
 use std::alloc::Global;
 use std::test::Fail;
 
-/// Whether a ruler of this height, drawn in a new notebook that has this owner and so much room, ends so, and these marks
-/// stand there then.
+/// Whether a ruler of this height, drawn in a new notebook of this owner and room, has this result and leaves these
+/// marks.
 fn is_ruled(
     alloc: Global,
     cache: &mut CacheData<MemoOfRecursiveMut<Ruler>>,
@@ -27,11 +27,11 @@ fn a_ruler_is_drawn_by_the_marks_below(rt: HostRuntime) {
     let alloc = rt.alloc();
     let mut cache: CacheData<MemoOfRecursiveMut<Ruler>> = CacheData::new(alloc);
     let rulers: &[(u64, u64, &[u64], usize)] = &[
-        // The heights 0, 1 and 2 are kept, each once.
+        // The heights 0, 1 and 2 are stored, each once.
         (2, 7, &[1, 7, 2, 7, 1, 7], 3),
         // All but the mark of height 3 is drawn by hits.
         (3, 7, &[1, 7, 2, 7, 1, 7, 3, 7, 1, 7, 2, 7, 1, 7], 4),
-        // What is kept of one owner is none of another's; a ruler of height 0 has asked for none.
+        // Another owner's entries don't agree, except that of height 0, which asked for none.
         (2, 8, &[1, 8, 2, 8, 1, 8], 6),
     ];
     for (height, owner, marks, len) in rulers {
@@ -46,9 +46,9 @@ fn a_ruler_that_has_no_room_is_begun(rt: HostRuntime) {
     let alloc = rt.alloc();
     let mut cache: CacheData<MemoOfRecursiveMut<Ruler>> = CacheData::new(alloc);
     let rulers: &[(Fault, &[u64])] = &[
-        // The fourth line is refused to the run of height 2; those of heights 0 and 1 were kept.
+        // The fourth line fails, in the run of height 2. The heights 0 and 1 were stored.
         (Fault::Memory, &[1, 7, 2]),
-        // The second line is refused to the hit of height 1.
+        // The second line fails, in the hit of height 1.
         (Fault::Write, &[1]),
     ];
     for (fault, marks) in rulers {
@@ -58,8 +58,7 @@ fn a_ruler_that_has_no_room_is_begun(rt: HostRuntime) {
     }
 }
 
-/// Whether the total of so many cells ends so, noted in a new notebook that has so much room, and these totals stand there
-/// then.
+/// Whether the total of this many cells, noted in a new notebook of this room, has this result and leaves these totals.
 fn is_totalled(
     alloc: Global,
     cache: &mut CacheData<RunningTotal>,
@@ -95,9 +94,10 @@ fn a_total_is_noted_by_the_totals_before(rt: HostRuntime) -> Result<(), Fail> {
     let mut cache: CacheData<RunningTotal> = CacheData::new(alloc);
     // The cells hold 1, 4, 7 and 10.
     let mut cells = Cells::new(alloc, 4)?;
-    // The number that the last cell is set to, how many cells are totalled, the totals, and how many are kept then.
+    // The number that the last cell is set to, how many cells are totalled, the totals, and how many entries there are
+    // then.
     let calls: &[(u64, u32, &[u64], usize)] = &[
-        // The totals of 0, 1, 2 and 3 cells are kept, each once.
+        // The totals of 0, 1, 2 and 3 cells are stored, each once.
         (10, 3, &[1, 5, 12], 4),
         // All but the total of 4 cells is noted by a hit.
         (10, 4, &[1, 5, 12, 22], 5),
@@ -122,9 +122,9 @@ fn totals_that_have_no_room_are_begun(rt: HostRuntime) -> Result<(), Fail> {
     let mut cache: CacheData<RunningTotal> = CacheData::new(alloc);
     let cells = Cells::new(alloc, 4)?;
     let calls: &[(Fault, &[u64])] = &[
-        // The third total is refused to the run of 3 cells; those of fewer were kept.
+        // The third total fails, in the run of 3 cells. Those of fewer were stored.
         (Fault::Memory, &[1, 5]),
-        // The second is refused to the hit of 2 cells.
+        // The second fails, in the hit of 2 cells.
         (Fault::Write, &[1]),
     ];
     for (fault, totals) in calls {

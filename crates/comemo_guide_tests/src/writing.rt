@@ -1,4 +1,4 @@
-//! The functions that write at work: what a run writes, a hit writes again.
+//! Tests of the functions that write: a hit writes what the run wrote.
 
 use comemo::{
     BothMut, CacheData, How, MemoOf, MemoOfMut, ReadAndWrite, Top, Track, memoized_mut,
@@ -13,7 +13,7 @@ use comemo_samples::{Counter, Log, Town};
 use std::alloc::{AllocError, Global};
 use std::test::Fail;
 
-/// Whether a call that adds a number gives the next one, and this becomes of the call.
+/// Whether a call that adds a number returns the next number, and ends as `how`.
 fn adds(
     alloc: Global,
     cache: &mut CacheData<MemoOfMut<Adds>>,
@@ -45,7 +45,7 @@ fn a_hit_adds_again(rt: HostRuntime) {
     }
 }
 
-/// Whether a call that adds a number and the next one gives the one behind that, and this becomes of the call.
+/// Whether a call that adds a number and the next one returns the one after that, and ends as `how`.
 fn adds_twice(
     alloc: Global,
     cache: &mut CacheData<MemoOfMut<AddsTwice>>,
@@ -66,7 +66,7 @@ fn what_was_added_within_is_added_again(rt: HostRuntime) {
     let mut cache: CacheData<MemoOfMut<AddsTwice>> = CacheData::new(alloc);
     let mut kept: CacheData<MemoOfMut<Adds>> = CacheData::new(alloc);
     let mut counter = Counter { number: 0 };
-    // How many entries the called function keeps then stands last.
+    // The last column is the number of entries of the called function.
     let calls: &[(u64, How, u64, usize)] = &[
         (5, How::Stored, 13, 2),
         (5, How::Hit, 26, 2),
@@ -80,7 +80,7 @@ fn what_was_added_within_is_added_again(rt: HostRuntime) {
     }
 }
 
-/// Whether a tally of a town gives its degrees, and this becomes of the call, and the counter has this number then.
+/// Whether a tally of a town returns its degrees and ends as `how`, and the counter has this number then.
 fn tallies(
     alloc: Global,
     cache: &mut CacheData<Tally>,
@@ -124,7 +124,7 @@ fn a_town_is_read_by_another_function_and_a_counter_written(rt: HostRuntime) -> 
     let mut cache: CacheData<TallyWarmth> = CacheData::new(alloc);
     let mut kept: CacheData<MemoOf<Warmth>> = CacheData::new(alloc);
     let mut counter = Counter { number: 0 };
-    // The counter's number and the length of the cache of `Warmth` stand last.
+    // The last columns are the counter's number and the number of entries of `Warmth`.
     let calls = [
         (900, 21, How::Stored, 21, 1),
         (7000, 21, How::Hit, 42, 1),
@@ -186,7 +186,7 @@ fn a_counter_is_written_by_another_function(rt: HostRuntime) -> Result<(), Fail>
     let mut cache: CacheData<AddsOneMore> = CacheData::new(alloc);
     let mut kept: CacheData<MemoOfMut<Adds>> = CacheData::new(alloc);
     let mut counter = Counter { number: 0 };
-    // The counter's number and the length of the cache of `Adds` stand last.
+    // The last columns are the counter's number and the number of entries of `Adds`.
     let calls = [
         (21, How::Stored, 22, 1),
         (21, How::Hit, 44, 1),
@@ -226,7 +226,7 @@ fn two_texts(alloc: Global) -> Result<Vec<String>, AllocError> {
     ]?)
 }
 
-/// Whether a log has so many lines, of which the last is `day`.
+/// Whether a log has this many lines, the last of which is `day`.
 fn ends_with_day(log: &Log, lines: usize) -> bool {
     match log.lines().last() {
         Some(line) => log.lines().len() == lines && line.as_str() == "day",

@@ -4,7 +4,7 @@ use Rattle.std.specs.Coded.{Coded, code_by, coded×, coded_list, coded_ℕ}
 use Rattle.comemo_samples.specs.declared.notebook.NotebookCall.{NotebookCall}
 use Rattle.comemo_samples.specs.declared.notebook.NotebookCall.TheVariants.{Owner, Note}
 
--- whose it is, the numbers on its lines, and how many lines it has in all
+-- its owner, the numbers on its lines, and how many lines it has room for
 pub record Noted : Type 0 where
   pub owner : ℕ
   pub lines : List ℕ

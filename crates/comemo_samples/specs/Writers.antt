@@ -1,4 +1,4 @@
--- What the writes of an emitter, of a log and of a counter say.
+-- What the writes of an emitter, of a log and of a counter add.
 use Rattle.std.specs.Prelude.{ℕ, Bool, true, false, List, string_bytes}
 use Rattle.comemo_samples.specs.declared.emitter.EmitterCall.{EmitterCall}
 use Rattle.comemo_samples.specs.declared.emitter.EmitterCall.TheVariants.{Emit}
@@ -7,11 +7,11 @@ use Rattle.comemo_samples.specs.declared.log.LogCall.TheVariants.{Line}
 use Rattle.comemo_samples.specs.declared.counter.CounterCall.{CounterCall}
 use Rattle.comemo_samples.specs.declared.counter.CounterCall.TheVariants.{Get, Add}
 
--- what a write to an emitter puts behind its text
+-- what a write to an emitter appends to its text
 abbrev pub emitted : EmitterCall → List ℕ
 emitted (Emit text) = string_bytes text
 
--- what a write to a log puts on its next line
+-- the text that a write to a log puts on its next line
 abbrev pub logged : LogCall → List ℕ
 logged (Line text) = string_bytes text
 

@@ -1,4 +1,4 @@
-//! The tracked value: numbers by place.
+//! A tracked value: numbers by place.
 ghost use Rattle.std.specs.Prelude.{false, refl};
 ghost use Rattle.std.proofs.Common.{rules};
 
@@ -31,9 +31,7 @@ impl Call for Get {
     }
 }
 
-/// Numbers: one at each place, and 0 behind the last.
-///
-/// It answers each read in constant time, without memory, and refuses none.
+/// Numbers: one at each place, and 0 after the last.
 #[derive(Drop)]
 pub struct Cells {
     /// The numbers, from place 0 on.
@@ -41,9 +39,9 @@ pub struct Cells {
 }
 
 impl Cells {
-    /// So many cells: the one at place i holds 3 i + 1.
+    /// This many cells. The one at place i holds 3 i + 1.
     ///
-    /// It takes eight bytes for each, and as many steps. An error says that there was no memory for them.
+    /// Fails if out of memory for them.
     pub fn new(alloc: Global, count: u32) -> Result<Cells, AllocError> {
         let mut numbers = Vec::new(alloc);
         for place in 0..count {
@@ -52,8 +50,7 @@ impl Cells {
         Ok(Cells { numbers })
     }
 
-    /// Puts a number at a place. A place behind the last stays as it is. It takes constant time and no memory, and
-    /// refuses nothing.
+    /// Puts a number at a place. Nothing changes if the place is after the last. Does not allocate.
     pub fn set(&mut self, place: usize, number: u64) {
         if let Some(cell) = self.numbers.get_mut(place) {
             *cell = number;

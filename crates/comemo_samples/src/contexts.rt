@@ -34,13 +34,11 @@ impl Call for ContextCall {
 }
 
 /// A context: two numbers, each asked by a call of its own.
-///
-/// It answers each read in constant time, without memory, and refuses none.
 #[derive(Drop)]
 pub struct Context {
-    /// What `ContextCall::Location` is answered.
+    /// The answer to `ContextCall::Location`.
     pub location: u64,
-    /// What `ContextCall::Styles` is answered.
+    /// The answer to `ContextCall::Styles`.
     pub styles: u64,
 }
 
@@ -65,9 +63,9 @@ impl Track for Context {
     }
 }
 
-/// A page: a text, asked by one call. Its answers need memory, and equal ones need not be identical.
+/// A page: a text, asked by one call. Its answers allocate, and equal ones need not be identical.
 ///
-/// Each answer is a copy of the text, and is refused where there is no memory for it.
+/// Each answer is a copy of the text, and fails if out of memory.
 #[derive(Drop)]
 pub struct Page {
     /// The text.
@@ -115,9 +113,7 @@ impl Call for Place {
     }
 }
 
-/// A row of numbers: one at each place, and 0 behind the last.
-///
-/// It answers each read in constant time, without memory, and refuses none.
+/// A row of numbers: one at each place, and 0 after the last.
 #[derive(Drop)]
 pub struct Row {
     /// The numbers, from place 0 on.

@@ -10,7 +10,7 @@ use std::hash::Hash;
 /// A call to a counter.
 #[derive(Clone, Copy, Drop, Debug, PartialEq, Eq, Hash)]
 pub enum CounterCall {
-    /// Its number: a read.
+    /// Returns its number: a read.
     Get,
     /// Adds a number: a write, which touches that read.
     Add(u64),
@@ -37,9 +37,7 @@ impl Call for CounterCall {
     }
 }
 
-/// A number that is added to. Past the greatest it goes on from 0.
-///
-/// Reads and writes take constant time and no memory, and none is refused. This project's own.
+/// A number that is added to, wrapping at 64 bits. No read or write allocates or fails.
 #[derive(Drop)]
 pub struct Counter {
     /// What was added so far, modulo 2^64.

@@ -1,4 +1,4 @@
-//! A tracked value that is written alone: a text that grows.
+//! A tracked value that is only written: a text that grows.
 ghost use Rattle.std.specs.Prelude.{◌≡◌, [], true, false, refl};
 ghost use Rattle.std.proofs.Common.{rules};
 
@@ -7,10 +7,10 @@ use std::alloc::{AllocError, Global};
 use std::hash::Hash;
 use std::marker::Model;
 
-/// A call to an emitter. Each is a write, and to clone it copies its text.
+/// A call to an emitter. Each is a write. Cloning one copies its text.
 #[derive(Clone, Drop, Debug, PartialEq, Eq, Hash)]
 pub enum EmitterCall {
-    /// Puts a text behind what was emitted before.
+    /// Appends a text.
     Emit(String),
 }
 
@@ -32,10 +32,9 @@ impl Call for EmitterCall {
     }
 }
 
-/// The texts that were emitted, one behind the other. Contracts see it as their bytes.
+/// The texts that were emitted, concatenated. Contracts see it as their bytes.
 ///
-/// It answers no read. A write copies its text, in amortized constant time for each byte; it is refused where there is
-/// no memory for the text, and then nothing was emitted. comemo's tests have `Emitter`, which keeps its texts apart.
+/// It answers no read. A write copies its text, and fails if out of memory; then nothing is emitted.
 #[derive(Drop)]
 pub struct Emitter {
     text: String,
@@ -50,7 +49,7 @@ impl Model for Emitter {
 }
 
 impl Emitter {
-    /// An emitter of which nothing was wanted yet. It takes no memory.
+    /// An emitter with an empty text. Does not allocate.
     pub fn new(alloc: Global) -> Self
         ensures { result ≡ [] }
     {
@@ -59,7 +58,7 @@ impl Emitter {
         }
     }
 
-    /// What was emitted so far. It takes constant time and no memory.
+    /// What was emitted so far.
     pub fn text(&self) -> &str
         ensures { result.now ≡ self.now }
     {
@@ -85,6 +84,7 @@ impl Track for Emitter {
     ghost clones = { λ x y h. Prim.search rules };
 
     fn ask(&self, _call: &EmitterCall) -> Result<(), AllocError> {
+        // Each call is a write, so there is no answer.
         Err(AllocError)
     }
 

@@ -25,8 +25,8 @@
 //! assert_eq!(rt; counter.number, 2);
 //! ```
 //!
-//! An emitter, a log and a counter take writes alone, a notebook takes reads and writes, each of the other values answers
-//! reads alone. Answers that are numbers take no memory and are never refused.
+//! An emitter and a log are only written, a counter and a notebook are read and written, and the other values are only
+//! read. A read that returns a number does not allocate and never fails.
 #![tactic(auto)]
 
 pub mod cells;

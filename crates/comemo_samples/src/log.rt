@@ -1,4 +1,4 @@
-//! A tracked value that is written alone: a log of texts.
+//! A tracked value that is only written: a log of texts.
 ghost use Rattle.std.specs.Prelude.{◌≡◌, [], map, refl, string_bytes, true, false};
 ghost use Rattle.std.proofs.Common.{rules};
 
@@ -7,7 +7,7 @@ use std::alloc::{AllocError, Global};
 use std::hash::Hash;
 use std::marker::Model;
 
-/// A call to a log. Each is a write, and to clone it copies its text.
+/// A call to a log. Each is a write. Cloning one copies its text.
 #[derive(Clone, Drop, Debug, PartialEq, Eq, Hash)]
 pub enum LogCall {
     /// Puts a text on the next line.
@@ -34,10 +34,10 @@ impl Call for LogCall {
 
 /// Texts, one on each line. Contracts see it as the bytes of each.
 ///
-/// Two `Vec`s of the same texts are not one value, since each has its own room. So the model is what the log says, and a
-/// write that is refused leaves it as it was.
+/// Two `Vec`s of the same texts are not one value, since each has its own capacity. So the model is the texts alone,
+/// and a write that fails leaves it unchanged.
 ///
-/// It answers no read. A write copies its text. Fails if there is no memory for it; then nothing was written.
+/// It answers no read. A write copies its text, and fails if out of memory; then nothing is written.
 #[derive(Drop)]
 pub struct Log {
     lines: Vec<String>,
@@ -52,7 +52,7 @@ impl Model for Log {
 }
 
 impl Log {
-    /// An empty log. It takes no memory.
+    /// An empty log. Does not allocate.
     pub fn new(alloc: Global) -> Self
         ensures { result ≡ [] }
     {
@@ -87,6 +87,7 @@ impl Track for Log {
     ghost clones = { λ x y h. Prim.search rules };
 
     fn ask(&self, _call: &LogCall) -> Result<(), AllocError> {
+        // Each call is a write, so there is no answer.
         Err(AllocError)
     }
 

@@ -1,4 +1,4 @@
-//! A tracked value that is read and written: an owner, and lines that come to an end.
+//! A tracked value that is read and written: an owner, and a limited number of lines.
 ghost use Rattle.std.specs.Prelude.{◌≡◌, ◌++◌, [], false};
 ghost use Rattle.std.proofs.Common.{rules};
 ghost use Rattle.comemo_samples.specs.Notebooks.{is_note};
@@ -13,7 +13,7 @@ use std::marker::Model;
 pub enum NotebookCall {
     /// Whose it is: a read.
     Owner,
-    /// Puts a number on the next line: a write.
+    /// Appends a line with a number: a write.
     Note(u64),
 }
 
@@ -40,8 +40,7 @@ impl Call for NotebookCall {
 
 /// A notebook: a number for its owner, which is read, and numbers on lines, which are written until it is full.
 ///
-/// A read takes constant time and no memory, and none is refused. A write takes amortized constant time; it is refused
-/// where the notebook is full, or there is no memory for the line, and then nothing was written. This project's own.
+/// A write fails if the notebook is full or out of memory; then nothing is written.
 #[derive(Drop)]
 pub struct Notebook {
     owner: u64,
@@ -60,7 +59,7 @@ impl Model for Notebook {
 }
 
 impl Notebook {
-    /// An empty notebook of so many lines. It takes no memory.
+    /// An empty notebook with room for this many lines. Does not allocate.
     pub fn new(alloc: Global, owner: u64, room: usize) -> Self
         ensures owner { result.owner ≡ owner }
         ensures lines { result.lines ≡ [] }
@@ -73,7 +72,7 @@ impl Notebook {
         }
     }
 
-    /// What was noted, in order. It takes constant time and no memory.
+    /// The numbers on the lines, in order.
     pub fn lines(&self) -> &[u64]
         ensures { result.now ≡ self.now.lines }
     {

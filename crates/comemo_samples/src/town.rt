@@ -1,4 +1,4 @@
-//! A tracked value: how many live in a town, and how warm it is there.
+//! A tracked value: the people of a town, and its degrees.
 ghost use Rattle.std.specs.Prelude.{false, refl};
 ghost use Rattle.std.proofs.Common.{rules};
 
@@ -8,7 +8,7 @@ use std::alloc::AllocError;
 /// What can be asked of a town.
 #[derive(Clone, Copy, Drop, Debug, PartialEq, Eq, Hash)]
 pub enum TownCall {
-    /// How many live there.
+    /// How many people live there.
     People,
     /// How many degrees it has.
     Degrees,
@@ -32,12 +32,10 @@ impl Call for TownCall {
     }
 }
 
-/// A town, which is asked for its people and its degrees apart.
-///
-/// It answers each read in constant time, without memory, and refuses none.
+/// A town, whose people and degrees are asked separately.
 #[derive(Drop)]
 pub struct Town {
-    /// How many live there.
+    /// How many people live there.
     pub people: u64,
     /// How many degrees it has.
     pub degrees: u64,

@@ -1,9 +1,9 @@
--- What a function for examples asks.
+-- What an example function asks.
 use Rattle.std.specs.Prelude.{ℕ, IsTrue, nat_eq}
 use Rattle.comemo_settled_samples.specs.declared.letters.Letter.{Letter}
 use Rattle.comemo_settled_samples.specs.declared.letters.Letter.TheVariants.{A, B, C}
 
--- A and B are asked, and C too where A is answered 1
+-- A and B are asked, and also C if the answer to A is 1
 abbrev pub AsksLetter : (Letter → ℕ) → Letter → Type 0
 AsksLetter m A = Unit {0}
 AsksLetter m B = Unit {0}

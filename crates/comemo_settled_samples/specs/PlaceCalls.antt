@@ -3,7 +3,7 @@ use Rattle.std.specs.Prelude.{ℕ, IsTrue, nat_eq}
 use Rattle.comemo_settled_samples.specs.declared.places.PlaceCall.{PlaceCall}
 use Rattle.comemo_settled_samples.specs.declared.places.PlaceCall.TheVariants.{Location, Styles}
 
--- the location is asked, and the styles too where it is 5
+-- the location is asked, and also the styles if it is 5
 abbrev pub AsksPlace : (PlaceCall → ℕ) → PlaceCall → Type 0
 AsksPlace m Location = Unit {0}
 AsksPlace m Styles = IsTrue (nat_eq (m Location) 5)

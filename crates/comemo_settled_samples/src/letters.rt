@@ -1,4 +1,4 @@
-//! A function for examples: under every key it asks A and B, in whatever order, and C too where A is answered 1.
+//! A function for examples: for each key it asks A and B, in any order, and also C if the answer to A is 1.
 ghost use Rattle.std.specs.Prelude.{◌≢◌, [], nat_eq, IfErr, IfOk};
 ghost use Rattle.comemo_base.specs.Sequence.{absorbed};
 ghost use Rattle.comemo_base.specs.declared.insertion.InsertError.TheVariants.{MissingCall};
@@ -15,11 +15,11 @@ use std::alloc::{AllocError, Global};
 /// A call.
 #[derive(Clone, Copy, Debug, PartialEq, Eq, Hash)]
 pub enum Letter {
-    /// It is asked always.
+    /// Always asked.
     A,
-    /// It is asked always.
+    /// Always asked.
     B,
-    /// It is asked where A is answered 1.
+    /// Asked if the answer to A is 1.
     C,
 }
 
@@ -61,9 +61,9 @@ pub fn insert(
     tree.insert(0, sequence, value)
 }
 
-/// The pairs of the run with these answers in one of its orders, of which the number picks one.
+/// The pairs of the run with these answers, in the order that `order` picks.
 ///
-/// Where A is not answered 1 there is no C, and its answer is left out.
+/// Leaves C and its answer out if the answer to A is not 1.
 pub fn run_of(
     alloc: Global,
     order: u64,

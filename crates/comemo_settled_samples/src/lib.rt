@@ -1,4 +1,4 @@
-//! A function for examples of [`comemo_settled::Settled`], and how its caller shows that what it stores is a run.
+//! Functions for examples of [`comemo_settled::Settled`], and how a caller shows that what it stores is a run.
 #![tactic(auto)]
 
 pub mod letters;

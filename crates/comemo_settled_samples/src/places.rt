@@ -1,4 +1,4 @@
-//! A function of a place for examples: it asks for the location, and for the styles too where that is 5.
+//! A function of a place for examples: it asks for the location, and also for the styles if the location is 5.
 ghost use Rattle.std.specs.Prelude.{◌≡◌, ◌==◌, ◌%◌, nat_eq, IfOk};
 ghost use Rattle.std.specs.List.{All};
 ghost use Rattle.comemo_base.specs.Runs.{IsRun};
@@ -15,9 +15,9 @@ use std::alloc::{AllocError, Global};
 /// A call.
 #[derive(Clone, Copy, Debug, PartialEq, Eq, Hash)]
 pub enum PlaceCall {
-    /// Where the place is. It is asked always.
+    /// Where the place is. Always asked.
     Location,
-    /// Which styles it has. They are asked where the location is 5.
+    /// Which styles it has. Asked if the location is 5.
     Styles,
 }
 
@@ -55,10 +55,10 @@ impl Keep<u64> for Even {
     }
 }
 
-/// A step of a list of them, on a tree whose values are locations.
+/// A step on a tree whose values are locations.
 pub type PlaceStep = TreeOp<u64, PlaceCall, u64, u64, Even>;
 
-/// The run of the function at a location, where the styles are these.
+/// The run of the function at a location, with these styles.
 pub fn run_at(
     alloc: Global,
     location: u64,
@@ -76,7 +76,7 @@ pub fn run_at(
     sequence_of(alloc, vec![in alloc; (PlaceCall::Location, location)]?)
 }
 
-/// Steps that store the runs at the locations below a count, under the key 0, and then keep the even locations alone.
+/// Steps that store, under the key 0, the runs at the locations below a count, and then keep only the even locations.
 pub fn steps_below(alloc: Global, count: u64, styles: u64) -> Result<Vec<PlaceStep>, AllocError>
     ensures { IfOk result (λ steps.
         All (InsertsRun ⟦<PlaceCall as PartialEq>⟧.eq nat_eq (λ k m c. AsksPlace m c)) steps.items) }

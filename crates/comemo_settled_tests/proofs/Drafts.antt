@@ -16,7 +16,7 @@ Agrees-last : (m : ℕ → ℕ) (ps : List (ℕ × ℕ)) (q : ℕ × ℕ) → Ag
 Agrees-last m [] q h = eqb-true (m q.0) q.1 h.0
 Agrees-last m (p ∷ ps) q h = Agrees-last m ps q h.1
 
--- one more call is asked in turn where it is asked after the others
+-- one more call is asked in turn if it is asked after the others
 in_turn : (asked : ℕ → Type 0) (m : ℕ → ℕ) (ps : List (ℕ × ℕ)) (q : ℕ × ℕ) → IsAskedInTurn nat_eq nat_eq asked m ps → (Agrees nat_eq m ps → asked q.0) → IsAskedInTurn nat_eq nat_eq asked m (ps ++ q ∷ [])
 in_turn asked m [] q a go = (go tt, λ h. tt)
 in_turn asked m (p ∷ ps) q a go = (a.0, λ h. in_turn asked m ps q (a.1 h) (λ g. go (h, g)))

@@ -3,11 +3,11 @@ use Rattle.std.specs.Prelude.{◌≡◌, ◌+◌, ◌<◌, ℕ, cond, nat_eq}
 use Rattle.comemo_base.specs.Sequence.{Sequence, was_seen, held}
 use Rattle.comemo_base.specs.Runs.{IsCausal}
 
--- how many calls are asked under a key, where the call 0 has this answer
+-- how many calls are asked under a key, if the call 0 has this answer
 abbrev pub bound_of : ℕ → ℕ → ℕ
 bound_of key first = cond (nat_eq first 1) (key + 3) key
 
--- under a key the calls below it are asked, and the next three too where the call 0 is answered 1
+-- the calls below the key are asked, and also the next three if the answer to the call 0 is 1
 abbrev pub AsksCounted : ℕ → (ℕ → ℕ) → ℕ → Type 0
 AsksCounted key m call = call < bound_of key (m 0)
 

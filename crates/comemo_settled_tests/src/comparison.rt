@@ -1,4 +1,4 @@
-//! Steps from a seed, each done by a tree and by another machine: both answer the same.
+//! Seeded steps, each done by a tree and by another machine. The results must be equal.
 ghost use Rattle.std.specs.Prelude.{◌<◌, ◌≤◌};
 
 use crate::counted::{Counted, Run, answer_to, run_under};
@@ -46,7 +46,7 @@ fn pairs_of(alloc: Global, run: &Run) -> Result<Vec<Pair>, AllocError> {
     Ok(pairs)
 }
 
-/// A tree, and a machine that is to answer as it does.
+/// A tree, and the machine to compare it with.
 #[derive(Drop)]
 struct Both<M: Machine> {
     alloc: Global,
@@ -55,7 +55,7 @@ struct Both<M: Machine> {
 }
 
 impl<M: Machine> Both<M> {
-    /// Whether both answer the same to an insertion of a run, in one of its orders.
+    /// Whether an insertion of a run, in one of its orders, has the same result in both.
     fn agree_on_insert(
         &mut self,
         key: u64,
@@ -85,7 +85,7 @@ impl<M: Machine> Both<M> {
         Ok(found.copied() == self.machine.get(key, table.as_slice()))
     }
 
-    /// Whether both have as many values as each other after a retention.
+    /// Whether both have the same number of values after a retention.
     fn agree_on_retain(&mut self, rest: u32) -> bool {
         self.tree.retain(|value: &mut u32| {
             let stays = *value % 4 != rest;
@@ -110,7 +110,7 @@ impl<M: Machine> Both<M> {
         Ok(true)
     }
 
-    /// Whether both answer the same to the next step.
+    /// Whether the next step has the same result in both.
     fn agree(&mut self, numbers: &mut Numbers, value: u32) -> Result<bool, AllocError> {
         let kind = numbers.below(64);
         let key = 1 + numbers.below(4);
@@ -126,13 +126,13 @@ impl<M: Machine> Both<M> {
     }
 }
 
-/// After how many steps all is looked up.
+/// After this many steps everything is looked up.
 const PERIOD: u32 = 1_000;
 
-/// The first of so many steps from a seed to which a tree and a machine, both new, don't answer the same.
+/// The first of this many seeded steps at which a new tree and a new machine differ.
 ///
-/// After each thousandth step all is looked up in both, as a part of that step. A step for which there is no memory counts
-/// as one that is answered otherwise.
+/// After each thousandth step everything is looked up in both, as a part of that step. A step that is out of memory
+/// counts as a difference.
 pub(crate) fn compare<M: Machine>(alloc: Global, machine: M, seed: u64, steps: u32) -> Option<u32> {
     let mut numbers = Numbers::new(seed);
     let mut both = Both {

@@ -1,4 +1,4 @@
-//! A function for random steps: it asks many calls, in whatever order.
+//! A function for random steps: it asks many calls, in any order.
 ghost use Rattle.std.specs.Prelude.{◌≡◌, ◌+◌, ◌<◌, ◌≤◌, ◌^◌, ℕ, nat_eq, IsTrue, IfOk, OnOk};
 ghost use Rattle.comemo_base.specs.Sequence.{held};
 ghost use Rattle.comemo_base.specs.Answers.{Agrees};
@@ -11,7 +11,7 @@ use comemo_base::CallSequence;
 use comemo_settled::Asks;
 use std::alloc::{AllocError, Global};
 
-/// What the function asks: under a key the calls below it, and the next three too where the call 0 is answered 1.
+/// What the function asks: the calls below its key, and also the next three if the answer to the call 0 is 1.
 #[derive(Drop)]
 pub(crate) struct Counted;
 
@@ -30,15 +30,15 @@ impl Asks for Counted {
     } };
 }
 
-/// A run, or what becomes one.
+/// A run, or a prefix of one.
 pub(crate) type Run = CallSequence<u64, u64>;
 
-/// The answer to a call above 0, of these: the bit of its number.
+/// The answer to a call above 0: the bit with its number.
 pub(crate) fn answer_to(answers: u64, call: u64) -> u64 {
     (answers >> (call % 64)) % 2
 }
 
-/// Asks a call after those of a run, unless it was asked before, and says whether it was asked now.
+/// Asks a call after those of a run, unless it was asked before. Returns whether it was asked now.
 fn ask(key: u64, run: &mut Run, call: u64, answer: u64) -> Result<bool, AllocError>
     requires draft { IsDraft key run.old }
     requires asked { (m : ℕ → ℕ) → Agrees nat_eq m run.old.pairs → AsksCounted key m call }
@@ -57,7 +57,7 @@ fn ask(key: u64, run: &mut Run, call: u64, answer: u64) -> Result<bool, AllocErr
     Ok(is_new)
 }
 
-/// Asks some of the calls that are asked whatever the answers, but not the call 0.
+/// Asks some of the calls that are asked whatever the answers, except the call 0.
 fn begin(key: u64, answers: u64, numbers: &mut Numbers, run: &mut Run) -> Result<(), AllocError>
     requires draft { IsDraft key run.old }
     requires above { 0 < key }
@@ -72,7 +72,7 @@ fn begin(key: u64, answers: u64, numbers: &mut Numbers, run: &mut Run) -> Result
     Ok(())
 }
 
-/// Asks the calls below a bound that were not asked yet, some in whatever order, and then the others.
+/// Asks the calls below a bound that were not asked yet, some in random order, and then the others.
 fn end(
     key: u64,
     bound: u64,
@@ -100,7 +100,7 @@ fn end(
     Ok(())
 }
 
-/// How many calls are asked under a key, where the call 0 has this answer.
+/// How many calls are asked under a key, if the call 0 has this answer.
 fn bound_at(key: u64, first: u64) -> u64
     requires { key + 3 < 2 ^ 64 }
     ensures { result ≡ bound_of key first }
@@ -108,7 +108,7 @@ fn bound_at(key: u64, first: u64) -> u64
     if first == 1 { key + 3 } else { key }
 }
 
-/// A run under a key in some order, where the call 0 has the first answer, and the others have these.
+/// A run under a key in some order, with the first answer for the call 0, and these for the others.
 pub(crate) fn run_under(
     alloc: Global,
     key: u64,

@@ -1,5 +1,5 @@
-//! Tests of `comemo_settled` from outside: each order of a run, and many steps from a seed beside a plain map of sets. The
-//! rows of `bench rows` have more.
+//! Tests of `comemo_settled` from outside: each order of a run, and many seeded steps compared with a plain map of
+//! sets. The rows of `bench rows` have more.
 #![tactic(auto)]
 
 #[cfg(test)]

@@ -1,14 +1,14 @@
 //! Numbers from a seed.
 ghost use Rattle.std.specs.Prelude.{◌<◌};
 
-/// Numbers that look random, from a seed: those of a linear congruence, without their low bits.
+/// Pseudorandom numbers from a seed, by a linear congruential generator, without its low bits.
 #[derive(Drop)]
 pub(crate) struct Numbers {
     state: u64,
 }
 
 impl Numbers {
-    /// The numbers of a seed.
+    /// The generator with this seed.
     pub(crate) fn new(seed: u64) -> Self {
         Numbers { state: seed }
     }

@@ -5,30 +5,30 @@ use crate::sets::{Machine, Pair, PlainSets};
 use comemo_settled::TreeReply;
 use std::alloc::{AllocError, Global};
 
-/// What a machine does wrongly.
+/// What a machine does wrong.
 #[derive(Clone, Copy, Drop, Debug, PartialEq, Eq)]
 enum Wrong {
     /// Nothing.
     Nothing,
-    /// It takes a set in again in another order.
+    /// Stores a set again if its order differs.
     TellsOrdersApart,
-    /// It says that a set is there where one with the same first pair is.
+    /// Finds a set if one has the same first pair.
     ComparesFirstPairs,
-    /// It puts the new value in the place of a value that is there.
+    /// Overwrites the value that is there.
     Overwrites,
-    /// It finds a value under whatever key.
+    /// Finds a value under any key.
     FindsUnderAnyKey,
-    /// It finds nothing.
+    /// Finds nothing.
     FindsNothing,
-    /// It keeps what is to go.
+    /// Keeps what should be dropped.
     KeepsAll,
-    /// It drops one value more.
+    /// Drops one value too many.
     DropsOneMore,
-    /// It leaves the values that stay.
+    /// Doesn't change the values that stay.
     LeavesValues,
 }
 
-/// A plain map of sets, but for one kind of step.
+/// A plain map of sets, except for one kind of step.
 #[derive(Drop)]
 struct Faulty {
     sets: PlainSets,

@@ -4,7 +4,7 @@ use comemo_settled::Settled;
 use comemo_settled_samples::letters::{Letters, insert, run_of};
 use std::alloc::Global;
 
-/// Whether an insertion of the run with these answers, in one of its orders, comes to this.
+/// Whether an insertion of the run with these answers, in one of its orders, has this result.
 fn inserts(
     alloc: Global,
     tree: &mut Settled<Letters, char>,

@@ -1,5 +1,5 @@
-//! A map from keys and sets of pairs to values, as a plain list that is searched whole. It is written apart from the call
-//! tree.
+//! A map from keys and sets of pairs to values, as a plain list, searched linearly. It is written independently of the
+//! call tree.
 
 use comemo_settled::TreeReply;
 use std::alloc::{AllocError, Global};
@@ -7,22 +7,22 @@ use std::alloc::{AllocError, Global};
 /// A call with its answer.
 pub(crate) type Pair = (u64, u64);
 
-/// What takes the steps of a tree, and is compared with one.
+/// A machine that does the steps of a tree, to be compared with one.
 pub(crate) trait Machine: Drop {
     /// Stores a value under a key and pairs.
     fn insert(&mut self, key: u64, pairs: &[Pair], value: u32) -> Result<TreeReply, AllocError>;
 
-    /// The value under a key that the answers of a table lead to.
+    /// The value under a key that agrees with the answers of a table.
     fn get(&self, key: u64, table: &[Pair]) -> Option<u32>;
 
-    /// Drops the values that leave a rest by four, and makes the others one greater.
+    /// Drops the values with a remainder modulo 4, and adds 1 to the others.
     fn retain(&mut self, rest: u32);
 
     /// How many values there are.
     fn len(&self) -> usize;
 }
 
-/// Whether each pair is among others.
+/// Whether each of these pairs is among the others.
 pub(crate) fn are_among(pairs: &[Pair], others: &[Pair]) -> bool {
     for pair in pairs {
         if !others.contains(pair) {
@@ -32,7 +32,7 @@ pub(crate) fn are_among(pairs: &[Pair], others: &[Pair]) -> bool {
     true
 }
 
-/// What is kept under a key and a set of pairs.
+/// A value under a key and a set of pairs.
 #[derive(Drop)]
 pub(crate) struct Entry {
     pub(crate) key: u64,
@@ -41,7 +41,7 @@ pub(crate) struct Entry {
 }
 
 impl Entry {
-    /// Whether these are its pairs, in whatever order.
+    /// Whether it has this key and these pairs, in any order.
     fn has_set(&self, key: u64, pairs: &[Pair]) -> bool {
         self.key == key && are_among(&self.pairs, pairs) && are_among(pairs, &self.pairs)
     }
@@ -55,7 +55,7 @@ pub(crate) struct PlainSets {
 }
 
 impl PlainSets {
-    /// No entries.
+    /// A list without entries.
     pub(crate) fn new(alloc: Global) -> Self {
         PlainSets {
             alloc,

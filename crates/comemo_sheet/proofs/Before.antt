@@ -1,4 +1,4 @@
--- The numbers of Fibonacci, each from the two before it.
+-- The Fibonacci numbers, each from the two before it.
 use Rattle.std.proofs.Common.{◌≡◌, ◌≤◌, ◌+◌, ◌-◌, ℕ, zero, suc, arith, sym, ap, ◌∙◌}
 use Rattle.comemo_sheet.specs.Fibonacci.{fib}
 

@@ -1,4 +1,4 @@
--- The numbers of Fibonacci.
+-- The Fibonacci numbers.
 use Rattle.std.specs.Prelude.{ℕ, zero, suc, ◌+◌}
 
 -- the number at a place, and the one after it

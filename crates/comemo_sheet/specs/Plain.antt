@@ -1,4 +1,4 @@
--- The number that stands in a cell, or why none does.
+-- The number that a cell holds, or why it has none.
 use Rattle.std.specs.Prelude.{ℤ, Result, Ok, Err}
 use Rattle.comemo_sheet.specs.declared.sheet.Content.{Content}
 use Rattle.comemo_sheet.specs.declared.sheet.Content.TheVariants.{Empty, Number, Sum}

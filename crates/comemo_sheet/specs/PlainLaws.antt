@@ -1,4 +1,4 @@
--- That equal contents have one number, or none for one reason.
+-- Equal contents have the same number, or none for the same reason.
 use Rattle.std.proofs.Common.{◌≡◌, IsTrue, rules}
 use Rattle.comemo_sheet.specs.Plain.{plain_number}
 use Rattle.comemo_sheet.specs.declared.sheet.Content.{Content}

@@ -1,4 +1,5 @@
--- That a sheet answers equal calls alike, that a clone of an answer is equal, and that the same is to be read in equal answers.
+-- A sheet answers equal calls alike, a clone of an answer is equal to it, and equal answers hold the same number and
+-- names.
 use Rattle.std.specs.Prelude.{◌≡◌, String, string_bytes}
 use Rattle.std.specs.Global.{Global}
 use Rattle.std.specs.HashMap.{HashMap}

@@ -9,7 +9,7 @@ abbrev pub setting : Bool → ℕ → SettingsCall → Setting
 setting hides_negative width HidesNegative = Is hides_negative
 setting hides_negative width Width = Much width
 
--- a number as it is shown: 0 where it is below 0 and such are hidden
+-- a number as it is shown: 0 if it is negative and those are hidden
 abbrev pub shown : Setting → ℤ → ℤ
 shown (Is hides) number = (if hides && int_lt number (pos 0) then pos 0 else number)
 shown (Much n) number = number

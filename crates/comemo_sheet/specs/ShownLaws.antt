@@ -1,4 +1,4 @@
--- That equal settings are one.
+-- Equal settings are the same.
 use Rattle.std.proofs.Common.{◌≡◌, IsTrue, rules}
 use Rattle.comemo_sheet.specs.declared.settings.Setting.{Setting}
 use Rattle.comemo_sheet.specs.contracts.settings.SettingPartialEq.TheImpl as setting

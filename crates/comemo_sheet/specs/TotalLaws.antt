@@ -1,4 +1,4 @@
--- That rows of equal names have one total.
+-- Rows of equal names have the same total.
 use Rattle.std.specs.Prelude.{◌≡◌, pos, List, String}
 use Rattle.std.specs.Global.{Global}
 use Rattle.std.specs.String.{string_eq}

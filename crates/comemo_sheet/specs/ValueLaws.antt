@@ -1,4 +1,4 @@
--- That cells of equal names have one value.
+-- Cells of equal names have the same value.
 use Rattle.std.specs.Prelude.{◌≡◌, refl, ℕ, zero, suc, ℤ, pos, List, Some, Option, String}
 use Rattle.std.specs.Global.{Global}
 use Rattle.std.specs.String.{string_eq}
@@ -15,7 +15,7 @@ use Rattle.comemo_sheet.specs.declared.sheet.Content.{Content}
 use Rattle.comemo_sheet.specs.contracts.sheet.SheetCallPartialEq.TheImpl as call
 use Rattle.comemo_sheet.specs.contracts.sheet.ContentPartialEq.TheImpl as content
 
--- where names that are equal have one value: of names that are equal in turn, and of equal contents
+-- if equal names have the same value, then lists of equal names have the same sum, and so have equal contents
 pub names_alike_sum : (f : String Global → Option ℤ) → ((a b : String Global) → IsTrue (string_eq a b) → f a ≡ f b) → (start : Option ℤ) (xs ys : List (String Global)) → IsTrue (pointwise string_eq xs ys) → sum_of f start xs ≡ sum_of f start ys
 names_alike_sum f alike start xs ys e = fold_alike string_eq _ (λ total a b h. ap (both total) (alike a b h)) start xs ys e
 

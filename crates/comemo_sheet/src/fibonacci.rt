@@ -1,4 +1,4 @@
-//! The numbers of Fibonacci, each by way of those before it.
+//! The Fibonacci numbers, each by those before it.
 ghost use Rattle.std.specs.Prelude.{◌≡◌, ◌%◌, ◌^◌};
 ghost use Rattle.std.proofs.Common.{rules};
 ghost use Rattle.comemo.specs.Recursive.{TellsOwn};
@@ -7,7 +7,7 @@ ghost use Rattle.comemo_sheet.specs.Fibonacci.{fib};
 use comemo::internal::Told;
 use comemo::{Begun, Fault, Hold, MemoOfRecursive, Recorder, Recursive};
 
-/// The number of Fibonacci at a place, modulo 2 to the 64th.
+/// The Fibonacci number at a place, modulo 2^64.
 pub struct Fib;
 
 impl Recursive for Fib {
@@ -22,9 +22,9 @@ impl Recursive for Fib {
     ghost laws = { Prim.search rules };
 }
 
-/// The number of Fibonacci at a place, by way of those before it, which are kept but for the first two.
+/// The Fibonacci number at a place, by those before it, which are kept except the first two.
 ///
-/// Its cache is any holder of one: a `CacheData`, or a share of one that threads share.
+/// `H` holds the cache: a `CacheData`, or a share of one that threads share.
 pub fn numbered<H: Hold<MemoOfRecursive<Fib>>>(
     cache: &mut H,
     place: u64,
@@ -33,6 +33,7 @@ pub fn numbered<H: Hold<MemoOfRecursive<Fib>>>(
     ensures { TellsOwn ⟦<() as Told>⟧.fits of.old of.new result
         (λ number _. number ≡ fib place % 2 ^ 64) }
 {
+    // These two need no call, so they are not kept.
     if place < 2 {
         return Ok(place);
     }

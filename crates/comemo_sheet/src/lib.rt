@@ -1,4 +1,4 @@
-//! A spreadsheet as a tracked value, memoized functions of it, and one that calls itself.
+//! A spreadsheet as a tracked value, and memoized functions of it. Numbers wrap at 64 bits.
 #![tactic(auto)]
 
 pub mod fibonacci;

@@ -1,4 +1,4 @@
-//! The number that stands in a cell: a memoized function of a text and a tracked value.
+//! The number that a cell holds: a memoized function of a text and a tracked value.
 ghost use Rattle.std.specs.Prelude.{◌≡◌};
 ghost use Rattle.std.proofs.Common.{rules, ◌∙◌};
 ghost use Rattle.comemo_sheet.specs.Sheets.{number_in};
@@ -8,7 +8,7 @@ ghost use Rattle.comemo_sheet.specs.declared.sheet.SheetCall.TheVariants.{Cell};
 use crate::sheet::{Sheet, SheetCall};
 use comemo::{Fault, Function, Recorder};
 
-/// The number that stands in a cell itself; 0 where none does.
+/// The number that a cell holds itself; 0 if none.
 pub struct NumberIn;
 
 impl Function for NumberIn {

@@ -11,13 +11,13 @@ use comemo::{Fault, Function, Recorder};
 /// Why a cell has no number of its own.
 #[derive(Clone, Copy, Drop, Debug, PartialEq, Eq)]
 pub enum NoNumber {
-    /// Nothing stands there.
+    /// The cell is empty.
     Nothing,
     /// It is the sum of other cells.
     Sum,
 }
 
-/// The number that stands in a cell itself, or why none does.
+/// The number that a cell holds itself, or why it has none.
 pub struct PlainNumber;
 
 impl Function for PlainNumber {

@@ -1,5 +1,5 @@
 //! The value of a cell by the totals of ranges, and the total of a range by the values of cells: two functions that
-//! call one another, each through a cache of its own.
+//! call each other, each through its own cache.
 ghost use Rattle.std.specs.Prelude.{◌≡◌, Some, pos};
 ghost use Rattle.std.proofs.Common.{rules};
 ghost use Rattle.comemo.specs.Recursive.{TellsOwn};
@@ -12,7 +12,7 @@ use crate::value::{Value, sum};
 use comemo::internal::Told;
 use comemo::{Begun, CacheData, Fault, Hold, MemoOfRecursive, Recorder, Recursive};
 
-/// The cells of these names, with the limit down to which their values go.
+/// The cells of these names, and the limit on how deep their values go.
 #[derive(Clone, Drop, Debug, PartialEq, Eq, Hash)]
 pub struct Range {
     /// The names of the cells.
@@ -21,7 +21,7 @@ pub struct Range {
     pub limit: u64,
 }
 
-/// The sum of the values of the cells of a range; none where one is none.
+/// The sum of the values of the cells of a range; `None` if one of them is.
 ///
 /// It is kept once for all cells that refer to the range.
 pub struct RangeTotal;
@@ -44,13 +44,13 @@ impl Recursive for RangeTotal {
     } };
 }
 
-/// What both functions keep, by caches of one's own. The first is a cache of `valued` too, which means the same.
+/// The caches of both functions. The first also serves `valued`, which has the same meaning.
 pub type Kept = (
     CacheData<MemoOfRecursive<Value>>,
     CacheData<MemoOfRecursive<RangeTotal>>,
 );
 
-/// The value of the cell of a name, kept, by the totals of ranges, by cells down to a limit.
+/// The value of the cell of a name, through the caches, by the totals of ranges, up to a depth of `limit`.
 #[cycle(ranging)]
 pub fn ranged<H: Hold<MemoOfRecursive<Value>>, G: Hold<MemoOfRecursive<RangeTotal>>>(
     kept: &mut (H, G),
@@ -81,7 +81,7 @@ pub fn ranged<H: Hold<MemoOfRecursive<Value>>, G: Hold<MemoOfRecursive<RangeTota
     of.finish(&mut kept.0, &key, run, value)
 }
 
-/// The total of a range, kept, by the values of its cells.
+/// The total of a range, through the caches, by the values of its cells.
 #[cycle(ranging)]
 pub fn range_total<H: Hold<MemoOfRecursive<Value>>, G: Hold<MemoOfRecursive<RangeTotal>>>(
     kept: &mut (H, G),

@@ -8,7 +8,7 @@ ghost use Rattle.comemo.proofs.Texts.{texts_clone};
 use crate::sheet::{Sheet, SheetCall};
 use comemo::{Fault, Function, Recorder};
 
-/// The sum of the numbers that stand in the cells of these names, which wraps.
+/// The sum of the numbers that the cells of these names hold, which wraps at 64 bits.
 pub struct RowTotal;
 
 impl Function for RowTotal {
@@ -42,7 +42,7 @@ impl Function for RowTotal {
     }
 }
 
-/// A sum, which wraps.
+/// The sum of two numbers, which wraps at 64 bits.
 pub fn add(total: i64, number: i64) -> i64
     ensures { result ≡ plus total number }
 {

@@ -8,7 +8,7 @@ use std::alloc::AllocError;
 /// What can be asked of settings.
 #[derive(Clone, Copy, Drop, Debug, PartialEq, Eq, Hash)]
 pub enum SettingsCall {
-    /// Whether numbers below 0 are hidden.
+    /// Whether negative numbers are hidden.
     HidesNegative,
     /// How wide a column is.
     Width,
@@ -35,16 +35,16 @@ impl Call for SettingsCall {
 /// What settings answer.
 #[derive(Clone, Copy, Drop, Debug, PartialEq, Eq, PartialOrd, Ord)]
 pub enum Setting {
-    /// Whether it is so.
+    /// A yes or no.
     Is(bool),
-    /// How much it is.
+    /// A number.
     Much(u64),
 }
 
-/// Settings.
+/// Settings: what is hidden, and how wide columns are.
 #[derive(Drop)]
 pub struct Settings {
-    /// Whether numbers below 0 are hidden.
+    /// Whether negative numbers are hidden.
     pub hides_negative: bool,
     /// How wide a column is.
     pub width: u64,

@@ -10,7 +10,7 @@ use std::collections::HashMap;
 /// What can be asked of a sheet.
 #[derive(Clone, Drop, Debug, PartialEq, Eq, Hash)]
 pub enum SheetCall {
-    /// What stands in the cell of a name.
+    /// The content of the cell of a name.
     Cell(String),
 }
 
@@ -32,7 +32,7 @@ impl Call for SheetCall {
     }
 }
 
-/// What stands in a cell.
+/// The content of a cell.
 #[derive(Clone, Drop, Debug, PartialEq, Eq, PartialOrd, Ord)]
 pub enum Content {
     /// Nothing.
@@ -44,7 +44,7 @@ pub enum Content {
 }
 
 impl Content {
-    /// The number that stands there itself; 0 where none does.
+    /// The number that the cell holds itself; 0 if none.
     pub fn number(&self) -> i64
         ensures { result ≡ number_in self.now }
     {
@@ -54,7 +54,7 @@ impl Content {
         }
     }
 
-    /// The names of the cells whose sum it is.
+    /// The names of the cells whose sum it is; empty if it is no sum.
     pub fn names(&self) -> &[String]
         ensures { result.now ≡ names_in self.now }
     {
@@ -65,14 +65,14 @@ impl Content {
     }
 }
 
-/// A sheet: what stands in each cell. A cell that was never set is empty.
+/// A sheet: the content of each cell. A cell that was never set is empty.
 #[derive(Drop)]
 pub struct Sheet {
     cells: HashMap<String, Content>,
 }
 
 impl Sheet {
-    /// A sheet of empty cells. It takes no memory.
+    /// A sheet of empty cells. Does not allocate.
     pub fn new(alloc: Global) -> Self
         ensures { (name : List ℕ) → content_of result.cells name ≡ Content.Empty }
     {
@@ -81,7 +81,7 @@ impl Sheet {
         }
     }
 
-    /// What stands in the cell of a name.
+    /// A copy of the content of the cell of a name. Fails if out of memory.
     fn content(&self, name: &str) -> Result<Content, AllocError>
         ensures { IfOk result (λ content.
             IsTrue (⟦<Content as PartialEq>⟧.eq (content_of self.now.cells name.now) content)) }
@@ -94,7 +94,7 @@ impl Sheet {
     }
 
     #[tactic(auto, using(std::proofs::lemmas::Map::Text::text_keys))]
-    /// Sets a cell. An error says that there was no memory; then the sheet is as it was.
+    /// Sets a cell. Fails if out of memory; then the sheet is unchanged.
     pub fn set(&mut self, name: String, content: Content) -> Result<(), AllocError>
         ensures ok { OnOk result ((q : List ℕ) → content_of self.new.cells q
             ≡ (if bytes_eq q (string_bytes name) then content else content_of self.old.cells q)) }

@@ -1,4 +1,4 @@
-//! The number of a cell as settings show it: a memoized function of two tracked values, which calls another.
+//! The number of a cell as settings show it: a memoized function of two tracked values, which calls another one.
 ghost use Rattle.std.specs.Prelude.{◌≡◌};
 ghost use Rattle.std.proofs.Common.{rules, ◌∙◌, ap};
 ghost use Rattle.comemo.specs.Meaning.{reading};
@@ -10,7 +10,7 @@ use crate::sheet::{Content, Sheet, SheetCall};
 use comemo::{Both, Fault, FunctionOf, Hold, Memo, MemoOf, MultiAnswer, MultiCall, Recorder};
 use std::marker::PhantomData;
 
-/// A number as it is shown.
+/// A number as it is shown: 0 if it is negative and those are hidden.
 fn show(number: i64, hides_negative: Setting) -> i64
     ensures { result ≡ shown hides_negative number }
 {
@@ -20,7 +20,7 @@ fn show(number: i64, hides_negative: Setting) -> i64
     }
 }
 
-/// The number that stands in a cell as it is shown: 0 in its place where it is below 0 and such are hidden.
+/// The number that a cell holds, as it is shown.
 ///
 /// `H` holds the cache of the numbers: a `CacheData`, or a share of one that threads share.
 pub struct Shown<H> {

@@ -1,4 +1,4 @@
-//! The value of a cell, by the cells that it refers to: a function that calls itself through its own cache.
+//! The value of a cell by the cells that it refers to: a function that calls itself through its own cache.
 ghost use Rattle.std.specs.Prelude.{◌≡◌, IfOk};
 ghost use Rattle.std.proofs.Common.{rules, ◌∙◌};
 ghost use Rattle.comemo.specs.Recursive.{TellsOwn};
@@ -12,9 +12,10 @@ use comemo::internal::Told;
 use comemo::{Begun, Fault, Hold, MemoOfRecursive, Recorder, Recursive, Track};
 use std::alloc::Global;
 
-/// The value of a cell: the number that stands there, or the sum of the values of the cells whose names do.
+/// The value of a cell: its number, or the sum of the values of the cells that it refers to.
 ///
-/// It goes down to a limit, so that it ends where cells refer to one another in a circle: then it is none.
+/// The key is a name and the depth up to which it goes. So it ends for cells that refer to each other in a circle:
+/// their value is `None`.
 pub struct Value;
 
 impl Recursive for Value {
@@ -33,7 +34,7 @@ impl Recursive for Value {
     } };
 }
 
-/// The sum of two values; none where one is none.
+/// The sum of two values; `None` if one of them is.
 pub fn sum(total: Option<i64>, value: Option<i64>) -> Option<i64>
     ensures { result ≡ both total value }
 {
@@ -43,7 +44,7 @@ pub fn sum(total: Option<i64>, value: Option<i64>) -> Option<i64>
     }
 }
 
-/// The value of the cell of a name, kept, by cells down to a limit.
+/// The value of the cell of a name, through a cache, up to a depth of `limit`.
 pub fn valued<H: Hold<MemoOfRecursive<Value>>>(
     cache: &mut H,
     name: String,
@@ -61,6 +62,7 @@ pub fn valued<H: Hold<MemoOfRecursive<Value>>>(
         Begun::Hit(value) => return Ok(value),
         Begun::Run(run) => run,
     };
+    // The run's own recorder: what is asked through it is stored with the run.
     let recorder = &mut run.recorder;
     let content = recorder.ask(SheetCall::Cell(key.0.clone()?))?;
     let mut total = Some(content.number());
@@ -71,7 +73,7 @@ pub fn valued<H: Hold<MemoOfRecursive<Value>>>(
     of.finish(cache, &key, run, total)
 }
 
-/// The value of the cell of a name in a sheet as it is, by cells down to a limit.
+/// The value of the cell of a name in a sheet as it is, through a cache, up to a depth of `limit`.
 pub fn value_now<H: Hold<MemoOfRecursive<Value>>>(
     alloc: Global,
     cache: &mut H,

@@ -1,4 +1,4 @@
-//! Functions of a spreadsheet: what they give, and which calls were answered from the cache.
+//! Functions of a spreadsheet: what they return, and which calls are hits.
 
 use Step::{Kept, Number, Plain, Ranged, Row, Set, Show, Sum, Third, Total};
 use comemo::{
@@ -23,7 +23,7 @@ fn names(alloc: Global, all: &[&str]) -> Result<Vec<String>, AllocError> {
     Ok(names)
 }
 
-/// Whether a number was put into the cell of a name.
+/// Puts a number into the cell of a name. Returns whether that worked.
 fn is_set(alloc: Global, sheet: &mut Sheet, name: &str, number: i64) -> bool {
     let Ok(name) = String::from_str(alloc, name) else {
         return false;
@@ -31,7 +31,7 @@ fn is_set(alloc: Global, sheet: &mut Sheet, name: &str, number: i64) -> bool {
     sheet.set(name, Content::Number(number)).is_ok()
 }
 
-/// Whether the sum of cells was put into the cell of a name.
+/// Puts the sum of cells into the cell of a name. Returns whether that worked.
 fn is_sum(alloc: Global, sheet: &mut Sheet, name: &str, of: &[&str]) -> bool {
     let Ok(of) = names(alloc, of) else {
         return false;
@@ -42,7 +42,7 @@ fn is_sum(alloc: Global, sheet: &mut Sheet, name: &str, of: &[&str]) -> bool {
     sheet.set(name, Content::Sum(of)).is_ok()
 }
 
-/// Whether these stand in a new sheet now: A1 = 1, A2 = 2, B1 = A1 + A2, C1 = B1 + A1.
+/// Fills a new sheet: A1 = 1, A2 = 2, B1 = A1 + A2, C1 = B1 + A1. Returns whether that worked.
 fn is_filled(alloc: Global, sheet: &mut Sheet) -> bool {
     is_set(alloc, sheet, "A1", 1)
         && is_set(alloc, sheet, "A2", 2)
@@ -50,7 +50,7 @@ fn is_filled(alloc: Global, sheet: &mut Sheet) -> bool {
         && is_sum(alloc, sheet, "C1", &["B1", "A1"])
 }
 
-/// Whether the number of A1 is given, and this becomes of the call.
+/// Whether a call returns this number of A1 and ends as `how`.
 fn is_number(
     alloc: Global,
     cache: &mut CacheData<MemoOf<NumberIn>>,
@@ -67,7 +67,7 @@ fn is_number(
     }
 }
 
-/// Whether the plain number of a cell, or why it has none, is given, and this becomes of the call.
+/// Whether a call returns the plain number of a cell, or why it has none, and ends as `how`.
 fn is_plain(
     alloc: Global,
     cache: &mut CacheData<MemoOf<PlainNumber>>,
@@ -85,7 +85,7 @@ fn is_plain(
     }
 }
 
-/// Whether the total of a row is given, of which A3 is empty and B1 is no number, and this becomes of the call.
+/// Whether a call returns this total of a row, of which A3 is empty and B1 is no number, and ends as `how`.
 fn is_total(
     alloc: Global,
     cache: &mut CacheData<MemoOf<RowTotal>>,
@@ -102,7 +102,7 @@ fn is_total(
     }
 }
 
-/// Whether the number of A1 is shown so by settings, and this becomes of the call.
+/// Whether settings show A1 as this number, and the call ends as `how`.
 fn is_shown(
     alloc: Global,
     cache: &mut CacheData<Shown<CacheData<MemoOf<NumberIn>>>>,
@@ -125,7 +125,7 @@ fn is_shown(
     }
 }
 
-/// Whether this is the value of C1, by cells down to the limit 3.
+/// Whether this is the value of C1, up to a depth of 3.
 fn is_third(
     alloc: Global,
     cache: &mut CacheData<MemoOfRecursive<Value>>,
@@ -141,7 +141,7 @@ fn is_third(
     }
 }
 
-/// Whether this is the value of the cell of a name, by the totals of ranges down to the limit 4.
+/// Whether this is the value of the cell of a name, by the totals of ranges up to a depth of 4.
 fn is_ranged(alloc: Global, kept: &mut Ranges, sheet: &Sheet, name: &str, value: i64) -> bool {
     let Ok(name) = String::from_str(alloc, name) else {
         return false;
@@ -153,7 +153,7 @@ fn is_ranged(alloc: Global, kept: &mut Ranges, sheet: &Sheet, name: &str, value:
     }
 }
 
-/// Whether this is the total of the range of these cells, down to the limit 4.
+/// Whether this is the total of the range of these cells, up to a depth of 4.
 fn is_range_total(
     alloc: Global,
     kept: &mut Ranges,
@@ -171,7 +171,7 @@ fn is_range_total(
     }
 }
 
-/// A sheet, and what is kept of its functions.
+/// A sheet, and the caches of its functions.
 #[derive(Drop)]
 struct Desk {
     sheet: Sheet,
@@ -184,7 +184,7 @@ struct Desk {
 }
 
 impl Desk {
-    /// An empty sheet, of which nothing is kept.
+    /// An empty sheet, with empty caches.
     fn new(alloc: Global) -> Desk {
         Desk {
             sheet: Sheet::new(alloc),
@@ -198,12 +198,12 @@ impl Desk {
     }
 }
 
-/// A change of the sheet, or a call with what it is to give and what is to become of it.
+/// A change of the sheet, or a call with its wanted output and how it should end.
 #[derive(Clone, Copy)]
 enum Step<'a> {
-    /// A number goes into the cell of a name.
+    /// Puts a number into the cell of a name.
     Set(&'a str, i64),
-    /// The sum of cells goes into the cell of a name.
+    /// Puts the sum of cells into the cell of a name.
     Sum(&'a str, &'a [&'a str]),
     /// The number of A1.
     Number(i64, How),
@@ -211,19 +211,19 @@ enum Step<'a> {
     Plain(&'a str, Result<i64, NoNumber>, How),
     /// The total of the row.
     Row(i64, How),
-    /// The number of A1, as it is shown where negative ones are hidden or not, at this width.
+    /// The number of A1 as it is shown with negative numbers hidden or not, at this width.
     Show(bool, u64, i64, How),
-    /// So many numbers are kept.
+    /// This many numbers are kept.
     Kept(usize),
-    /// The value of C1, with so many values kept then.
+    /// The value of C1, and how many values are kept then.
     Third(Option<i64>, usize),
-    /// The value of the cell of a name by ranges, with so many values and totals kept then.
+    /// The value of the cell of a name by ranges, and how many values and totals are kept then.
     Ranged(&'a str, i64, usize, usize),
     /// The total of the range of these cells.
     Total(&'a [&'a str], Option<i64>),
 }
 
-/// Whether a step is done, and comes to what it is to.
+/// Whether a step has the wanted result.
 fn is_done(alloc: Global, desk: &mut Desk, step: Step<'_>) -> bool {
     let sheet = &mut desk.sheet;
     match step {
@@ -254,7 +254,7 @@ fn is_done(alloc: Global, desk: &mut Desk, step: Step<'_>) -> bool {
     }
 }
 
-/// The place of the first of these steps that is not done; 0 also where the sheet was to be filled first and was not.
+/// The index of the first step with another result; 0 also if the sheet could not be filled first.
 fn first_undone_on(
     alloc: Global,
     desk: &mut Desk,

@@ -1,4 +1,4 @@
-//! The spreadsheet and the numbers of Fibonacci at work.
+//! Tests of the spreadsheet and of the Fibonacci numbers.
 #![tactic(auto)]
 
 #[cfg(test)]

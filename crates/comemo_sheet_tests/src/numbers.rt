@@ -1,4 +1,4 @@
-//! A function that calls itself: each number is kept once, and each call after that is answered from the cache.
+//! A function that calls itself: each number is stored once, and each later call of it is a hit.
 
 use comemo::{Begun, Cache, CacheData, Fault, Hold, How, MemoOfRecursive, Recorder, Track};
 use comemo_sheet::fibonacci::{Fib, numbered};
@@ -27,7 +27,7 @@ fn each_number_is_kept_once(rt: HostRuntime) {
         // those at 0 and 1 are not kept
         (90, 2880067194370816120, 89),
         (50, 12586269025, 89),
-        // 19740274219868223167 less 2 to the 64th
+        // 19740274219868223167 less 2^64
         (94, 1293530146158671551, 93),
     ];
     for (place, number, len) in numbers {
@@ -45,7 +45,7 @@ fn a_shared_cache_keeps_them_too(rt: HostRuntime) {
     }
 }
 
-/// What becomes of a call of the number at place 0, by hand.
+/// How a call of the number at place 0, made by hand, ends.
 fn how_it_went(alloc: Global, cache: &mut CacheData<MemoOfRecursive<Fib>>) -> Result<How, Fault> {
     let mut recorder = Recorder::new(alloc, ().track(alloc));
     match recorder.begin(cache, &0)? {

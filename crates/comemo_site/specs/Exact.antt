@@ -1,4 +1,4 @@
--- Lists and answers whose equal items are the same.
+-- If equal items are the same, so are lists of equal items, and any answers respect equality of calls.
 use Rattle.std.specs.Prelude.{◌≡◌, List, [], ◌∷◌, Bool}
 use Rattle.std.proofs.Common.{IsTrue, rules, refl, sym, subst}
 use Rattle.std.specs.Cmp.Lexicographic.{pointwise}

@@ -10,28 +10,28 @@ use Rattle.comemo_site.specs.declared.site.SiteCall.{SiteCall}
 use Rattle.comemo_site.specs.declared.site.SiteCall.TheVariants.{TitleOf, LinesOf}
 use Rattle.comemo_site.specs.declared.site.SiteAnswer.{SiteAnswer}
 
--- what each line gives, one after the other
+-- the results of the lines, concatenated in order
 abbrev pub in_turn : {X : Type 0} → (Line → List X) → List Line → List X
 in_turn each lines = fold (λ all line. all ++ each line) [] lines
 
--- the warning of a page of this name, where it isn't there
+-- the warning of a page of this name, if it is missing
 abbrev pub missing : {X : Type 0} → List ℕ → Option X → List Warning
 missing name None = Missing name ∷ []
 missing name (Some x) = []
 
--- the text of a line, by this word for the text of a page that is included
+-- the text of a line, where `inner` is the text of an included page
 abbrev pub line_text : (SiteCall → SiteAnswer) → (List ℕ → List ℕ) → Line → List ℕ
 line_text m inner (Words words) = words ++ 10 ∷ []
 line_text m inner (Include name) = inner name
 line_text m inner (Link name) = unwrap_or (title_in (m (TitleOf name))) name ++ 10 ∷ []
 
--- what is wrong with a line, by this word for what is wrong with a page that is included
+-- what is wrong with a line, where `inner` is what is wrong with an included page
 abbrev pub line_warnings : (SiteCall → SiteAnswer) → (List ℕ → List Warning) → Line → List Warning
 line_warnings m inner (Words words) = []
 line_warnings m inner (Include name) = inner name
 line_warnings m inner (Link name) = missing name (title_in (m (TitleOf name)))
 
--- the text of the page of a name, with the pages that it includes down to a limit
+-- the text of the page of a name, with the pages that it includes up to a depth of `limit`
 abbrev pub page_text : (SiteCall → SiteAnswer) → ℕ → List ℕ → List ℕ
 page_text m zero name = []
 page_text m (suc limit) name = in_turn (line_text m (page_text m limit)) (unwrap_or (lines_in (m (LinesOf name))) [])

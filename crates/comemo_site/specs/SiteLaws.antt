@@ -1,4 +1,4 @@
--- That a site answers equal calls alike, that a clone of an answer is equal, and that equal answers have the same lines.
+-- A site answers equal calls alike, a clone of an answer is equal to it, and equal answers have the same lines.
 use Rattle.std.specs.Prelude.{◌≡◌, String}
 use Rattle.std.specs.Global.{Global}
 use Rattle.std.specs.HashMap.{HashMap}

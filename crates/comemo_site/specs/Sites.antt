@@ -1,4 +1,4 @@
--- What a site answers, and what is to be read in an answer.
+-- What a site answers, and what an answer holds.
 use Rattle.std.specs.Prelude.{ℕ, List, String, Option, None, Some}
 use Rattle.std.specs.Global.{Global}
 use Rattle.std.specs.HashMap.{HashMap, get_by_text}
@@ -26,13 +26,13 @@ abbrev pub site_answer : {H : Type 0} → HashMap (String Global) Page H → Sit
 site_answer pages (TitleOf name) = title_answer (page_of pages name)
 site_answer pages (LinesOf name) = lines_answer (page_of pages name)
 
--- the title of a page; none where there is no such page
+-- the title in an answer; none if there is no such page
 abbrev pub title_in : SiteAnswer → Option (List ℕ)
 title_in Missing = None
 title_in (Title title) = Some title
 title_in (Lines lines) = None
 
--- the lines of a page; none where there is no such page
+-- the lines in an answer; none if there is no such page
 abbrev pub lines_in : SiteAnswer → Option (List Line)
 lines_in Missing = None
 lines_in (Title title) = None

@@ -1,4 +1,4 @@
-//! A link with its warning: a function that reads one value and writes another.
+//! A link with its warning: a function that reads one value and writes to another.
 ghost use Rattle.std.specs.Prelude.{◌≡◌, ◌++◌, ◌∷◌, [], map, unwrap_or, string_bytes, IfOk};
 ghost use Rattle.std.proofs.Common.{rules};
 ghost use Rattle.comemo.specs.Function.{OnPart};
@@ -19,7 +19,7 @@ use comemo::{
 };
 use std::alloc::AllocError;
 
-/// The line of a link to the page of a name: its title, or the name and a warning where there is no such page.
+/// The line of a link to the page of a name: its title, or the name and a warning if there is no such page.
 pub struct Link;
 
 impl Memo for Link {
@@ -59,7 +59,7 @@ impl<'a> FunctionMutOf<ReadAndWrite<'a, Site, Log>> for Link {
     }
 }
 
-/// A text with the end of its line.
+/// A text with a newline.
 fn ended(text: Text) -> Result<Text, AllocError>
     ensures { IfOk result (λ line. line ≡ text ++ 10 ∷ []) }
 {

@@ -1,4 +1,4 @@
-//! A log of warnings, as a tracked value that is written.
+//! A log of warnings: a tracked value that is only written.
 ghost use Rattle.std.specs.Prelude.{◌≡◌, [], refl, true, false};
 ghost use Rattle.std.proofs.Common.{rules};
 
@@ -51,7 +51,7 @@ impl Model for Log {
 }
 
 impl Log {
-    /// A log of no warning. It takes no memory.
+    /// An empty log. Does not allocate.
     pub fn new(alloc: Global) -> Self
         ensures { result ≡ [] }
     {
@@ -92,6 +92,7 @@ impl Track for Log {
     ghost clones = { λ x y h. Prim.search rules };
 
     fn ask(&self, _call: &Warning) -> Result<(), AllocError> {
+        // Each call is a write, so there is no answer.
         Err(AllocError)
     }
 

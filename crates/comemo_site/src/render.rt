@@ -1,4 +1,5 @@
-//! A page as it is printed: a function that reads alone, and calls itself through its own cache and another function.
+//! A page as it is printed: a function that only reads, and that calls itself through its own cache and another
+//! function.
 ghost use Rattle.std.specs.Prelude.{◌≡◌, ◌++◌, ◌∷◌, [], string_bytes, unwrap_or, IfOk};
 ghost use Rattle.std.proofs.Common.{rules};
 ghost use Rattle.comemo.specs.Recursive.{TellsOwn};
@@ -14,7 +15,7 @@ use comemo::internal::Told;
 use comemo::{Begun, CacheData, Fault, Hold, MemoOf, MemoOfRecursive, Recorder, Recursive, Track};
 use std::alloc::{AllocError, Global};
 
-/// The text of a page, with the pages that it includes down to a limit.
+/// The text of a page, with the pages that it includes. The key is a name and the depth up to which it goes.
 pub struct Render;
 
 impl Recursive for Render {
@@ -29,10 +30,10 @@ impl Recursive for Render {
     ghost laws = { Prim.search rules };
 }
 
-/// What rendering keeps: the pages and the titles.
+/// The caches of rendering: of pages and of titles.
 pub type Kept = (CacheData<MemoOfRecursive<Render>>, CacheData<MemoOf<Title>>);
 
-/// The text of the page of a name, kept, with the pages that it includes down to a limit.
+/// The text of the page of a name, through caches, with the pages that it includes up to a depth of `limit`.
 #[cycle(rendering)]
 pub fn rendered<P: Hold<MemoOfRecursive<Render>>, T: Hold<MemoOf<Title>>>(
     alloc: Global,
@@ -52,6 +53,7 @@ pub fn rendered<P: Hold<MemoOfRecursive<Render>>, T: Hold<MemoOf<Title>>>(
         Begun::Hit(text) => return Ok(text),
         Begun::Run(run) => run,
     };
+    // The run's own recorder: what is asked through it is stored with the run.
     let recorder = &mut run.recorder;
     let answer = recorder.ask(SiteCall::LinesOf(key.0.clone()?))?;
     let mut text = String::new(alloc);
@@ -62,7 +64,7 @@ pub fn rendered<P: Hold<MemoOfRecursive<Render>>, T: Hold<MemoOf<Title>>>(
     site.finish(&mut kept.0, &key, run, Text::new(text))
 }
 
-/// The text of a line, with the page that it includes down to a limit.
+/// The text of a line, with the page that it includes up to a depth of `limit`.
 #[cycle(rendering)]
 fn line_rendered<P: Hold<MemoOfRecursive<Render>>, T: Hold<MemoOf<Title>>>(
     alloc: Global,
@@ -84,7 +86,7 @@ fn line_rendered<P: Hold<MemoOfRecursive<Render>>, T: Hold<MemoOf<Title>>>(
     }
 }
 
-/// The title of a page.
+/// The title of a page, through a cache.
 fn titled<T: Hold<MemoOf<Title>>>(
     titles: &mut T,
     name: &Text,
@@ -99,7 +101,7 @@ fn titled<T: Hold<MemoOf<Title>>>(
     }
 }
 
-/// A text with the end of its line.
+/// A text with a newline.
 pub fn ended(alloc: Global, text: &Text) -> Result<Text, AllocError>
     ensures { IfOk result (λ line. line ≡ text.now ++ 10 ∷ []) }
 {
@@ -108,7 +110,7 @@ pub fn ended(alloc: Global, text: &Text) -> Result<Text, AllocError>
     Ok(Text::new(line))
 }
 
-/// The line of a link to a page of this title: the title, or the name where there is no such page.
+/// The line of a link: the title of its page, or the name if there is no such page.
 fn linked(alloc: Global, title: Option<Text>, name: &Text) -> Result<Text, AllocError>
     ensures { IfOk result (λ line. line ≡ unwrap_or title name.now ++ 10 ∷ []) }
 {
@@ -118,7 +120,7 @@ fn linked(alloc: Global, title: Option<Text>, name: &Text) -> Result<Text, Alloc
     }
 }
 
-/// The text of a page of a site as it is, with the pages that it includes down to a limit.
+/// The text of a page of a site as it is, with the pages that it includes up to a depth of `limit`.
 pub fn page_now<P: Hold<MemoOfRecursive<Render>>, T: Hold<MemoOf<Title>>>(
     alloc: Global,
     kept: &mut (P, T),

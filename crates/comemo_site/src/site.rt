@@ -1,4 +1,4 @@
-//! A site of pages by name, as a tracked value that is read.
+//! A site of pages by name: a tracked value that is only read.
 ghost use Rattle.std.specs.Prelude.{◌≡◌, ℕ, List, None, Some, false, refl, bytes_eq, if◌then◌else◌, string_bytes, unwrap_or, [], IsTrue, IfOk, OnOk, OnErr};
 ghost use Rattle.std.proofs.Common.{rules};
 ghost use Rattle.comemo_site.specs.Sites.{page_of, title_answer, lines_answer, title_in, lines_in};
@@ -48,7 +48,7 @@ pub enum SiteAnswer {
 }
 
 impl SiteAnswer {
-    /// The title; none where there is no such page.
+    /// The title; `None` if there is no such page.
     pub fn into_title(self) -> Option<Text>
         ensures { result ≡ title_in self }
     {
@@ -58,7 +58,7 @@ impl SiteAnswer {
         }
     }
 
-    /// The lines; none where there is no such page.
+    /// The lines; empty if there is no such page.
     pub fn lines(&self) -> &[Line]
         ensures { result.now ≡ unwrap_or (lines_in self.now) [] }
     {
@@ -85,7 +85,7 @@ pub struct Site {
 }
 
 impl Site {
-    /// A site of no page. It takes no memory.
+    /// A site without pages. Does not allocate.
     pub fn new(alloc: Global) -> Self
         ensures { (name : List ℕ) → page_of result.pages name ≡ None }
     {
@@ -95,9 +95,7 @@ impl Site {
     }
 
     #[tactic(auto, using(std::proofs::lemmas::Map::Text::text_keys))]
-    /// Sets a page.
-    ///
-    /// Fails if there is no memory for it. The site is unchanged then.
+    /// Sets a page. Fails if out of memory; then the site is unchanged.
     pub fn set(&mut self, name: String, page: Page) -> Result<(), AllocError>
         ensures ok { OnOk result ((q : List ℕ) → page_of self.new.pages q
             ≡ (if bytes_eq q (string_bytes name) then Some page else page_of self.old.pages q)) }
@@ -110,7 +108,7 @@ impl Site {
         }
     }
 
-    /// The title of a page.
+    /// The answer with a page's title, copied.
     fn title(&self, name: &str) -> Result<SiteAnswer, AllocError>
         ensures { IfOk result (λ answer. answer ≡ title_answer (page_of self.now.pages name.now)) }
     {
@@ -121,7 +119,7 @@ impl Site {
         Ok(SiteAnswer::Title(title))
     }
 
-    /// The lines of a page.
+    /// The answer with a page's lines, copied.
     fn lines(&self, name: &str) -> Result<SiteAnswer, AllocError>
         ensures { IfOk result (λ answer. IsTrue (⟦<SiteAnswer as PartialEq>⟧.eq
             (lines_answer (page_of self.now.pages name.now)) answer)) }

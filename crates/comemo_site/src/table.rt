@@ -1,4 +1,4 @@
-//! Pages that threads render, through caches that they share.
+//! Pages that threads render through caches that they share.
 ghost use Rattle.std.specs.Prelude.{◌≡◌, ℕ, ◌<◌, length, IfOk, slice_index_or};
 ghost use Rattle.comemo_site.specs.Sites.{site_answer};
 ghost use Rattle.comemo_site.specs.Pages.{page_text};
@@ -12,10 +12,10 @@ use std::alloc::{AllocError, Global};
 use std::sync::Wait;
 use std::thread::{Threads, map_indices};
 
-/// What threads share: the pages and the titles that are kept.
+/// The caches that threads share: of pages and of titles.
 pub type SharedPages = (Cache<MemoOfRecursive<Render>>, Cache<MemoOf<Title>>);
 
-/// The text of a page of a site as it is, kept in caches that other threads use too.
+/// The text of a page of a site as it is, through caches that threads share.
 pub fn shared_page<R: Wait>(
     rt: &R,
     alloc: Global,
@@ -30,9 +30,9 @@ pub fn shared_page<R: Wait>(
     page_now(alloc, &mut kept, site, name.clone()?, limit)
 }
 
-/// The texts of the pages of these names, in their order: a table that threads render.
+/// The texts of the pages of these names, in their order: a table that threads fill.
 ///
-/// Fails if there is no memory for the table. A page whose call failed has its fault in the table.
+/// Fails if out of memory for the table. A page whose call fails has its fault in the table.
 pub fn table<R: Threads + Wait + Sync>(
     rt: &R,
     alloc: Global,

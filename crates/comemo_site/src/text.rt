@@ -15,8 +15,8 @@ use std::marker::Model;
 
 /// A text for keys, calls and answers: a `String` that contracts see as its bytes.
 ///
-/// Two `String`s of the same bytes are not one value, since each has its own place in memory. Two `Text`s of the same
-/// bytes are, and so are a `Text` and its clone. So the laws of a function over `Text`s are those of one over numbers.
+/// Two `String`s of the same bytes are not one value, since each has its own allocation. Two `Text`s of the same bytes
+/// are, and so are a `Text` and its clone. So a function over `Text`s has the same laws as one over numbers.
 #[derive(Drop)]
 pub struct Text {
     string: String,
@@ -31,16 +31,14 @@ impl Model for Text {
 }
 
 impl Text {
-    /// The text of a `String`. It copies nothing.
+    /// The text of a `String`, without a copy.
     pub fn new(string: String) -> Self
         ensures { result ≡ string_bytes string }
     {
         Text { string }
     }
 
-    /// A copy of a text.
-    ///
-    /// Fails if there is no memory for it.
+    /// A copy of a text. Fails if out of memory.
     pub fn from_str(alloc: Global, text: &str) -> Result<Self, AllocError>
         ensures { IfOk result (λ copy. copy ≡ text.now) }
     {
@@ -48,7 +46,7 @@ impl Text {
         Ok(Text { string })
     }
 
-    /// The `String` of the text. It copies nothing.
+    /// The `String` of the text, without a copy.
     pub fn into_string(self) -> String
         ensures { string_bytes result ≡ self }
     {

@@ -8,7 +8,7 @@ use crate::site::{Site, SiteCall};
 use crate::text::Text;
 use comemo::{Fault, Function, Recorder};
 
-/// The title of the page of a name; none where there is no such page.
+/// The title of the page of a name; `None` if there is no such page.
 pub struct Title;
 
 impl Function for Title {

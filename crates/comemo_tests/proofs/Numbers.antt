@@ -1,6 +1,6 @@
--- Numbers are told apart by what they are.
+-- Equal numbers are the same.
 use Rattle.std.proofs.Common.{◌≡◌, ℕ, nat_eq, rules, IsTrue}
 
--- an answer that equals one is it, turned round
+-- equal answers are the same, in the other direction
 pub same_number : (a b : ℕ) → IsTrue (nat_eq a b) → b ≡ a
 same_number a b h = search rules

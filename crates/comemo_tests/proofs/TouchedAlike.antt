@@ -1,4 +1,4 @@
--- Which reads a list of writes touches, of lists that are equal place by place.
+-- Lists of writes that are equal place by place touch the same reads.
 use Rattle.std.proofs.Common.{◌≡◌, Bool, ◌||◌, List, [], ◌∷◌, IsTrue, refl, ap, ◌∙◌}
 use Rattle.std.specs.List.{AllZip}
 use Rattle.comemo.specs.Tree.{IsSamePath}

@@ -1,5 +1,4 @@
-//! A memoized function that asks through a view which keeps what it was answered, and a value that counts how often it is
-//! asked.
+//! A memoized function that asks through a view which keeps the answers, and a value that counts how often it is asked.
 ghost use Rattle.std.specs.Prelude.{◌≡◌, IfOk, false, refl};
 ghost use Rattle.std.proofs.Common.{rules};
 
@@ -11,7 +10,7 @@ use std::alloc::{AllocError, Global};
 use std::hash::Hash;
 use std::sync::atomic::{AtomicU64, Ordering};
 
-/// A context that counts how often it is asked, and may refuse to say how it is set.
+/// A context that counts how often it is asked, and may fail to answer for its styles.
 #[derive(Drop)]
 pub struct Counting {
     context: Context,
@@ -20,7 +19,7 @@ pub struct Counting {
 }
 
 impl Counting {
-    /// A context that was not asked yet.
+    /// A context that has not been asked yet.
     pub fn new(location: u64, styles: u64, refuses: bool) -> Counting {
         Counting {
             context: Context { location, styles },
@@ -57,7 +56,7 @@ impl Track for Counting {
     }
 }
 
-/// The location of a context, kept, by a view that knows what it was answered.
+/// The location of a context, through a cache, by a view that keeps its answers.
 pub fn known_location(
     alloc: Global,
     cache: &mut CacheData<LocationMemo>,
@@ -82,8 +81,8 @@ pub fn known_location(
     }
 }
 
-/// Whether three calls through one view of a value give its location, this becomes of the first, and the others are hits.
-/// The value is asked once.
+/// Whether three calls through one view of a value return its location, the first ends as `how`, and the others are
+/// hits. The value is asked once.
 fn asks_once(
     alloc: Global,
     cache: &mut CacheData<LocationMemo>,
@@ -118,7 +117,7 @@ fn hits_and_runs_ask_through_one_view(rt: HostRuntime) {
     assert!(rt; is_again);
 }
 
-/// Whether a view gives the location 3 twice.
+/// Whether a view returns the location 3 twice.
 fn gives_twice(view: &mut Accelerated<'_, Counting>) -> bool {
     let first = view.ask(ContextCall::Location, &mut Top::new());
     let second = view.ask(ContextCall::Location, &mut Top::new());
@@ -140,8 +139,8 @@ fn sends_what_it_knows(alloc: Global) -> bool {
     is_given && is_known && is_sent && is_held && holds && value.asked() == 1
 }
 
-/// Whether a fork of a view knows nothing of what the view knows, nor the view of what its fork does, and the plain view
-/// asks each time.
+/// Whether a fork of a view knows no answer that the view knows, nor the view one that its fork knows, and the plain
+/// view asks each time.
 fn forks_know_nothing(alloc: Global) -> bool {
     let value = Counting::new(3, 5, false);
     let mut view = value.track(alloc).accelerated(alloc);
@@ -165,7 +164,7 @@ fn a_view_that_keeps_answers_sends_them_and_its_fork_has_none(rt: HostRuntime) {
     assert!(rt; forks);
 }
 
-/// A read for whose clones there is no memory.
+/// A read whose clones fail to allocate.
 #[derive(Drop, Debug, PartialEq, Eq, Hash)]
 struct Single {
     number: u64,
@@ -199,7 +198,7 @@ impl Call for Single {
     }
 }
 
-/// A value that answers a number by itself, and counts how often it is asked.
+/// A value that answers each number with itself, and counts how often it is asked.
 #[derive(Drop)]
 struct Echo {
     asked: AtomicU64,
@@ -222,7 +221,7 @@ impl Track for Echo {
     }
 }
 
-/// Whether a view that has no memory for a call gives the answer of the value, and knows nothing of it then.
+/// Whether a view that is out of memory for a call returns the answer of the value, and does not keep it.
 fn goes_without(view: &mut Accelerated<'_, Echo>) -> bool {
     let is_given = view.ask(Single { number: 8 }, &mut Top::new()) == Ok(8);
     is_given && view.known(&Single { number: 8 }).is_none()

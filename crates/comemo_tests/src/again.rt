@@ -1,5 +1,5 @@
-//! Calls that follow one another: what a call that was stored says of the next one, proved from the contracts of
-//! `memoized_with` and `validate` alone.
+//! Consecutive calls: what a stored call implies for the next one, proved from the contracts of `memoized_with` and
+//! `validate` alone.
 ghost use Rattle.std.specs.Prelude.{◌≡◌, IfOk, IsTrue};
 ghost use Rattle.std.proofs.Common.{rules};
 
@@ -33,9 +33,9 @@ impl Function for Location {
     }
 }
 
-/// Calls a function twice at one key and one value.
+/// Calls a function twice with one key and one value.
 ///
-/// Where the first call was stored the second is a hit, and its output is a clone of the clone that was stored.
+/// If the first call was stored, the second is a hit, and its output is a clone of the clone that was stored.
 pub fn call_twice<M: FunctionOf<T>, T: Track>(
     alloc: Global,
     cache: &mut CacheData<M>,
@@ -53,16 +53,16 @@ pub fn call_twice<M: FunctionOf<T>, T: Track>(
     Ok((first, second))
 }
 
-/// What became of two calls, and whether what the first one asked is answered alike after it.
+/// The replies of two calls, and whether the answers to the questions of the first one are the same before the second.
 pub struct Around<Out> {
     pub first: Reply<Out>,
     pub valid: bool,
     pub second: Reply<Out>,
 }
 
-/// Calls a function of a value, and then, at an equal key, of what came of the value.
+/// Calls a function of a value, and then, with an equal key, of the changed value.
 ///
-/// Where what the first call asked is answered alike, and the first call was stored, the second is a hit, whatever else
+/// If the first call was stored, and the answers to its questions are the same, the second is a hit, whatever else
 /// changed.
 pub fn call_around<M: FunctionOf<T>, T: Track>(
     alloc: Global,
@@ -103,7 +103,7 @@ pub fn call_around<M: FunctionOf<T>, T: Track>(
     })
 }
 
-/// Whether a reply has this output, and this became of the call.
+/// Whether a reply has this output, and the call ended as `how`.
 fn gives(reply: Reply<u64>, output: u64, how: How) -> bool {
     reply.output == output && reply.how == how
 }
@@ -121,8 +121,8 @@ fn is_hit_again(alloc: Global) -> bool {
     }
 }
 
-/// Whether of a call at the location 3 and one at this location the first is stored, and this becomes of the second,
-/// which is a hit exactly where what the first asked is answered alike.
+/// Whether of a call at the location 3 and one at this location the first is stored, and the second ends as `how`. It
+/// is a hit exactly if the answers to the questions of the first are the same.
 fn becomes(alloc: Global, location: u64, styles: u64, how: How) -> bool {
     let mut cache: CacheData<MemoOf<Location>> = CacheData::new(alloc);
     let before = Context {

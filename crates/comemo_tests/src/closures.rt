@@ -6,7 +6,7 @@ use comemo::{CacheData, Constraint, Fault, How, Memo, Reply, Top, Track, Tracked
 use comemo_samples::{Context, ContextCall};
 use std::alloc::Global;
 
-/// The sum of the location and the styles of a context, which wraps.
+/// The sum of a context's location and its styles, which wraps at 64 bits.
 pub struct SumMemo;
 
 impl Memo for SumMemo {
@@ -25,7 +25,7 @@ impl Memo for SumMemo {
     ghost laws = { Prim.search rules };
 }
 
-/// The sum of the location and the styles of a context, which wraps, kept.
+/// The sum of a context's location and its styles, through a cache.
 pub fn closed_sum(
     alloc: Global,
     cache: &mut CacheData<SumMemo>,
@@ -49,7 +49,7 @@ pub fn closed_sum(
     )
 }
 
-/// Whether a call at a context of the location 3 gives this sum, and this becomes of the call.
+/// Whether a call at a context of the location 3 returns this sum, and ends as `how`.
 fn gives(
     alloc: Global,
     cache: &mut CacheData<SumMemo>,

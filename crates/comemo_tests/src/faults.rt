@@ -1,4 +1,4 @@
-//! Memoized functions whose runs end in a fault, and what a caller is told of it.
+//! Memoized functions whose runs end in a fault, and what their callers learn.
 ghost use Rattle.std.specs.Prelude.{⊤};
 ghost use Rattle.std.proofs.Common.{rules};
 ghost use Rattle.comemo.specs.Meaning.{reading};
@@ -11,7 +11,7 @@ use comemo::{
 use comemo_samples::{Context, ContextCall};
 use std::alloc::Global;
 
-/// A function whose runs all end for want of memory.
+/// A function whose runs all end out of memory.
 pub struct Refused;
 
 impl Function for Refused {
@@ -32,8 +32,8 @@ impl Function for Refused {
     }
 }
 
-/// A function that calls one that is refused, and hands its fault on where its key is true; else it says that its own
-/// recording is spoiled, as it is then.
+/// A function that calls `Refused`. It passes the fault on if its key is true, and otherwise returns `Incomplete`,
+/// since its own recording is incomplete then.
 pub struct Failing;
 
 impl Function for Failing {
@@ -62,7 +62,7 @@ impl Function for Failing {
     }
 }
 
-/// A function that calls one that fails.
+/// A function that calls `Failing`.
 pub struct Calling;
 
 impl Function for Calling {
@@ -87,8 +87,8 @@ impl Function for Calling {
     }
 }
 
-/// A function of two values that calls one that fails: of the first where the first part of its key is true, else of the
-/// second. Whatever it gave would be right.
+/// A function of two values that calls `Failing`: of the first value if the first part of its key is true, otherwise of
+/// the second. Any output is right.
 pub struct CallingOfPart;
 
 impl Memo for CallingOfPart {
@@ -123,7 +123,7 @@ impl<'a> FunctionOf<Both<'a, Context, Context>> for CallingOfPart {
     }
 }
 
-/// The context that is called with.
+/// The context of the calls.
 fn context() -> Context {
     Context {
         location: 3,
@@ -131,7 +131,7 @@ fn context() -> Context {
     }
 }
 
-/// Whether the caller of a closure that ends in a fault is told it, and its own recording is spoiled then.
+/// Whether the caller of a closure that ends in a fault gets that fault, and its own recording is incomplete then.
 fn is_told_of_closure(alloc: Global, fault: Fault) -> bool {
     let mut cache: CacheData<LocationMemo> = CacheData::new(alloc);
     let mut outer: Constraint<ContextCall, u64> = Constraint::new(alloc);
@@ -148,8 +148,8 @@ fn is_told_of_closure(alloc: Global, fault: Fault) -> bool {
     reply.err() == Some(fault) && !outer.is_whole()
 }
 
-/// Whether the caller of a closure that gives an output, and spoils its recording, is told that it is incomplete, and its
-/// own recording is spoiled then.
+/// Whether the caller of a closure that returns an output but makes its recording incomplete gets `Incomplete`, and its
+/// own recording is incomplete then.
 fn is_told_of_spoiled(alloc: Global) -> bool {
     let mut cache: CacheData<LocationMemo> = CacheData::new(alloc);
     let mut outer: Constraint<ContextCall, u64> = Constraint::new(alloc);
@@ -167,7 +167,7 @@ fn is_told_of_spoiled(alloc: Global) -> bool {
     reply.err() == Some(Fault::Incomplete) && !outer.is_whole() && cache.len() == 0
 }
 
-/// Whether the caller of a function with this key is told this fault, and its own recording is spoiled then.
+/// Whether the caller of a function with this key gets this fault, and its own recording is incomplete then.
 fn is_told<F: Function<Key = bool, Of = Context, Out = u64>>(
     alloc: Global,
     needs: &mut F::Needs,
@@ -188,7 +188,7 @@ fn is_told<F: Function<Key = bool, Of = Context, Out = u64>>(
     reply.err() == Some(fault) && !outer.is_whole()
 }
 
-/// Whether the caller of a function of two values with this key is told this fault.
+/// Whether the caller of a function of two values with this key gets this fault.
 fn is_told_of_part(alloc: Global, key: (bool, bool), fault: Fault) -> bool {
     let (one, other) = (context(), context());
     let both = Both {

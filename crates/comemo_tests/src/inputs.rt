@@ -27,7 +27,7 @@ impl Memo for LocationMemo {
     ghost laws = { Prim.search rules };
 }
 
-/// The location of a context, kept, by a view that the caller lends.
+/// The location of a context, through a cache, by a view that the caller lends.
 pub fn lent_location<S: Sink<Call = ContextCall, Answer = u64>>(
     alloc: Global,
     cache: &mut CacheData<LocationMemo>,
@@ -55,7 +55,7 @@ pub fn lent_location<S: Sink<Call = ContextCall, Answer = u64>>(
     }
 }
 
-/// The kept location of a context, if there is one.
+/// The cached location of a context, if there is one.
 fn kept(alloc: Global, cache: &CacheData<LocationMemo>, context: &Context) -> Option<u64> {
     match cache.look(&(), &mut context.track(alloc)) {
         Ok(Some(found)) => Some(found.output),
@@ -64,8 +64,8 @@ fn kept(alloc: Global, cache: &CacheData<LocationMemo>, context: &Context) -> Op
     }
 }
 
-/// Whether a call at a context gives its location, and this becomes of the call: it is a hit where the location is kept,
-/// and the location is kept then.
+/// Whether a call at a context returns its location, and ends as `how`: it is a hit if the location was cached, and the
+/// location is cached then.
 fn is_located(
     alloc: Global,
     cache: &mut CacheData<LocationMemo>,

@@ -12,7 +12,7 @@ use comemo::{
 use comemo_samples::{Context, ContextCall};
 use std::alloc::Global;
 
-/// Whether a number is one of a context's.
+/// Whether a context holds a number.
 pub struct ContainsMemo;
 
 impl Memo for ContainsMemo {
@@ -46,7 +46,8 @@ impl Memo for ContainsMemo {
     } };
 }
 
-/// Whether a number is one of a context's, kept. It asks the second one only where the first is another.
+/// Whether a context holds a number, through a cache. Asks for the second of its numbers only if the first is another
+/// one.
 pub fn contains(
     alloc: Global,
     cache: &mut CacheData<ContainsMemo>,
@@ -83,7 +84,7 @@ pub fn contains(
     }
 }
 
-/// Whether it is said so if a number is in a context of the location 3, and this becomes of the call.
+/// Whether a call returns whether a context of the location 3 holds a number, and ends as `how`.
 fn says(
     alloc: Global,
     cache: &mut CacheData<ContainsMemo>,
@@ -119,7 +120,7 @@ fn a_number_is_looked_for_in_a_context(rt: HostRuntime) {
     assert_eq!(rt; cache.len(), 3);
 }
 
-/// A function of two contexts of which any output is right.
+/// A function of two contexts, of which any output is right.
 pub struct AnyOfTwoMemo;
 
 impl Memo for AnyOfTwoMemo {
@@ -136,7 +137,7 @@ impl Memo for AnyOfTwoMemo {
     ghost laws = { Prim.search rules };
 }
 
-/// The sum of the locations of two contexts, each asked once, and what became of the call.
+/// The sum of the locations of two contexts, each asked once, and how the call ended.
 fn sum(
     alloc: Global,
     cache: &mut CacheData<AnyOfTwoMemo>,
@@ -161,7 +162,7 @@ fn sum(
     }
 }
 
-/// Whether the sum of the locations of two contexts is given, and this becomes of the call.
+/// Whether a call returns this sum of the locations of two contexts, and ends as `how`.
 fn sums(
     alloc: Global,
     cache: &mut CacheData<AnyOfTwoMemo>,

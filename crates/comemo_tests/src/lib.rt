@@ -1,5 +1,5 @@
-//! Memoized functions as a caller writes them, of which some have contracts that are proved from those of `comemo` alone,
-//! and tests of `comemo` from outside.
+//! Memoized functions as a caller writes them, some with contracts that are proved from those of `comemo` alone, and
+//! tests of `comemo` from outside.
 #![tactic(auto)]
 
 #[cfg(test)]

@@ -6,7 +6,7 @@ ghost use Rattle.comemo.specs.MeaningLaws.{exact_laws, exact_memo_laws};
 use comemo::{Fault, FunctionMut, Memo, RecorderMut};
 use comemo_samples::{CounterCall, Notebook, NotebookCall};
 
-/// Notes a number, the owner's and the number again. It gives the owner's.
+/// Notes a number, the owner's number, and the first number again. Returns the owner's number.
 pub struct NotesThree;
 
 impl FunctionMut for NotesThree {

@@ -6,7 +6,7 @@ use comemo::{Begun, CacheData, Constraint, Fault, How, Memo, Sink, Track, begin}
 use comemo_samples::{Context, ContextCall};
 use std::alloc::{AllocError, Global};
 
-/// A function of which any output is right, so that its runs may ask what they like.
+/// A function of which any output is right, so that its runs may ask anything.
 pub struct AnyMemo;
 
 impl Memo for AnyMemo {
@@ -23,15 +23,15 @@ impl Memo for AnyMemo {
     ghost laws = { Prim.search rules };
 }
 
-/// What a run around takes note of.
+/// The recording of an outer run.
 type Recording = Constraint<ContextCall, u64>;
 
-/// The context at a location.
+/// The context with this location and these styles.
 fn context(location: u64, styles: u64) -> Context {
     Context { location, styles }
 }
 
-/// The call of an input by a key and a context.
+/// The call of an input with a key and a context.
 fn begin_any(
     alloc: Global,
     cache: &mut CacheData<AnyMemo>,
@@ -45,7 +45,7 @@ fn begin_any(
     begin(alloc, cache, &mut input, outer, true)
 }
 
-/// A run that begins, where no entry agrees.
+/// A run that begins, if no entry agrees.
 fn begin_run(
     alloc: Global,
     cache: &mut CacheData<AnyMemo>,
@@ -59,7 +59,7 @@ fn begin_run(
     }
 }
 
-/// Whether a call is a hit, which gives 6.
+/// Whether a call is a hit that returns 6.
 fn is_hit(alloc: Global, cache: &mut CacheData<AnyMemo>, context: &Context) -> bool {
     let mut outer = Constraint::new(alloc);
     match begin_any(alloc, cache, context, &mut outer) {
@@ -72,7 +72,7 @@ fn is_hit(alloc: Global, cache: &mut CacheData<AnyMemo>, context: &Context) -> b
     }
 }
 
-/// How a run of the output 6 ends.
+/// How a run with the output 6 ends.
 fn finish(
     pending: Pending<AnyMemo>,
     cache: &mut CacheData<AnyMemo>,
@@ -84,7 +84,7 @@ fn finish(
     }
 }
 
-/// How two runs end that ask where a context is, of which the second begins before the first ends.
+/// How two runs end that ask for a context's location, if the second begins before the first ends.
 fn end_two(
     alloc: Global,
     cache: &mut CacheData<AnyMemo>,
@@ -115,7 +115,7 @@ fn the_second_of_two_like_runs_exists(rt: HostRuntime) {
     assert_eq!(rt; cache.len(), 1);
 }
 
-/// Whether a run that is spoiled, or else given up, leaves nothing but a spoiled recording around it.
+/// Whether a run that is incomplete, or else given up, stores nothing and leaves the recording around it incomplete.
 fn is_lost(alloc: Global, spoils: bool) -> bool {
     let mut cache = CacheData::new(alloc);
     let mut outer = Constraint::new(alloc);
@@ -141,7 +141,7 @@ fn a_run_that_is_spoiled_or_given_up_spoils_its_sink(rt: HostRuntime) {
     assert!(rt; is_given_up);
 }
 
-/// How a call ends whose run asks where a context is.
+/// How a call ends whose run asks for a context's location.
 fn call(
     alloc: Global,
     cache: &mut CacheData<AnyMemo>,
@@ -160,7 +160,7 @@ fn call(
     }
 }
 
-/// How a call ends within a run that asks nothing else, and how the run does.
+/// How a call ends within a run that asks nothing else, and how that run ends.
 fn call_within(
     alloc: Global,
     inner: &mut CacheData<AnyMemo>,
@@ -178,7 +178,7 @@ fn call_within(
 fn an_outer_run_has_the_reads_of_an_inner_one(rt: HostRuntime) {
     let alloc = rt.alloc();
     let mut inner = CacheData::new(alloc);
-    // By a run of the inner function and by a hit of it the outer run has the same reads.
+    // The outer run has the same reads, whether the inner call is a run or a hit.
     let hows: &[How] = &[How::Stored, How::Hit];
     for how in hows {
         let mut outer = CacheData::new(alloc);

@@ -1,5 +1,5 @@
-//! Calls of which one clone is refused, whichever it is: what becomes of a call of a memoized function, of its sink,
-//! of its cache and of the age of its entry.
+//! Calls in which one clone fails, whichever it is: how a call of a memoized function ends, and what it leaves of its
+//! sink, its cache and the age of its entry.
 ghost use Rattle.std.specs.Prelude.{◌≡◌, false, nat_eq, refl, IfOk};
 ghost use Rattle.std.specs.List.{All};
 ghost use Rattle.std.proofs.Common.{rules};
@@ -12,10 +12,10 @@ use std::hash::{Hash, Hasher};
 use std::sync::Arc;
 use std::sync::atomic::{AtomicU64, Ordering};
 
-/// How many clones are granted before one is refused.
+/// How many clones succeed before one fails.
 type Left = Arc<AtomicU64, Global>;
 
-/// A read by its number. Its clones are counted, and the one at which none is left is refused.
+/// A read by its number. Its clones are counted, and the one at which none is left fails.
 #[derive(Drop)]
 pub struct Scarce {
     number: u64,
@@ -83,7 +83,7 @@ impl Call for Scarce {
     }
 }
 
-/// A value that answers a number by itself.
+/// A value that answers each number with itself.
 #[derive(Drop)]
 pub struct Echo;
 
@@ -120,7 +120,7 @@ impl Memo for AnyEcho {
     ghost laws = { Prim.search rules };
 }
 
-/// What a run takes note of.
+/// The recording of a run.
 type Recording = Constraint<Scarce, u64>;
 
 /// The read of a number.
@@ -129,7 +129,7 @@ fn read(number: u64, left: &Left) -> Result<Scarce, AllocError> {
     Ok(Scarce { number, left })
 }
 
-/// Asks 1 and 2, and gives their sum.
+/// Asks 1 and 2, and returns their sum.
 fn ask_both(alloc: Global, left: &Left, recording: &mut Recording) -> Result<u64, AllocError> {
     let echo = Echo;
     let mut view = echo.track(alloc);
@@ -138,7 +138,7 @@ fn ask_both(alloc: Global, left: &Left, recording: &mut Recording) -> Result<u64
     Ok(one.wrapping_add(two))
 }
 
-/// Calls the function, of which a run asks 1 and 2 and gives 3.
+/// Calls the function. A run asks 1 and 2 and returns 3.
 fn call(
     alloc: Global,
     left: &Left,
@@ -166,7 +166,7 @@ fn call(
     }
 }
 
-/// What became of a call. None where it gave anything but 3.
+/// How a call ended; `None` if it returned anything but 3.
 fn became(reply: Result<Reply<u64>, Fault>) -> Option<Result<How, Fault>> {
     match reply {
         Ok(reply) => (reply.output == 3).then_some(Ok(reply.how)),
@@ -174,7 +174,7 @@ fn became(reply: Result<Reply<u64>, Fault>) -> Option<Result<How, Fault>> {
     }
 }
 
-/// How many of the pairs of 1 and 2, in order, a recording has. None where it has others.
+/// How many of the pairs of 1 and 2, in order, a recording has; `None` if it has others.
 fn pairs_in(sink: Recording) -> Option<u64> {
     let (mut reads, writes) = sink.into_parts();
     let mut count: u64 = 0;
@@ -188,7 +188,7 @@ fn pairs_in(sink: Recording) -> Option<u64> {
     (reads.next().is_none() && writes.is_empty()).then_some(count)
 }
 
-/// The age of the function's entry, where one is kept.
+/// The age of the function's entry, if there is one.
 fn age_of(alloc: Global, left: &Left, cache: &CacheData<AnyEcho>) -> Option<usize> {
     left.store(99, Ordering::SeqCst);
     let echo = Echo;
@@ -202,8 +202,8 @@ fn age_of(alloc: Global, left: &Left, cache: &CacheData<AnyEcho>) -> Option<usiz
     }
 }
 
-/// Whether this becomes of a call of which so many clones are granted before one is refused, and its sink then has so
-/// many of the pairs, and is whole unless the call failed, and the entry has this age, or there is none.
+/// Whether a call ends as `how` if this many clones succeed before one fails. Then its sink has this many of the pairs
+/// and is incomplete exactly if the call failed, and the entry has this age, or there is none.
 fn becomes(
     alloc: Global,
     left: &Left,
@@ -221,7 +221,7 @@ fn becomes(
     is_so && is_whole && is_sent && is_kept && age_of(alloc, left, cache) == age
 }
 
-/// Whether this becomes of a first call.
+/// Whether a first call ends as `how`.
 fn is_run(
     alloc: Global,
     granted: u64,
@@ -238,15 +238,15 @@ fn is_run(
 
 #[test]
 fn a_run_is_refused_each_clone_in_turn(rt: HostRuntime) {
-    // How many clones are granted, what becomes of the call, the pairs that its sink has, and the age of its entry.
+    // How many clones succeed, how the call ends, the pairs that its sink has, and the age of its entry.
     let calls: &[(u64, Result<How, Fault>, u64, Option<usize>)] = &[
-        // What is asked is recorded.
+        // These clones are for the recording.
         (0, Err(Fault::Memory), 0, None),
         (1, Err(Fault::Memory), 0, None),
-        // It is copied, for the sink and for the store.
+        // These are copies for the sink and for the store.
         (2, Ok(How::NotStored), 2, None),
         (3, Ok(How::NotStored), 2, None),
-        // It is given to the sink.
+        // These go to the sink.
         (4, Err(Fault::Memory), 0, None),
         (5, Err(Fault::Memory), 1, None),
         (6, Ok(How::Stored), 2, Some(0)),
@@ -257,7 +257,7 @@ fn a_run_is_refused_each_clone_in_turn(rt: HostRuntime) {
     }
 }
 
-/// Whether this becomes of a call whose entry outlived an eviction.
+/// Whether a call whose entry outlived an eviction ends as `how`.
 fn is_hit(
     alloc: Global,
     granted: u64,
@@ -277,12 +277,12 @@ fn is_hit(
 
 #[test]
 fn a_hit_is_refused_each_clone_in_turn(rt: HostRuntime) {
-    // The same of a hit.
+    // The same for a hit.
     let calls: &[(u64, Result<How, Fault>, u64, Option<usize>)] = &[
-        // The path is copied.
+        // These clones copy the path.
         (0, Err(Fault::Memory), 0, Some(1)),
         (1, Err(Fault::Memory), 0, Some(1)),
-        // It is given to the sink.
+        // These go to the sink.
         (2, Err(Fault::Memory), 0, Some(1)),
         (3, Err(Fault::Memory), 1, Some(1)),
         (4, Ok(How::Hit), 2, Some(0)),
@@ -311,7 +311,7 @@ fn begin_run(
     }
 }
 
-/// Whether a call within a run is refused, the run is incomplete then, and nothing is kept or given to its sink.
+/// Whether a call within a run fails, the run is incomplete then, and nothing is stored or sent to its sink.
 fn is_lost(alloc: Global, granted: u64) -> bool {
     let Ok(left) = Arc::new(alloc, AtomicU64::new(granted)) else {
         return false;
@@ -346,7 +346,7 @@ fn pairs(alloc: Global, left: &Left) -> Result<Vec<(Scarce, u64)>, AllocError> {
     Ok(pairs)
 }
 
-/// Stores 3, looks, evicts and looks again.
+/// Stores 3, looks up, evicts and looks up again.
 fn steps(alloc: Global, left: &Left) -> Result<Vec<Step<AnyEcho>>, AllocError>
     ensures { IfOk result (λ steps. All (IsStep ⟦<AnyEcho as Meant>⟧.meaning) steps.items) }
 {
@@ -375,7 +375,7 @@ fn steps(alloc: Global, left: &Left) -> Result<Vec<Step<AnyEcho>>, AllocError>
     Ok(steps)
 }
 
-/// What a step is answered, of an entry that is found its age.
+/// The reply to a step. Of an entry that is found it has the age.
 #[derive(Clone, Copy, Drop, PartialEq, Eq)]
 enum Said {
     Found(usize),
@@ -386,7 +386,7 @@ enum Said {
     Else,
 }
 
-/// What a reply says.
+/// A reply, shortened.
 fn said_by(reply: &StepReply<AnyEcho>) -> Said {
     match reply {
         StepReply::Found(found) if found.output == 3 => Said::Found(found.age),
@@ -398,7 +398,7 @@ fn said_by(reply: &StepReply<AnyEcho>) -> Said {
     }
 }
 
-/// Whether the steps are answered so where so many clones are granted before one is refused, and so many entries are
+/// Whether the replies to the steps are these if this many clones succeed before one fails, and this many entries are
 /// kept.
 fn are_answered(alloc: Global, granted: u64, wanted: [Said; 4], len: usize) -> bool {
     let Ok(left) = Arc::new(alloc, AtomicU64::new(granted)) else {

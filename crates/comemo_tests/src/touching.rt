@@ -1,16 +1,17 @@
-//! Laws of what writes touch: it tells no equal calls apart. Each function here does nothing when it runs. What it ensures is the
-//! law.
+//! Laws of which reads a write touches: equal calls are not distinguished. Each function here does nothing when it
+//! runs. What it ensures is the law.
 ghost use Rattle.comemo_tests.specs.Touching.{TouchesAlike, TouchedAlike};
 
 use comemo::Call;
 use comemo_samples::{CounterCall, EmitterCall, NotebookCall};
 
-/// Where equal writes touch equal reads, a recording that took equal calls in the same order is late where another is.
+/// If equal writes touch equal reads, then of two recordings that took equal calls in the same order both are late, or
+/// neither is.
 fn touch_alike<C: Call, R: Ord>()
     ensures { TouchedAlike C.eq C.touches R.eq }
 {}
 
-/// The writes of a counter touch its number, whichever they are.
+/// Every write of a counter touches its number.
 fn counters_touch_alike()
     ensures { TouchesAlike ⟦<CounterCall as PartialEq>⟧.eq ⟦<CounterCall as Call>⟧.touches }
 {}

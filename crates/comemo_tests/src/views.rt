@@ -1,14 +1,15 @@
-//! Views that hold a sink, sinks by reference, how views print, and a recording asked again of a value that refuses.
+//! Views that hold a sink, sinks by reference, how views print, and the validation of a recording against a value that
+//! fails to answer.
 
 use crate::accelerated::Counting;
 use comemo::{Constraint, Sink, Top, Track};
 use comemo_samples::{Context, ContextCall, Counter};
 use std::alloc::{AllocError, Global};
 
-/// What takes note of what is asked of a context.
+/// A recording of reads of a context.
 type Recording = Constraint<ContextCall, u64>;
 
-/// Whether a view that holds a recording sends what it is asked, each once.
+/// Whether a view that holds a recording sends what it is asked, each question once.
 fn is_sent(alloc: Global) -> bool {
     let context = Context {
         location: 3,
@@ -26,7 +27,7 @@ fn is_sent(alloc: Global) -> bool {
     are_given && is_held && is_new && holds
 }
 
-/// Whether what is sent to a reference to a recording stands in the recording.
+/// Whether a recording holds what is sent to a reference to it.
 fn is_sent_on(alloc: Global) -> bool {
     let mut recording: Recording = Constraint::new(alloc);
     let mut sink = &mut recording;
@@ -55,7 +56,7 @@ fn recorded(alloc: Global) -> Result<Recording, AllocError> {
     Ok(recording)
 }
 
-/// Whether a refused answer is told where the answers before it agree, and is not asked for where one differs.
+/// Whether a failing answer is reported if the answers before it agree, and is not asked for if one differs.
 fn is_refused(alloc: Global) -> bool {
     let Ok(recording) = recorded(alloc) else {
         return false;

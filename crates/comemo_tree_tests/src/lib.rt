@@ -1,5 +1,5 @@
-//! Tests of `comemo_tree` from outside: random steps beside a plain list, and wide nodes and a long chain with their shapes.
-//! The rows of `bench rows` have worked examples.
+//! Tests of `comemo_tree` from outside: random steps compared with a plain list, and the shapes of wide nodes and of a
+//! long chain. The rows of `bench rows` have worked examples.
 #![tactic(auto)]
 
 #[cfg(test)]

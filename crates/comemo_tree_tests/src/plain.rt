@@ -1,13 +1,14 @@
-//! A tree as a plain list of entries that is searched whole, written apart from the tree that it is compared with.
+//! A tree as a plain list of entries, searched linearly. It is written independently of the tree that it is compared
+//! with.
 //!
-//! Calls are below 6 and answers below 3. A list of pairs is a number to the base 32, with a digit for each pair, the first
-//! pair's lowest. A digit is 1 more than three times the call plus the answer.
+//! Calls are below 6 and answers below 3. A list of pairs is a number to the base 32, with a digit for each pair, the
+//! first pair's lowest. A digit is 1 more than three times the call plus the answer.
 use comemo_base::InsertError;
 use std::alloc::Global;
 
 const BASE: u32 = 32;
 
-/// How many pairs a list has at most.
+/// The most pairs that a list has.
 pub const MOST: u32 = 6;
 
 /// The digit of a pair.
@@ -15,7 +16,7 @@ fn digit_of(call: u32, answer: u32) -> u32 {
     call.wrapping_mul(3).wrapping_add(answer).wrapping_add(1)
 }
 
-/// The first pair of a list, or none where it is empty.
+/// The first pair of a list; `None` if it is empty.
 pub fn first_of(pairs: u32) -> Option<(u32, u32)> {
     let digit = pairs % BASE;
     if digit == 0 {
@@ -29,7 +30,7 @@ pub fn rest_of(pairs: u32) -> u32 {
     pairs / BASE
 }
 
-/// The answer that pairs have for a call.
+/// The answer to a call in these pairs.
 pub fn answer_in(pairs: u32, call: u32) -> Option<u32> {
     let mut left = pairs;
     for _ in 0..MOST {
@@ -42,7 +43,7 @@ pub fn answer_in(pairs: u32, call: u32) -> Option<u32> {
     None
 }
 
-/// The first pairs of a list, and the place of the digit after them.
+/// A prefix of a list, and the place of the digit after it.
 #[derive(Clone, Copy, Drop)]
 pub struct Front {
     pub pairs: u32,
@@ -50,12 +51,12 @@ pub struct Front {
 }
 
 impl Front {
-    /// No pair.
+    /// The empty prefix.
     pub fn new() -> Front {
         Front { pairs: 0, place: 1 }
     }
 
-    /// These pairs and one more.
+    /// This prefix and one more pair.
     pub fn with(self, call: u32, answer: u32) -> Front {
         let digit = digit_of(call, answer).wrapping_mul(self.place);
         Front {
@@ -74,18 +75,19 @@ pub struct Entry {
 }
 
 impl Entry {
-    /// Whether its path begins with a front.
+    /// Whether its path begins with a prefix.
     fn begins(self, key: u32, front: Front) -> bool {
         self.key == key && self.path % front.place.max(1) == front.pairs
     }
 
-    /// The pair of its path after a front.
+    /// The pair of its path after a prefix.
     fn after(self, front: Front) -> Option<(u32, u32)> {
         first_of(self.path / front.place.max(1))
     }
 }
 
-/// What a look-up came to: the path that was found and its value, and the calls that were asked, as pairs whose answer is 0.
+/// The result of a look-up: the path that was found and its value, and the calls that were asked, as pairs with the
+/// answer 0.
 #[derive(Clone, Copy, Drop)]
 pub struct Found {
     pub value: Option<u32>,
@@ -93,21 +95,21 @@ pub struct Found {
     pub asked: u32,
 }
 
-/// All entries, in the order in which they came.
+/// All entries, in the order of insertion.
 #[derive(Drop)]
 pub struct Plain {
     pub entries: Vec<Entry>,
 }
 
 impl Plain {
-    /// No entry.
+    /// A list without entries.
     pub fn new(alloc: Global) -> Plain {
         Plain {
             entries: Vec::new(alloc),
         }
     }
 
-    /// The first entry under a key whose path begins with a front.
+    /// The first entry under a key whose path begins with a prefix.
     fn first_from(&self, key: u32, front: Front) -> Option<Entry> {
         for entry in &self.entries {
             if entry.begins(key, front) {
@@ -117,7 +119,7 @@ impl Plain {
         None
     }
 
-    /// The path that pairs take under a key.
+    /// The path under which these pairs are stored, for a key.
     fn path_of(&self, key: u32, pairs: u32) -> Result<u32, InsertError> {
         let mut front = Front::new();
         for _ in 0..=MOST {
@@ -145,14 +147,14 @@ impl Plain {
         Ok(front.pairs)
     }
 
-    /// Stores a value under a key and the path that pairs take.
+    /// Stores a value under a key and the path of these pairs.
     pub fn insert(&mut self, key: u32, pairs: u32, value: u32) -> Result<(), InsertError> {
         let path = self.path_of(key, pairs)?;
         self.entries.push(Entry { key, path, value })?;
         Ok(())
     }
 
-    /// What the answers lead to under a key, which hold one for each call.
+    /// Looks up by answers, one for each call.
     pub fn look_up(&self, key: u32, answers: u32) -> Found {
         let mut front = Front::new();
         let mut asked = Front::new();
@@ -178,7 +180,7 @@ impl Plain {
         }
     }
 
-    /// Changes the value under a key and the path with these answers, and says whether there is one.
+    /// Changes the value under a key at the path with these answers. Returns whether there is one.
     pub fn change(&mut self, key: u32, answers: &[u32], value: u32) -> bool {
         for entry in &mut self.entries {
             if entry.key == key && has_answers(entry.path, answers) {

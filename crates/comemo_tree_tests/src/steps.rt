@@ -1,4 +1,4 @@
-//! Random steps, each done by the tree and by a plain list: both say the same.
+//! Random steps, each done by the tree and by a plain list. The results must be equal.
 use crate::plain::{Entry, Found, Front, MOST, Plain, answer_in, first_of, rest_of};
 use comemo_base::{CallSequence, InsertError};
 use comemo_tree::CallTree;
@@ -6,7 +6,7 @@ use std::alloc::Global;
 
 pub type Tree = CallTree<u32, u32, u32, u32>;
 
-/// Numbers that look random, from a seed.
+/// Pseudorandom numbers from a seed.
 #[derive(Drop)]
 struct Numbers {
     state: u64,
@@ -22,7 +22,7 @@ impl Numbers {
         u32::try_from((self.state >> 33) % bound.max(1)).unwrap_or(0)
     }
 
-    /// Up to five calls of six, each once, with answers of three.
+    /// Up to five of six calls, each once, each with one of three answers.
     fn pairs(&mut self) -> u32 {
         let mut front = Front::new();
         for _ in 0..self.below(6) {
@@ -45,7 +45,7 @@ impl Numbers {
     }
 }
 
-/// Stores a value in a tree, under a key and the path that pairs take.
+/// Stores a value under a key and the path of these pairs.
 fn insert(
     alloc: Global,
     tree: &mut Tree,
@@ -65,7 +65,7 @@ fn insert(
     tree.insert(key, sequence, value)
 }
 
-/// Whether a tree gets a value by answers, and asks the calls that are wanted.
+/// Whether a tree gets a value by answers, and asks the wanted calls.
 fn gets(tree: &Tree, key: u32, answers: u32, wanted: Found) -> bool {
     let mut asked = Front::new();
     let found = tree.get(
@@ -91,7 +91,7 @@ fn number_of(path: &[(u32, u32)]) -> u32 {
     front.pairs
 }
 
-/// Whether a tree finds a path with its value by answers, and asks the calls that are wanted.
+/// Whether a tree finds a path with its value by answers, and asks the wanted calls.
 fn finds(tree: &Tree, key: u32, answers: u32, wanted: Found) -> bool {
     let mut asked = Front::new();
     let found = tree.find(
@@ -112,7 +112,7 @@ fn finds(tree: &Tree, key: u32, answers: u32, wanted: Found) -> bool {
     is_wanted && asked.pairs == wanted.asked
 }
 
-/// A tree, and a plain list that is to say the same, and how many values were stored, found and changed.
+/// A tree, the plain list to compare it with, and how many values were stored, found and changed.
 #[derive(Drop)]
 struct Both {
     alloc: Global,
@@ -135,7 +135,7 @@ impl Both {
         }
     }
 
-    /// Whether both say the same to an insertion.
+    /// Whether an insertion has the same result in both.
     fn agree_on_insert(&mut self, key: u32, pairs: u32, value: u32) -> bool {
         let wanted = self.plain.insert(key, pairs, value);
         let done = insert(self.alloc, &mut self.tree, key, pairs, value);
@@ -169,7 +169,7 @@ impl Both {
             .retain(|entry: &Entry| entry.value % 3 != rest);
     }
 
-    /// Whether both say the same to the next step.
+    /// Whether the next step has the same result in both.
     fn agree(&mut self, numbers: &mut Numbers, step: u32) -> bool {
         let key = numbers.below(3);
         let is_same = match numbers.below(16) {

@@ -1,10 +1,10 @@
-//! Many answers under one node, many keys, and a long chain: what is found, how many calls are asked, and what a retention
-//! drops.
+//! Many answers under one node, many keys, and a long chain: what is found, how many calls are asked, and what a
+//! retention drops.
 use crate::steps::Tree;
 use comemo_base::{CallSequence, InsertError};
 use std::alloc::Global;
 
-/// Stores a value in a tree, under a key and the calls below a number: the first has this answer, each other its own number.
+/// Stores a value under a key and the calls below a number. The first call has this answer, each other its own number.
 fn insert(
     alloc: Global,
     tree: &mut Tree,
@@ -21,12 +21,12 @@ fn insert(
     tree.insert(key, sequence, value)
 }
 
-/// The answers of the numbers below 100,003, a prime: all are different, in an order that neither rises nor falls.
+/// The answers of the numbers below 100,003, a prime. They differ, and are not in order.
 fn scattered(number: u32) -> u32 {
     number.wrapping_mul(7919) % 100_003
 }
 
-/// Whether a tree stores a value for each number below a count, under a key, one call and the number's answer.
+/// Whether a tree stores a value for each number below a count, under one key and call, with the number's answer.
 fn fills(alloc: Global, tree: &mut Tree, key: u32, count: u32) -> bool {
     for number in 0..count {
         let done = insert(alloc, tree, key, 1, scattered(number), number);
@@ -37,7 +37,7 @@ fn fills(alloc: Global, tree: &mut Tree, key: u32, count: u32) -> bool {
     true
 }
 
-/// Whether a tree finds this by an answer to any call, and asks so many calls.
+/// Whether a tree finds this if each call has this answer, and asks this many calls.
 fn finds(tree: &Tree, key: u32, answer: u32, wanted: Option<u32>, calls: u32) -> bool {
     let mut asked: u32 = 0;
     let found = tree.get(

@@ -5,6 +5,6 @@ use Rattle.comemo_settled_samples.specs.PlaceCalls.{AsksPlace}
 use Rattle.comemo_settled_samples.specs.contracts.places.PlaceCallPartialEq.TheImpl as call
 use Rattle.comemo_settled_samples.proofs.places.steps_below.Given as goal
 
--- what was made so far stores runs
+-- the steps so far store runs
 abbrev pub invariant-loop-location : goal.invariant-loop-location
 invariant-loop-location l = All (InsertsRun call.ghosts.eq nat_eq (λ k m c. AsksPlace m c)) l.steps.items

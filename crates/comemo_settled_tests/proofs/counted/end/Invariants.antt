@@ -11,7 +11,7 @@ invariant-loop l = record {
   agrees : (m : ℕ → ℕ) → Agrees nat_eq m l.run.pairs → Agrees nat_eq m l.fn.run.pairs;
 }
 
--- so it is still, and the calls below this one were asked
+-- this still holds, and the calls below this one were asked
 abbrev pub invariant-loop-call : goal.invariant-loop-call
 invariant-loop-call l = record {
   draft : IsDraft l.key l.run;

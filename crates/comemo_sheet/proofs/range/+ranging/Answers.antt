@@ -18,7 +18,7 @@ use Rattle.comemo.proofs.Recursions.{own_then}
 use Rattle.comemo_sheet.proofs.range.+ranging.Goals.{ranged-in-Empty, ranged-in-Number, ranged-in-Sum+in_ok-value-in-Sum}
 use Rattle.comemo_sheet.proofs.range.+ranging.Goals as goal
 
--- what the content of a cell comes to is the value of the cell
+-- the value by a cell's content is the value of the cell
 by_content : (m : SheetCall → Content) → Respects call.ghosts.eq content.ghosts.eq m → (less : ℕ) (name own : String Global) (told : Content) (value : Option ℤ) → string_bytes name ≡ string_bytes own → IsTrue (content.ghosts.eq (m (Cell own)) told) → value ≡ sum_of (value_of m less) (Some (number_in told)) (names_in told) → value ≡ value_of m (suc less) name
 by_content m r less name own told value same h is = is ∙ alike_of_told m r (λ x. sum_of (value_of m less) (Some (number_in x)) (names_in x)) (sum_alike (value_of m less) (value_alike m r less)) (Cell own) (Cell name) told (equal_of_bytes own name same) h
 

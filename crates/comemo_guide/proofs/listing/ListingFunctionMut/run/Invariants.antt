@@ -7,7 +7,7 @@ use Rattle.comemo_samples.specs.contracts.log.LogCallCall.TheImpl as call
 use Rattle.std.specs.contracts.prelude.UnitPartialEq.TheImpl as unit
 use Rattle.comemo_guide.proofs.listing.ListingFunctionMut.run.Given as goal
 
--- the recording goes on from where it was, and the texts so far were written
+-- the recording extends the earlier one, and the texts so far are written
 abbrev pub invariant-loop-text : goal.invariant-loop-text
 invariant-loop-text l = record {
   agrees : HasBegun (Done log.ghosts.wrote call.ghosts.is_write call.ghosts.touches unit.ghosts.eq log.ghosts.answers) unit.ghosts.eq log.ghosts.answers (lent l.log.value l.log.recording);
