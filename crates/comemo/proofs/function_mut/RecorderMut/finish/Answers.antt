@@ -1,4 +1,3 @@
-use Rattle.std.proofs.Common.{refl}
 use Rattle.comemo.proofs.RecursionsMut.{of_output, handed_on, incomplete_as, fault_with, is_failure}
 use Rattle.comemo.proofs.function_mut.RecorderMut.finish.Goals as goal
 
