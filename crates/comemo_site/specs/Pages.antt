@@ -1,6 +1,10 @@
 -- What a page is rendered to, and what is wrong with it.
-use Rattle.std.specs.Prelude.{ℕ, zero, suc, List, [], ◌∷◌, ◌++◌, Option, None, Some, unwrap_or}
+use Rattle.std.specs.Prelude.{⊤, ◌≡◌, ℕ, zero, suc, List, [], ◌∷◌, ◌++◌, map, Option, None, Some, unwrap_or}
 use Rattle.std.specs.List.{fold}
+use Rattle.comemo.specs.Function.{OnPart}
+use Rattle.comemo.specs.Multi.{first_call, first_answer, second_call}
+use Rattle.comemo.specs.declared.MultiCall.{MultiCall}
+use Rattle.comemo.specs.declared.MultiAnswer.{MultiAnswer}
 use Rattle.comemo_site.specs.Sites.{title_in, lines_in}
 use Rattle.comemo_site.specs.declared.line.Line.{Line}
 use Rattle.comemo_site.specs.declared.line.Line.TheVariants.{Words, Include, Link}
@@ -40,3 +44,7 @@ page_text m (suc limit) name = in_turn (line_text m (page_text m limit)) (unwrap
 abbrev pub page_warnings : (SiteCall → SiteAnswer) → ℕ → List ℕ → List Warning
 page_warnings m zero name = TooDeep name ∷ []
 page_warnings m (suc limit) name = missing name (lines_in (m (LinesOf name))) ++ in_turn (line_warnings m (page_warnings m limit)) (unwrap_or (lines_in (m (LinesOf name))) [])
+
+-- where a site answers, this text is right, and so are the writes of these warnings
+abbrev pub IsPrinted : ((SiteCall → SiteAnswer) → List ℕ) → ((SiteCall → SiteAnswer) → List Warning) → List ℕ → (MultiCall SiteCall Warning → MultiAnswer SiteAnswer ⊤) → List (MultiCall SiteCall Warning) → Type 0
+IsPrinted text warnings given m writes = OnPart first_call first_answer m (λ site. (given ≡ text site) × (writes ≡ map second_call (warnings site)))
