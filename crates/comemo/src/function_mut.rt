@@ -5,14 +5,14 @@ ghost use Rattle.comemo_cache.specs.Meaning.{invocation};
 ghost use Rattle.comemo_cache.specs.Held.{Leads, Stays};
 ghost use Rattle.comemo.specs.Begin.{Reaches};
 ghost use Rattle.comemo.specs.Finish.{BrokeOff};
-ghost use Rattle.comemo.specs.Function.{SettlesAs, SettlesRun};
-ghost use Rattle.comemo.specs.FunctionMut.{Lent, lent, HasBegun, NoneTouches, Goes, TellsMut, TellsWrites, LawsMut, WasStopped, IsFailed, FailsBy};
+ghost use Rattle.comemo.specs.Function.{ReadsAlone, SettlesAs, SettlesRun, writing};
+ghost use Rattle.comemo.specs.FunctionMut.{Lent, lent, HasBegun, NoneTouches, Goes, TellsMut, TellsWrites, WasStopped, IsFailed, FailsBy};
 ghost use Rattle.comemo_base.specs.Answers.{Agrees};
 ghost use Rattle.comemo_track.specs.Recording.{Recording, Took, Spoiled, MarkedLate};
 ghost use Rattle.comemo_track.specs.Writing.{Done};
 ghost use Rattle.comemo_track.specs.Sending.{Asks, BreaksOff, SpoiledAfter, TookAs};
 
-use crate::function::{FunctionOf, Told, memoized_with};
+use crate::function::{Function, FunctionOf, MemoOf, Told, memoized_view};
 use crate::lent::LentKeyMut;
 use crate::pending::{Begun, Fault, How, Reply, begin};
 use comemo_cache::cache::{Meant, Memo};
@@ -20,8 +20,6 @@ use comemo_cache::hold::Hold;
 use comemo_track::constraint::Constraint;
 use comemo_track::track::{Breaking, Call, Sink, Top, Track, Written};
 use std::alloc::Global;
-use std::hash::Hash;
-use std::marker::PhantomData;
 
 /// What a recorder that writes knows of its recording, for contracts to cite, as `⟦<T as ToldMut>⟧.agrees`.
 ///
@@ -49,27 +47,12 @@ impl<T: Track> ToldMut for T {
     ghost took = { Took T.Call.eq T.Call.touches };
 }
 
-/// A memoized function of a key and a tracked value, which it reads and writes.
+/// How a memoized function that reads and writes is done: a `Function` whose `writes` says which writes are right.
 ///
-/// It is written as a `Function` is, but `means` says which writes are right beside the output, and the laws say that
-/// it doesn't tell equal writes apart. This project's own: what comemo's `#[memoize]` makes of a function that takes a
-/// `TrackedMut`.
-pub trait FunctionMut {
-    /// What isn't tracked of the arguments: what a call is kept under.
-    type Key: Clone + Eq + Hash;
-
-    /// The tracked value that a run asks and changes.
-    type Of: Track;
-
-    /// What the function gives.
-    type Out: Clone;
-
+/// This project's own: what comemo's `#[memoize]` makes of a function that takes a `TrackedMut`.
+pub trait RunMut: Function {
     /// What a run takes beside its arguments: the caches of the functions that it calls, or `()`.
     type Needs;
-
-    // at this key and these answers, this output and these writes are right
-    ghost means: { Self.Key → (Self.Of.Call → Self.Of.Answer) → Self.Out
-        → List Self.Of.Call → Type 0 };
 
     /// Does the function: asks the value and writes to it through the recorder, which keeps what it was told and what
     /// was written.
@@ -89,13 +72,11 @@ pub trait FunctionMut {
             (lent of.old.value of.old.recording) (lent of.new.value of.new.recording) }
         ensures right { IfOk result (λ output. (m : Self.Of.Call → Self.Of.Answer)
             → ⟦<Self::Of as Told>⟧.fits of.new.recording.now m
-            → means key.now m output of.new.recording.now.writes) }
+            → writing Self.means Self.writes key.now m output of.new.recording.now.writes) }
+        ensures settled { SettlesRun Self.Key.eq Self.Of.Call.eq Self.Of.Answer.eq Self.naming key.now
+            of.old.recording.now of.new.recording.now result }
         ensures fault { IfErr result
             (λ fault. fault ≡ Fault.Incomplete → of.new.recording.now.whole ≡ false) };
-
-    // clones of keys are equal, and the meaning tells apart neither equal keys nor equal writes, nor an output from its clone
-    ghost laws: { LawsMut Self.Of.Call.eq Self.Of.Answer.eq Self.Key.eq Self.Key.is_clone
-        Self.Out.is_clone means };
 }
 
 /// A tracked value that is lent to a run, which records what it asks and what it writes. A run is handed one.
@@ -190,6 +171,7 @@ impl<'a, 'b, T: Track> RecorderMut<'a, 'b, T> {
         needs: &mut G::Needs,
         key: G::Key,
     ) -> Result<G::Out, Fault>
+        requires reads { ReadsAlone G.def }
         requires agrees { ⟦<T as ToldMut>⟧.agrees (lent self.old.value self.old.recording) }
         ensures agrees { ⟦<T as ToldMut>⟧.agrees (lent self.new.value self.new.recording) }
         ensures tells { TellsMut ⟦<T as ToldMut>⟧.goes ⟦<T as Told>⟧.fits
@@ -208,7 +190,7 @@ impl<'a, 'b, T: Track> RecorderMut<'a, 'b, T> {
             (BreaksOff (Took T.Call.eq T.Call.touches) Spoiled self.old.recording.now self.new.recording.now)) }
     {
         let view = self.value.track(self.alloc);
-        let reply = memoized_with(self.alloc, cache, needs, key, &view, self.recording, true)?;
+        let reply = memoized_view(self.alloc, cache, needs, key, &view, self.recording, true)?;
         // For the proof: its pairs are reads, and its writes are writes.
         self.recording.has_reads_and_writes();
         Ok(reply.output)
@@ -261,43 +243,16 @@ impl<'a, 'b, T: Track> RecorderMut<'a, 'b, T> {
     }
 }
 
-/// What a cache takes a function that writes for: `CacheData<MemoOfMut<F>>` is the cache of `F`.
-///
-/// There is no value of it to make. This project's own.
-pub struct MemoOfMut<F> {
-    function: PhantomData<F>,
-}
-
-impl<F: FunctionMut> Memo for MemoOfMut<F> {
-    type Call = <F::Of as Track>::Call;
-
-    type Key = F::Key;
-
-    type Answer = <F::Of as Track>::Answer;
-
-    type Out = F::Out;
-
-    ghost def = { F.means };
-
-    ghost laws = { record {
-      outputs = F.laws.outputs;
-      keys = F.laws.keys;
-      writes = F.laws.writes;
-      key_clones = F.laws.clones;
-      answer_clones = F.Of.clones;
-    } };
-}
-
 /// A memoized function of a key and `T`, which it reads and writes, where `T` may borrow: several tracked values as one,
 /// by `BothMut` or `ReadAndWrite`, or a user's own.
 ///
 /// What the function means is its `Memo`, which names no lifetime, so that its cache outlives the values. A
-/// `FunctionMut` is one by its `MemoOfMut`, with nothing to write. This project's own.
+/// `RunMut` is one by its `MemoOf`, with nothing to write. This project's own.
 pub trait FunctionMutOf<T: Track>: Memo<Call = T::Call, Answer = T::Answer> {
     /// What a run takes beside its arguments: the caches of the functions that it calls, or `()`.
     type Needs;
 
-    /// Does the function, as `FunctionMut::run` does, and with the same said of its output, its writes and its faults.
+    /// Does the function, as `RunMut::run` does, and with the same said of its output, its writes and its faults.
     fn run(
         key: &Self::Key,
         of: &mut RecorderMut<'_, '_, T>,
@@ -317,7 +272,7 @@ pub trait FunctionMutOf<T: Track>: Memo<Call = T::Call, Answer = T::Answer> {
             (λ fault. fault ≡ Fault.Incomplete → of.new.recording.now.whole ≡ false) };
 }
 
-impl<F: FunctionMut> FunctionMutOf<F::Of> for MemoOfMut<F> {
+impl<F: RunMut> FunctionMutOf<F::Of> for MemoOf<F> {
     type Needs = F::Needs;
 
     fn run(

@@ -1,6 +1,6 @@
 //! The function that calls itself and writes, at work.
 
-use comemo::{CacheData, Fault, MemoOfRecursiveMut};
+use comemo::{CacheData, Fault, MemoOf};
 use comemo_guide::ruler::{Ruler, rule};
 use comemo_samples::Notebook;
 use std::alloc::Global;
@@ -9,7 +9,7 @@ use std::alloc::Global;
 /// stand there then.
 fn is_ruled(
     alloc: Global,
-    cache: &mut CacheData<MemoOfRecursiveMut<Ruler>>,
+    cache: &mut CacheData<MemoOf<Ruler>>,
     height: u64,
     (owner, room): (u64, usize),
     ended: Result<(), Fault>,
@@ -23,7 +23,7 @@ fn is_ruled(
 #[test]
 fn a_ruler_is_drawn_by_the_marks_below(rt: HostRuntime) {
     let alloc = rt.alloc();
-    let mut cache: CacheData<MemoOfRecursiveMut<Ruler>> = CacheData::new(alloc);
+    let mut cache: CacheData<MemoOf<Ruler>> = CacheData::new(alloc);
     let rulers: &[(u64, u64, &[u64], usize)] = &[
         // The heights 0, 1 and 2 are kept, each once.
         (2, 7, &[1, 7, 2, 7, 1, 7], 3),
@@ -42,7 +42,7 @@ fn a_ruler_is_drawn_by_the_marks_below(rt: HostRuntime) {
 #[test]
 fn a_ruler_that_has_no_room_is_begun(rt: HostRuntime) {
     let alloc = rt.alloc();
-    let mut cache: CacheData<MemoOfRecursiveMut<Ruler>> = CacheData::new(alloc);
+    let mut cache: CacheData<MemoOf<Ruler>> = CacheData::new(alloc);
     let rulers: &[(Fault, &[u64])] = &[
         // The fourth line is refused to the run of height 2; those of heights 0 and 1 were kept.
         (Fault::Memory, &[1, 7, 2]),

@@ -5,12 +5,12 @@ ghost use Rattle.comemo.specs.Recursive.{TellsOwn};
 ghost use Rattle.comemo_sheet.specs.Fibonacci.{fib};
 
 use comemo::internal::Told;
-use comemo::{Begun, Fault, Hold, MemoOfRecursive, Recorder, Recursive};
+use comemo::{Begun, Fault, Function, Hold, MemoOf, Recorder};
 
 /// The number of Fibonacci at a place, modulo 2 to the 64th.
 pub struct Fib;
 
-impl Recursive for Fib {
+impl Function for Fib {
     type Key = u64;
 
     type Of = ();
@@ -25,7 +25,7 @@ impl Recursive for Fib {
 /// The number of Fibonacci at a place, by way of those before it, which are kept but for the first two.
 ///
 /// Its cache is any holder of one: a `CacheData`, or a share of one that threads share.
-pub fn numbered<H: Hold<MemoOfRecursive<Fib>>>(
+pub fn numbered<H: Hold<MemoOf<Fib>>>(
     cache: &mut H,
     place: u64,
     of: &mut Recorder<'_, ()>,
