@@ -37,6 +37,7 @@ pub mod function;
 pub mod function_mut;
 pub mod parts;
 pub mod parts_mut;
+pub mod parts_of_both;
 pub mod pending;
 pub mod recursive;
 pub mod recursive_mut;

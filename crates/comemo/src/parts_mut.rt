@@ -1,12 +1,15 @@
 //! The calls and writes of a run that reads one value and writes another.
 ghost use Rattle.std.specs.Prelude.{◌≡◌, [], ◌∷◌, true, false, IsTrue, IfOk, IfErr, OnOk, OnErr, map, ⊤};
+ghost use Rattle.std.specs.List.{All};
 ghost use Rattle.comemo.specs.Called.{HeldReply, HeldReplyMut};
+ghost use Rattle.comemo.specs.Begin.{Reaches};
+ghost use Rattle.comemo.specs.Finish.{BrokeOff};
 ghost use Rattle.comemo_cache.specs.Meaning.{invocation};
 ghost use Rattle.comemo_cache.specs.Held.{Leads, Stays};
 ghost use Rattle.comemo.specs.Function.{OnPart};
 ghost use Rattle.comemo.specs.FunctionMut.{lent, TellsMut, TellsWrites, OnPartWrites, IsFailed};
 ghost use Rattle.comemo_track.specs.Mapped.{Through, mapped_pairs};
-ghost use Rattle.comemo_track.specs.Recording.{Spoiled, MarkedLate};
+ghost use Rattle.comemo_track.specs.Recording.{Took, Spoiled, MarkedLate};
 ghost use Rattle.comemo_track.specs.Sending.{Asks, BreaksOff, SpoiledAfter, TookAs};
 
 use crate::function::{FunctionOf, Told, memoized};
@@ -14,10 +17,12 @@ use crate::function_mut::{FunctionMutOf, RecorderMut, ToldMut, memoized_mut};
 use crate::pending::{Fault, Reply};
 use comemo_cache::cache::Meant;
 use comemo_cache::hold::Hold;
-use comemo_track::mapped::MappedSink;
+use comemo_track::constraint::Constraint;
+use comemo_track::mapped::{CallMap, MappedSink};
 use comemo_track::multi::{First, Second};
 use comemo_track::read_and_write::ReadAndWrite;
 use comemo_track::track::{Track, Written};
+use std::alloc::Global;
 
 /// The calls of each part, and the writes of the second part.
 ///
@@ -80,9 +85,13 @@ impl<'a, 'b, 'c, A: Track, B: Track> RecorderMut<'a, 'b, ReadAndWrite<'c, A, B>>
             self.old.recording.now self.new.recording.now [] []) }
     {
         let value = &mut *self.value;
-        let mut view = value.second.track_mut(self.alloc);
-        let mut sink = MappedSink::new(&mut *self.recording, Second::new());
-        Ok(view.ask(call, &mut sink)?)
+        ask_part(
+            self.alloc,
+            &mut *value.second,
+            &mut *self.recording,
+            Second::new(),
+            call,
+        )
     }
 
     /// Does a write on the second value, and records it.
@@ -109,10 +118,13 @@ impl<'a, 'b, 'c, A: Track, B: Track> RecorderMut<'a, 'b, ReadAndWrite<'c, A, B>>
             self.old.recording.now self.new.recording.now [] []) }
     {
         let value = &mut *self.value;
-        let mut view = value.second.track_mut(self.alloc);
-        let mut sink = MappedSink::new(&mut *self.recording, Second::new());
-        view.write(call, &mut sink)?;
-        Ok(())
+        write_part(
+            self.alloc,
+            &mut *value.second,
+            &mut *self.recording,
+            Second::new(),
+            call,
+        )
     }
 
     /// Calls a memoized function of the first value, which only reads, and records its calls.
@@ -197,18 +209,133 @@ impl<'a, 'b, 'c, A: Track, B: Track> RecorderMut<'a, 'b, ReadAndWrite<'c, A, B>>
             es')) }
     {
         let value = &mut *self.value;
-        let mut sink = MappedSink::new(&mut *self.recording, Second::new());
-        let reply = memoized_mut(
+        call_mut_part(
             self.alloc,
+            &mut *value.second,
+            &mut *self.recording,
+            Second::new(),
             cache,
             needs,
             key,
-            &mut *value.second,
-            &mut sink,
-            true,
-        )?;
-        drop(sink);
-        self.recording.has_reads_and_writes();
-        Ok(reply.output)
+        )
     }
+}
+
+/// Asks a part a read, and records it as a call of the whole, through a map.
+pub(crate) fn ask_part<A: Track, P: CallMap<From = A::Call, FromAnswer = A::Answer> + Drop>(
+    alloc: Global,
+    part: &mut A,
+    recording: &mut Constraint<P::To, P::ToAnswer>,
+    map: P,
+    call: A::Call,
+) -> Result<A::Answer, Fault>
+    requires { A.Call.is_write call ≡ false }
+    ensures asks { IfOk result (λ answer. Asks A.Answer.eq (A.answers part.old) call answer
+        (Through (P.maps map) (P.maps_answer map)
+        (Took P.To.eq P.To.touches recording.old recording.new))) }
+    ensures same { part.new ≡ part.old }
+    ensures err { IfErr result (λ fault. (fault ≡ Fault.Memory)
+        × Took P.To.eq P.To.touches recording.old recording.new [] []) }
+{
+    let mut view = part.track(alloc);
+    Ok(view.ask_through(call, map, recording)?)
+}
+
+/// Does a write on a part, and records it as a write of the whole, through a map.
+pub(crate) fn write_part<A: Track, P: CallMap<From = A::Call, FromAnswer = A::Answer> + Drop>(
+    alloc: Global,
+    part: &mut A,
+    recording: &mut Constraint<P::To, P::ToAnswer>,
+    map: P,
+    call: A::Call,
+) -> Result<(), Fault>
+    requires { A.Call.is_write call ≡ true }
+    ensures sent { OnOk result
+        (Took P.To.eq P.To.touches recording.old recording.new [] (P.maps map call ∷ [])) }
+    ensures did { OnOk result (⟦<A as Written>⟧.did part.old part.new (call ∷ [])) }
+    ensures kept { OnErr result (part.new ≡ part.old) }
+    ensures err { IfErr result (λ fault. (fault ≡ Fault.Memory)
+        × Took P.To.eq P.To.touches recording.old recording.new [] []) }
+{
+    let mut view = part.track_mut(alloc);
+    let mut sink = MappedSink::new(&mut *recording, map);
+    view.write(call, &mut sink)?;
+    Ok(())
+}
+
+/// Calls a memoized function of a part, which reads alone, and records what it asked as calls of the whole, through a map.
+pub(crate) fn call_part<
+    A: Track,
+    P: CallMap<From = A::Call, FromAnswer = A::Answer> + Drop,
+    G: FunctionOf<A>,
+    H: Hold<G>,
+>(
+    alloc: Global,
+    part: &mut A,
+    recording: &mut Constraint<P::To, P::ToAnswer>,
+    map: P,
+    cache: &mut H,
+    needs: &mut G::Needs,
+    key: G::Key,
+) -> Result<G::Out, Fault>
+    ensures reply { IfOk result (λ output. (reply : Reply G.Out) × (reply.output ≡ output)
+        × HeldReply ⟦<G as Meant>⟧.meaning (invocation key (A.answers part.old) true)
+        (H.entries cache.old) (H.entries cache.old)
+        (Through (P.maps map) (P.maps_answer map)
+        (Took P.To.eq P.To.touches recording.old recording.new)) reply (H.entries cache.new)) }
+    ensures same { part.new ≡ part.old }
+    ensures reads { OnOk result (All (λ p. P.To.is_write p.0 ≡ false) recording.new.pairs) }
+    ensures spoiled { OnErr result (recording.new.whole ≡ false) }
+    ensures err { OnErr result (Stays (H.entries cache.old) (H.entries cache.new)
+        × BrokeOff A.Answer.eq (A.answers part.old)
+        (λ pairs. BreaksOff (Took P.To.eq P.To.touches) Spoiled recording.old recording.new
+        (mapped_pairs (P.maps map) (P.maps_answer map) pairs))) }
+{
+    let view = part.track(alloc);
+    let mut sink = MappedSink::new(&mut *recording, map);
+    let reply = memoized(alloc, cache, needs, key, &view, &mut sink, true)?;
+    drop(sink);
+    recording.has_reads_and_writes();
+    Ok(reply.output)
+}
+
+/// Calls a memoized function of a part, which may write, and records its calls and writes as those of the whole, through a
+/// map.
+pub(crate) fn call_mut_part<
+    A: Track,
+    P: CallMap<From = A::Call, FromAnswer = A::Answer> + Drop,
+    G: FunctionMutOf<A>,
+    H: Hold<G>,
+>(
+    alloc: Global,
+    part: &mut A,
+    recording: &mut Constraint<P::To, P::ToAnswer>,
+    map: P,
+    cache: &mut H,
+    needs: &mut G::Needs,
+    key: G::Key,
+) -> Result<G::Out, Fault>
+    ensures reply { IfOk result (λ output. (reply : Reply G.Out) × (reply.output ≡ output)
+        × HeldReplyMut ⟦<G as Meant>⟧.meaning A.Call.touches
+        (invocation key (A.answers part.old) true) (H.entries cache.old) (H.entries cache.old)
+        (λ late pairs W. Through (P.maps map) (P.maps_answer map)
+        (TookAs (Took P.To.eq P.To.touches) MarkedLate late recording.old recording.new) pairs W
+        × ⟦<A as Written>⟧.did part.old part.new W) reply (H.entries cache.new)) }
+    ensures reached { Reaches ⟦<A as Written>⟧.did part.old part.new }
+    ensures reads { OnOk result (All (λ p. P.To.is_write p.0 ≡ false) recording.new.pairs) }
+    ensures spoiled { OnErr result (recording.new.whole ≡ false) }
+    ensures err { OnErr result (Leads (H.entries cache.old) (H.entries cache.new) (λ es es'.
+        IsFailed ⟦<G as Meant>⟧.meaning A.Call.touches es
+        (invocation key (A.answers part.old) true)
+        (⟦<A as Written>⟧.did part.old part.new)
+        (λ pairs. BreaksOff (Took P.To.eq P.To.touches) Spoiled recording.old recording.new
+        (mapped_pairs (P.maps map) (P.maps_answer map) pairs))
+        (Through (P.maps map) (P.maps_answer map)
+        (SpoiledAfter (Took P.To.eq P.To.touches) Spoiled recording.old recording.new)) es')) }
+{
+    let mut sink = MappedSink::new(&mut *recording, map);
+    let reply = memoized_mut(alloc, cache, needs, key, part, &mut sink, true)?;
+    drop(sink);
+    recording.has_reads_and_writes();
+    Ok(reply.output)
 }
