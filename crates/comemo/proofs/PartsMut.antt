@@ -29,12 +29,12 @@ use Rattle.comemo.specs.declared.pending.Reply.{Reply}
 use Rattle.comemo.specs.declared.pending.Fault.{Fault}
 use Rattle.comemo.specs.declared.pending.Fault.TheVariants as fault
 use Rattle.comemo.proofs.Calls.{resent}
-use Rattle.comemo.proofs.RecordersMut.{AreReads, took_reads, has_begun_on, goes_on, fitted_mut, taken_mut, asked_begun, tells_answer_mut, has_begun_late, tells_late, written_begun, tells_write, refused_begun, tells_refused, tells_failed, writes_failed}
+use Rattle.comemo.proofs.RecordersMut.{AreReads, took_reads, spoiled_any, has_begun_on, goes_on, fitted_mut, taken_mut, asked_begun, tells_answer_mut, has_begun_late, tells_late, written_begun, tells_write, refused_begun, tells_refused, tells_failed, writes_failed}
 use Rattle.comemo.proofs.ThroughMaps.{part_respects, agrees_mapped, agrees_part}
 
 -- what went to a sink that sends it on through a map went so to the sink behind it
 module _ {S M C D R Q : Type 0} (maps : M → C → D) (answers : M → R → Q) (took : S → S → List (D × Q) → List D → Type 0) (lates : S → S → Type 0) where
-  pub sent_as : (late : Bool) (s t : MappedSink S M) (P : List (C × R)) (W : List C) → TookAs (MapsTook took maps answers) (MapsLates lates) late s t P W → TookAs took lates late s.sink.now t.sink.now (mapped_pairs (maps s.map) (answers s.map) P) (map (maps s.map) W)
+  sent_as : (late : Bool) (s t : MappedSink S M) (P : List (C × R)) (W : List C) → TookAs (MapsTook took maps answers) (MapsLates lates) late s t P W → TookAs took lates late s.sink.now t.sink.now (mapped_pairs (maps s.map) (answers s.map) P) (map (maps s.map) W)
   sent_as false s t P W a = a.sent
   sent_as true s t P W a = (a.0.sink.now, a.1.sent, a.2.marked)
 
@@ -85,6 +85,10 @@ module _ {K C R O : Type 0} {M : Meaning K C R O} {touches : C → C → Bool} {
   failed_as d b p (inr k) =
       let is = k.1 in
       inr (k.0, record { pairs = is.pairs; output = is.output; front = is.front; next = is.next; rest = is.rest; is_refused = is.is_refused; is_enabled = is.is_enabled; kept = is.kept; agrees = is.agrees; stands = is.stands; reads = is.reads; written = is.written; are_done = d is.front is.are_done; is_spoiled = p is.pairs is.front is.is_spoiled })
+
+-- a reply of a function that writes, through a sink that sends on to another
+pub sent_reply : {S N C D R Q K O : Type 0} {M : Meaning K C R O} {call : Invocation K C R} {touches : C → C → Bool} {es mid es' : Entries K C R O} {reply : Reply O} (maps : N → C → D) (answers : N → R → Q) (took : S → S → List (D × Q) → List D → Type 0) (lates : S → S → Type 0) (own : List C → Type 0) (a b : MappedSink S N) → IsReplyMut M call touches es mid (λ late L W. TookAs (MapsTook took maps answers) (MapsLates lates) late a b L W × own W) reply es' → IsReplyMut M call touches es mid (λ late L W. Through (maps a.map) (answers a.map) (TookAs took lates late a.sink.now b.sink.now) L W × own W) reply es'
+sent_reply maps answers took lates own a b k = resent_mut {sent = λ late L W. TookAs (MapsTook took maps answers) (MapsLates lates) late a b L W × own W} {sends = λ late L W. Through (maps a.map) (answers a.map) (TookAs took lates late a.sink.now b.sink.now) L W × own W} (λ late L W is. (sent_as maps answers took lates late a b L W is.0, is.1)) k
 
 -- after a fault of a call of a function of a part, the recording of the whole is spoiled
 pub mapped_spoils : {K M C D R Q O : Type 0} {maps : M → C → D} {answers : M → R → Q} {N : Meaning K C R O} {touching : C → C → Bool} {es es' : Entries K C R O} {call : Invocation K C R} {done : List C → Type 0} {eq touches : D → D → Bool} (s t : MappedSink (Recording D Q) M) → IsFailed N touching es call done (BreaksOff (MapsTook (Took eq touches) maps answers) (MapsSpoils Spoiled) s t) (SpoiledAfter (MapsTook (Took eq touches) maps answers) (MapsSpoils Spoiled) s t) es' → t.sink.now.whole ≡ false
@@ -189,14 +193,14 @@ module _ {C D R Q : Type 0} (eq : C → C → Bool) (same : R → R → Bool) (e
 pub part_writes : {C D R Q K O : Type 0} (f : C → D) (g : R → Q) {M : Meaning K C R O} {eqd touches : D → D → Bool} {es mid es' : Entries K C R O} {key : K} (m : C → R) → Respects M.same_call M.same_answer m → (s t : Recording D Q) (reply : Reply O) (k : IsReply M (invocation key m true) es mid (Through f g (Took eqd touches s t)) reply es') → ((o : C → R) (writes : List C) → M.def key o reply.output writes → writes ≡ []) → t.writes ≡ s.writes
 part_writes f g m respects s t reply k reads = k.gives.are_sent.writes ∙ (ap (λ W. s.writes ++ map f W) (reads m k.writes (k.stands m respects k.agrees)) ∙ append-nil s.writes)
 
-pub part_writes_any : {C D R Q K O : Type 0} (f : C → D) (g : R → Q) {M : Meaning K C R O} {eqd touches : D → D → Bool} {key : K} {es es' : Option (Entries K C R O)} (m : C → R) → Respects M.same_call M.same_answer m → (s t : Recording D Q) (r : Result O Fault) → IfOk r (λ output. (reply : Reply O) × (reply.output ≡ output) × HeldReply M (invocation key m true) es es (Through f g (Took eqd touches s t)) reply es') → ((o : C → R) (output : O) (writes : List C) → M.def key o output writes → writes ≡ []) → OnOk r (t.writes ≡ s.writes)
-part_writes_any f g {es = es} {es'} m respects s t (Ok output) k reads = part_writes f g m respects s t k.0 (some_by es es es' _ k.2).3 (λ o W d. reads o k.0.output W d)
-part_writes_any f g m respects s t (Err fault) k reads = tt
+pub part_writes_any : {C D R Q K O : Type 0} (f : C → D) (g : R → Q) (M : Meaning K C R O) (eqd touches : D → D → Bool) (key : K) (es es' : Option (Entries K C R O)) (m : C → R) → Respects M.same_call M.same_answer m → (s t : Recording D Q) (r : Result O Fault) → IfOk r (λ output. (reply : Reply O) × (reply.output ≡ output) × HeldReply M (invocation key m true) es es (Through f g (Took eqd touches s t)) reply es') → ((o : C → R) (output : O) (writes : List C) → M.def key o output writes → writes ≡ []) → OnOk r (t.writes ≡ s.writes)
+part_writes_any f g M eqd touches key es es' m respects s t (Ok output) k reads = part_writes f g m respects s t k.0 (some_by es es es' _ k.2).3 (λ o W d. reads o k.0.output W d)
+part_writes_any f g M eqd touches key es es' m respects s t (Err fault) k reads = tt
 
 -- the writes are those that were, after a read of a part, answered or refused
-pub asked_writes : {C D R Q : Type 0} (f : C → D) (g : R → Q) {same : R → R → Bool} {eqd touches : D → D → Bool} {m : C → R} {call : C} {Z : Fault → Type 0} (s t : Recording D Q) (r : Result R Fault) → IfOk r (λ answer. Asks same m call answer (Through f g (Took eqd touches s t))) → IfErr r (λ fault. Z fault × Took eqd touches s t [] []) → t.writes ≡ s.writes
-asked_writes f g s t (Ok answer) k e = k.sent.writes ∙ append-nil s.writes
-asked_writes f g s t (Err fault) k e = e.1.writes ∙ append-nil s.writes
+pub asked_writes : {C D R Q : Type 0} (f : C → D) (g : R → Q) (same : R → R → Bool) (eqd touches : D → D → Bool) (m : C → R) (call : C) (Z : Fault → Type 0) (s t : Recording D Q) (r : Result R Fault) → IfOk r (λ answer. Asks same m call answer (Through f g (Took eqd touches s t))) → IfErr r (λ fault. Z fault × Took eqd touches s t [] []) → t.writes ≡ s.writes
+asked_writes f g same eqd touches m call Z s t (Ok answer) k e = k.sent.writes ∙ append-nil s.writes
+asked_writes f g same eqd touches m call Z s t (Err fault) k e = e.1.writes ∙ append-nil s.writes
 
 -- what follows where there is a result, or a fault
 pub ok_as : {X : Type 0} (r : Result X Fault) {A B : X → Type 0} → ((x : X) → A x → B x) → IfOk r A → IfOk r B
@@ -313,8 +317,8 @@ module _ {S V C D R Q : Type 0} (put : V → S) (f : C → D) {own : V → C →
   part_done i j (c ∷ W) d = (put d.0, written i d.0 c d.1, part_done d.0 j W d.2)
 
 -- a reply of a function of a part, which did so, of which the calls and writes went so to a recording of the whole
-pub whole_reply : {C D R Q K O : Type 0} (f : C → D) (g : R → Q) {M : Meaning K C R O} {call : Invocation K C R} {touching : C → C → Bool} {es mid es' : Entries K C R O} {reply : Reply O} {took : Bool → List (D × Q) → List D → Type 0} {own : List C → Type 0} {did : List D → Type 0} → ((W : List C) → own W → did (map f W)) → IsReplyMut M call touching es mid (λ late L W. Through f g (took late) L W × own W) reply es' → IsReplyMut M call touching es mid (λ late. Through f g (λ L W. took late L W × did W)) reply es'
-whole_reply f g {took = took} {own} {did} d k = resent_mut {sent = λ late L W. Through f g (took late) L W × own W} {sends = λ late. Through f g (λ L W. took late L W × did W)} (λ late L W is. (is.0, d W is.1)) k
+pub whole_reply : {C D R Q K O : Type 0} (f : C → D) (g : R → Q) {M : Meaning K C R O} {call : Invocation K C R} {touching : C → C → Bool} {es mid es' : Entries K C R O} {reply : Reply O} (took : Bool → List (D × Q) → List D → Type 0) (own : List C → Type 0) (did : List D → Type 0) → ((W : List C) → own W → did (map f W)) → IsReplyMut M call touching es mid (λ late L W. Through f g (took late) L W × own W) reply es' → IsReplyMut M call touching es mid (λ late. Through f g (λ L W. took late L W × did W)) reply es'
+whole_reply f g took own did d k = resent_mut {sent = λ late L W. Through f g (took late) L W × own W} {sends = λ late. Through f g (λ L W. took late L W × did W)} (λ late L W is. (is.0, d W is.1)) k
 
 -- what is known of two values: what each answers, what a write of each does, and how its calls and answers are told apart
 pub record Parts (U V X Y P Q : Type 0) : Type 1 where
@@ -487,21 +491,21 @@ module _ {S U V X Y P Q : Type 0} (j : Joined S U V X Y P Q) where
     tells_asked_first_any value call read (Err f) k e = tells_refused_part value e.1 (Err f) e.0
 
     -- a call of a function of the first, which reads, or which writes
-    module _ {K O : Type 0} (eqk : K → K → Bool) (cloned : O → O → Type 0) (def : K → (X → P) → O → List X → Type 0) (naming : Naming K X P) (key : K) {es es' : Option (Entries K X P O)} where
+    module _ {K O : Type 0} (eqk : K → K → Bool) (cloned : O → O → Type 0) (def : K → (X → P) → O → List X → Type 0) (naming : Naming K X P) (key : K) (es es' : Option (Entries K X P O)) where
       module _ (value : t.value.now ≡ s.value.now) (reads : (o : X → P) (output : O) (writes : List X) → def key o output writes → writes ≡ []) where
-        pub read_first_any : (r : Result O Fault) → IfOk r (λ output. (reply : Reply O) × (reply.output ≡ output) × HeldReply (record { same_call = j.parts.first_calls; same_answer = j.parts.first_likes; same_key = eqk; is_write = j.parts.first_writes; is_clone = cloned; def = def; naming = naming }) (invocation key (j.parts.first_answers (j.first_of s.value.now)) true) es es (Through first_call first_answer (Took j.parts.calls touch s.recording.now t.recording.now)) reply es') → OnOk r (All (λ p. are_writes p.0 ≡ false) t.recording.now.pairs) → OnErr r (t.recording.now.whole ≡ false) → HasBegun Did j.parts.likes Answers t
+        pub read_first_any : (r : Result O Fault) → IfOk r (λ output. (reply : Reply O) × (reply.output ≡ output) × HeldReply (record { same_call = j.parts.first_calls; same_answer = j.parts.first_likes; same_key = eqk; is_write = j.parts.first_writes; is_clone = cloned; def = def; naming = naming }) (invocation key (j.parts.first_answers (j.first_of s.value.now)) true) es es (Through first_call first_answer (Took j.parts.calls touch s.recording.now t.recording.now)) reply es') → All (λ p. are_writes p.0 ≡ false) t.recording.now.pairs → OnErr r (t.recording.now.whole ≡ false) → HasBegun Did j.parts.likes Answers t
         read_first_any (Ok output) k all e = read_first_begun eqk cloned def naming all key k.0 value (λ o W d. reads o k.0.output W d) (some_by es es es' _ k.2).3
         read_first_any (Err f) k all e = spoiled_any _ e
 
-        pub tells_read_first_any : (r : Result O Fault) → IfOk r (λ output. (reply : Reply O) × (reply.output ≡ output) × HeldReply (record { same_call = j.parts.first_calls; same_answer = j.parts.first_likes; same_key = eqk; is_write = j.parts.first_writes; is_clone = cloned; def = def; naming = naming }) (invocation key (j.parts.first_answers (j.first_of s.value.now)) true) es es (Through first_call first_answer (Took j.parts.calls touch s.recording.now t.recording.now)) reply es') → OnOk r (All (λ p. are_writes p.0 ≡ false) t.recording.now.pairs) → OnErr r (t.recording.now.whole ≡ false) → TellsMut (Goes Did touch j.parts.likes Answers) (Fits j.parts.calls j.parts.likes) s t r (λ output n. OnPart first_call first_answer n (λ part. def key part output []))
+        pub tells_read_first_any : (r : Result O Fault) → IfOk r (λ output. (reply : Reply O) × (reply.output ≡ output) × HeldReply (record { same_call = j.parts.first_calls; same_answer = j.parts.first_likes; same_key = eqk; is_write = j.parts.first_writes; is_clone = cloned; def = def; naming = naming }) (invocation key (j.parts.first_answers (j.first_of s.value.now)) true) es es (Through first_call first_answer (Took j.parts.calls touch s.recording.now t.recording.now)) reply es') → All (λ p. are_writes p.0 ≡ false) t.recording.now.pairs → OnErr r (t.recording.now.whole ≡ false) → TellsMut (Goes Did touch j.parts.likes Answers) (Fits j.parts.calls j.parts.likes) s t r (λ output n. OnPart first_call first_answer n (λ part. def key part output []))
         tells_read_first_any (Ok output) k all e = subst (λ o. TellsMut (Goes Did touch j.parts.likes Answers) (Fits j.parts.calls j.parts.likes) s t (Ok o) (λ output n. OnPart first_call first_answer n (λ part. def key part output []))) k.1 (tells_read_first eqk cloned def naming all key k.0 value (λ o W d. reads o k.0.output W d) (some_by es es es' _ k.2).3)
         tells_read_first_any (Err f) k all e = tells_failed j.wrote are_writes touch j.parts.likes Answers place same_recording ([], value) e (Err f) refl
 
-      pub called_first_any : (r : Result O Fault) → IfOk r (λ output. (reply : Reply O) × (reply.output ≡ output) × HeldReplyMut (record { same_call = j.parts.first_calls; same_answer = j.parts.first_likes; same_key = eqk; is_write = j.parts.first_writes; is_clone = cloned; def = def; naming = naming }) j.parts.first_touches (invocation key (j.parts.first_answers (j.first_of s.value.now)) true) es es (λ late. Through first_call first_answer (λ L W. TookAs (Took j.parts.calls touch) MarkedLate late s.recording.now t.recording.now L W × Did s.value.now t.value.now W)) reply es') → OnOk r (All (λ p. are_writes p.0 ≡ false) t.recording.now.pairs) → OnErr r (t.recording.now.whole ≡ false) → HasBegun Did j.parts.likes Answers t
+      pub called_first_any : (r : Result O Fault) → IfOk r (λ output. (reply : Reply O) × (reply.output ≡ output) × HeldReplyMut (record { same_call = j.parts.first_calls; same_answer = j.parts.first_likes; same_key = eqk; is_write = j.parts.first_writes; is_clone = cloned; def = def; naming = naming }) j.parts.first_touches (invocation key (j.parts.first_answers (j.first_of s.value.now)) true) es es (λ late. Through first_call first_answer (λ L W. TookAs (Took j.parts.calls touch) MarkedLate late s.recording.now t.recording.now L W × Did s.value.now t.value.now W)) reply es') → All (λ p. are_writes p.0 ≡ false) t.recording.now.pairs → OnErr r (t.recording.now.whole ≡ false) → HasBegun Did j.parts.likes Answers t
       called_first_any (Ok output) k all e = called_first_begun eqk cloned def naming all key k.0 (some_by es es es' _ k.2).3
       called_first_any (Err f) k all e = spoiled_any _ e
 
-      pub tells_called_first_any : (r : Result O Fault) → IfOk r (λ output. (reply : Reply O) × (reply.output ≡ output) × HeldReplyMut (record { same_call = j.parts.first_calls; same_answer = j.parts.first_likes; same_key = eqk; is_write = j.parts.first_writes; is_clone = cloned; def = def; naming = naming }) j.parts.first_touches (invocation key (j.parts.first_answers (j.first_of s.value.now)) true) es es (λ late. Through first_call first_answer (λ L W. TookAs (Took j.parts.calls touch) MarkedLate late s.recording.now t.recording.now L W × Did s.value.now t.value.now W)) reply es') → OnOk r (All (λ p. are_writes p.0 ≡ false) t.recording.now.pairs) → OnErr r (t.recording.now.whole ≡ false) → Reaches Did s.value.now t.value.now → TellsWrites (Goes Did touch j.parts.likes Answers) (Fits j.parts.calls j.parts.likes) s t r (λ output n writes. OnPartWrites first_call first_answer n writes (λ part W. def key part output W))
+      pub tells_called_first_any : (r : Result O Fault) → IfOk r (λ output. (reply : Reply O) × (reply.output ≡ output) × HeldReplyMut (record { same_call = j.parts.first_calls; same_answer = j.parts.first_likes; same_key = eqk; is_write = j.parts.first_writes; is_clone = cloned; def = def; naming = naming }) j.parts.first_touches (invocation key (j.parts.first_answers (j.first_of s.value.now)) true) es es (λ late. Through first_call first_answer (λ L W. TookAs (Took j.parts.calls touch) MarkedLate late s.recording.now t.recording.now L W × Did s.value.now t.value.now W)) reply es') → All (λ p. are_writes p.0 ≡ false) t.recording.now.pairs → OnErr r (t.recording.now.whole ≡ false) → Reaches Did s.value.now t.value.now → TellsWrites (Goes Did touch j.parts.likes Answers) (Fits j.parts.calls j.parts.likes) s t r (λ output n writes. OnPartWrites first_call first_answer n writes (λ part W. def key part output W))
       tells_called_first_any (Ok output) k all e reached = subst (λ o. TellsWrites (Goes Did touch j.parts.likes Answers) (Fits j.parts.calls j.parts.likes) s t (Ok o) (λ output n writes. OnPartWrites first_call first_answer n writes (λ part W. def key part output W))) k.1 (tells_called_first eqk cloned def naming all key k.0 (some_by es es es' _ k.2).3)
       tells_called_first_any (Err f) k all e reached = writes_failed j.wrote are_writes touch j.parts.likes Answers place same_recording reached e (Err f) refl
 
@@ -515,21 +519,21 @@ module _ {S U V X Y P Q : Type 0} (j : Joined S U V X Y P Q) where
     tells_asked_second_any value call read (Err f) k e = tells_refused_part value e.1 (Err f) e.0
 
     -- a call of a function of the second, which reads, or which writes
-    module _ {K O : Type 0} (eqk : K → K → Bool) (cloned : O → O → Type 0) (def : K → (Y → Q) → O → List Y → Type 0) (naming : Naming K Y Q) (key : K) {es es' : Option (Entries K Y Q O)} where
+    module _ {K O : Type 0} (eqk : K → K → Bool) (cloned : O → O → Type 0) (def : K → (Y → Q) → O → List Y → Type 0) (naming : Naming K Y Q) (key : K) (es es' : Option (Entries K Y Q O)) where
       module _ (value : t.value.now ≡ s.value.now) (reads : (o : Y → Q) (output : O) (writes : List Y) → def key o output writes → writes ≡ []) where
-        pub read_second_any : (r : Result O Fault) → IfOk r (λ output. (reply : Reply O) × (reply.output ≡ output) × HeldReply (record { same_call = j.parts.second_calls; same_answer = j.parts.second_likes; same_key = eqk; is_write = j.parts.second_writes; is_clone = cloned; def = def; naming = naming }) (invocation key (j.parts.second_answers (j.second_of s.value.now)) true) es es (Through second_call second_answer (Took j.parts.calls touch s.recording.now t.recording.now)) reply es') → OnOk r (All (λ p. are_writes p.0 ≡ false) t.recording.now.pairs) → OnErr r (t.recording.now.whole ≡ false) → HasBegun Did j.parts.likes Answers t
+        pub read_second_any : (r : Result O Fault) → IfOk r (λ output. (reply : Reply O) × (reply.output ≡ output) × HeldReply (record { same_call = j.parts.second_calls; same_answer = j.parts.second_likes; same_key = eqk; is_write = j.parts.second_writes; is_clone = cloned; def = def; naming = naming }) (invocation key (j.parts.second_answers (j.second_of s.value.now)) true) es es (Through second_call second_answer (Took j.parts.calls touch s.recording.now t.recording.now)) reply es') → All (λ p. are_writes p.0 ≡ false) t.recording.now.pairs → OnErr r (t.recording.now.whole ≡ false) → HasBegun Did j.parts.likes Answers t
         read_second_any (Ok output) k all e = read_second_begun eqk cloned def naming all key k.0 value (λ o W d. reads o k.0.output W d) (some_by es es es' _ k.2).3
         read_second_any (Err f) k all e = spoiled_any _ e
 
-        pub tells_read_second_any : (r : Result O Fault) → IfOk r (λ output. (reply : Reply O) × (reply.output ≡ output) × HeldReply (record { same_call = j.parts.second_calls; same_answer = j.parts.second_likes; same_key = eqk; is_write = j.parts.second_writes; is_clone = cloned; def = def; naming = naming }) (invocation key (j.parts.second_answers (j.second_of s.value.now)) true) es es (Through second_call second_answer (Took j.parts.calls touch s.recording.now t.recording.now)) reply es') → OnOk r (All (λ p. are_writes p.0 ≡ false) t.recording.now.pairs) → OnErr r (t.recording.now.whole ≡ false) → TellsMut (Goes Did touch j.parts.likes Answers) (Fits j.parts.calls j.parts.likes) s t r (λ output n. OnPart second_call second_answer n (λ part. def key part output []))
+        pub tells_read_second_any : (r : Result O Fault) → IfOk r (λ output. (reply : Reply O) × (reply.output ≡ output) × HeldReply (record { same_call = j.parts.second_calls; same_answer = j.parts.second_likes; same_key = eqk; is_write = j.parts.second_writes; is_clone = cloned; def = def; naming = naming }) (invocation key (j.parts.second_answers (j.second_of s.value.now)) true) es es (Through second_call second_answer (Took j.parts.calls touch s.recording.now t.recording.now)) reply es') → All (λ p. are_writes p.0 ≡ false) t.recording.now.pairs → OnErr r (t.recording.now.whole ≡ false) → TellsMut (Goes Did touch j.parts.likes Answers) (Fits j.parts.calls j.parts.likes) s t r (λ output n. OnPart second_call second_answer n (λ part. def key part output []))
         tells_read_second_any (Ok output) k all e = subst (λ o. TellsMut (Goes Did touch j.parts.likes Answers) (Fits j.parts.calls j.parts.likes) s t (Ok o) (λ output n. OnPart second_call second_answer n (λ part. def key part output []))) k.1 (tells_read_second eqk cloned def naming all key k.0 value (λ o W d. reads o k.0.output W d) (some_by es es es' _ k.2).3)
         tells_read_second_any (Err f) k all e = tells_failed j.wrote are_writes touch j.parts.likes Answers place same_recording ([], value) e (Err f) refl
 
-      pub called_second_any : (r : Result O Fault) → IfOk r (λ output. (reply : Reply O) × (reply.output ≡ output) × HeldReplyMut (record { same_call = j.parts.second_calls; same_answer = j.parts.second_likes; same_key = eqk; is_write = j.parts.second_writes; is_clone = cloned; def = def; naming = naming }) j.parts.second_touches (invocation key (j.parts.second_answers (j.second_of s.value.now)) true) es es (λ late. Through second_call second_answer (λ L W. TookAs (Took j.parts.calls touch) MarkedLate late s.recording.now t.recording.now L W × Did s.value.now t.value.now W)) reply es') → OnOk r (All (λ p. are_writes p.0 ≡ false) t.recording.now.pairs) → OnErr r (t.recording.now.whole ≡ false) → HasBegun Did j.parts.likes Answers t
+      pub called_second_any : (r : Result O Fault) → IfOk r (λ output. (reply : Reply O) × (reply.output ≡ output) × HeldReplyMut (record { same_call = j.parts.second_calls; same_answer = j.parts.second_likes; same_key = eqk; is_write = j.parts.second_writes; is_clone = cloned; def = def; naming = naming }) j.parts.second_touches (invocation key (j.parts.second_answers (j.second_of s.value.now)) true) es es (λ late. Through second_call second_answer (λ L W. TookAs (Took j.parts.calls touch) MarkedLate late s.recording.now t.recording.now L W × Did s.value.now t.value.now W)) reply es') → All (λ p. are_writes p.0 ≡ false) t.recording.now.pairs → OnErr r (t.recording.now.whole ≡ false) → HasBegun Did j.parts.likes Answers t
       called_second_any (Ok output) k all e = called_second_begun eqk cloned def naming all key k.0 (some_by es es es' _ k.2).3
       called_second_any (Err f) k all e = spoiled_any _ e
 
-      pub tells_called_second_any : (r : Result O Fault) → IfOk r (λ output. (reply : Reply O) × (reply.output ≡ output) × HeldReplyMut (record { same_call = j.parts.second_calls; same_answer = j.parts.second_likes; same_key = eqk; is_write = j.parts.second_writes; is_clone = cloned; def = def; naming = naming }) j.parts.second_touches (invocation key (j.parts.second_answers (j.second_of s.value.now)) true) es es (λ late. Through second_call second_answer (λ L W. TookAs (Took j.parts.calls touch) MarkedLate late s.recording.now t.recording.now L W × Did s.value.now t.value.now W)) reply es') → OnOk r (All (λ p. are_writes p.0 ≡ false) t.recording.now.pairs) → OnErr r (t.recording.now.whole ≡ false) → Reaches Did s.value.now t.value.now → TellsWrites (Goes Did touch j.parts.likes Answers) (Fits j.parts.calls j.parts.likes) s t r (λ output n writes. OnPartWrites second_call second_answer n writes (λ part W. def key part output W))
+      pub tells_called_second_any : (r : Result O Fault) → IfOk r (λ output. (reply : Reply O) × (reply.output ≡ output) × HeldReplyMut (record { same_call = j.parts.second_calls; same_answer = j.parts.second_likes; same_key = eqk; is_write = j.parts.second_writes; is_clone = cloned; def = def; naming = naming }) j.parts.second_touches (invocation key (j.parts.second_answers (j.second_of s.value.now)) true) es es (λ late. Through second_call second_answer (λ L W. TookAs (Took j.parts.calls touch) MarkedLate late s.recording.now t.recording.now L W × Did s.value.now t.value.now W)) reply es') → All (λ p. are_writes p.0 ≡ false) t.recording.now.pairs → OnErr r (t.recording.now.whole ≡ false) → Reaches Did s.value.now t.value.now → TellsWrites (Goes Did touch j.parts.likes Answers) (Fits j.parts.calls j.parts.likes) s t r (λ output n writes. OnPartWrites second_call second_answer n writes (λ part W. def key part output W))
       tells_called_second_any (Ok output) k all e reached = subst (λ o. TellsWrites (Goes Did touch j.parts.likes Answers) (Fits j.parts.calls j.parts.likes) s t (Ok o) (λ output n writes. OnPartWrites second_call second_answer n writes (λ part W. def key part output W))) k.1 (tells_called_second eqk cloned def naming all key k.0 (some_by es es es' _ k.2).3)
       tells_called_second_any (Err f) k all e reached = writes_failed j.wrote are_writes touch j.parts.likes Answers place same_recording reached e (Err f) refl
 

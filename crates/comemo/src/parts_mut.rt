@@ -1,6 +1,5 @@
 //! The calls and writes of a run that reads one value and writes another.
 ghost use Rattle.std.specs.Prelude.{◌≡◌, [], ◌∷◌, true, false, IsTrue, IfOk, IfErr, OnOk, OnErr, map, ⊤};
-ghost use Rattle.std.specs.List.{All};
 ghost use Rattle.comemo.specs.Called.{HeldReply, HeldReplyMut};
 ghost use Rattle.comemo.specs.Begin.{Reaches};
 ghost use Rattle.comemo.specs.Finish.{BrokeOff};
@@ -209,7 +208,7 @@ impl<'a, 'b, 'c, A: Track, B: Track> RecorderMut<'a, 'b, ReadAndWrite<'c, A, B>>
             es')) }
     {
         let value = &mut *self.value;
-        call_mut_part(
+        let output = call_mut_part(
             self.alloc,
             &mut *value.second,
             &mut *self.recording,
@@ -217,7 +216,9 @@ impl<'a, 'b, 'c, A: Track, B: Track> RecorderMut<'a, 'b, ReadAndWrite<'c, A, B>>
             cache,
             needs,
             key,
-        )
+        );
+        self.recording.has_reads_and_writes();
+        output
     }
 }
 
@@ -258,7 +259,7 @@ pub(crate) fn write_part<A: Track, P: CallMap<From = A::Call, FromAnswer = A::An
         × Took P.To.eq P.To.touches recording.old recording.new [] []) }
 {
     let mut view = part.track_mut(alloc);
-    let mut sink = MappedSink::new(&mut *recording, map);
+    let mut sink = MappedSink::new(recording, map);
     view.write(call, &mut sink)?;
     Ok(())
 }
@@ -284,7 +285,6 @@ pub(crate) fn call_part<
         (Through (P.maps map) (P.maps_answer map)
         (Took P.To.eq P.To.touches recording.old recording.new)) reply (H.entries cache.new)) }
     ensures same { part.new ≡ part.old }
-    ensures reads { OnOk result (All (λ p. P.To.is_write p.0 ≡ false) recording.new.pairs) }
     ensures spoiled { OnErr result (recording.new.whole ≡ false) }
     ensures err { OnErr result (Stays (H.entries cache.old) (H.entries cache.new)
         × BrokeOff A.Answer.eq (A.answers part.old)
@@ -292,10 +292,8 @@ pub(crate) fn call_part<
         (mapped_pairs (P.maps map) (P.maps_answer map) pairs))) }
 {
     let view = part.track(alloc);
-    let mut sink = MappedSink::new(&mut *recording, map);
+    let mut sink = MappedSink::new(recording, map);
     let reply = memoized(alloc, cache, needs, key, &view, &mut sink, true)?;
-    drop(sink);
-    recording.has_reads_and_writes();
     Ok(reply.output)
 }
 
@@ -322,7 +320,6 @@ pub(crate) fn call_mut_part<
         (TookAs (Took P.To.eq P.To.touches) MarkedLate late recording.old recording.new) pairs W
         × ⟦<A as Written>⟧.did part.old part.new W) reply (H.entries cache.new)) }
     ensures reached { Reaches ⟦<A as Written>⟧.did part.old part.new }
-    ensures reads { OnOk result (All (λ p. P.To.is_write p.0 ≡ false) recording.new.pairs) }
     ensures spoiled { OnErr result (recording.new.whole ≡ false) }
     ensures err { OnErr result (Leads (H.entries cache.old) (H.entries cache.new) (λ es es'.
         IsFailed ⟦<G as Meant>⟧.meaning A.Call.touches es
@@ -333,9 +330,7 @@ pub(crate) fn call_mut_part<
         (Through (P.maps map) (P.maps_answer map)
         (SpoiledAfter (Took P.To.eq P.To.touches) Spoiled recording.old recording.new)) es')) }
 {
-    let mut sink = MappedSink::new(&mut *recording, map);
+    let mut sink = MappedSink::new(recording, map);
     let reply = memoized_mut(alloc, cache, needs, key, part, &mut sink, true)?;
-    drop(sink);
-    recording.has_reads_and_writes();
     Ok(reply.output)
 }

@@ -194,7 +194,7 @@ impl<'a, 'b, 'c, A: Track, B: Track> RecorderMut<'a, 'b, BothMut<'c, A, B>> {
             (record { value = self.new.value.now; recording = self.new.recording.now })) }
     {
         let value = &mut *self.value;
-        call_part(
+        let output = call_part(
             self.alloc,
             &mut *value.first,
             &mut *self.recording,
@@ -202,7 +202,9 @@ impl<'a, 'b, 'c, A: Track, B: Track> RecorderMut<'a, 'b, BothMut<'c, A, B>> {
             cache,
             needs,
             key,
-        )
+        );
+        self.recording.has_reads_and_writes();
+        output
     }
 
     /// Calls a memoized function of the second value, which only reads, and records its calls.
@@ -238,7 +240,7 @@ impl<'a, 'b, 'c, A: Track, B: Track> RecorderMut<'a, 'b, BothMut<'c, A, B>> {
             (record { value = self.new.value.now; recording = self.new.recording.now })) }
     {
         let value = &mut *self.value;
-        call_part(
+        let output = call_part(
             self.alloc,
             &mut *value.second,
             &mut *self.recording,
@@ -246,7 +248,9 @@ impl<'a, 'b, 'c, A: Track, B: Track> RecorderMut<'a, 'b, BothMut<'c, A, B>> {
             cache,
             needs,
             key,
-        )
+        );
+        self.recording.has_reads_and_writes();
+        output
     }
 
     /// Calls a memoized function of the first value, which may write, and records its calls and writes.
@@ -291,7 +295,7 @@ impl<'a, 'b, 'c, A: Track, B: Track> RecorderMut<'a, 'b, BothMut<'c, A, B>> {
             es')) }
     {
         let value = &mut *self.value;
-        call_mut_part(
+        let output = call_mut_part(
             self.alloc,
             &mut *value.first,
             &mut *self.recording,
@@ -299,7 +303,9 @@ impl<'a, 'b, 'c, A: Track, B: Track> RecorderMut<'a, 'b, BothMut<'c, A, B>> {
             cache,
             needs,
             key,
-        )
+        );
+        self.recording.has_reads_and_writes();
+        output
     }
 
     /// Calls a memoized function of the second value, which may write, and records its calls and writes.
@@ -344,7 +350,7 @@ impl<'a, 'b, 'c, A: Track, B: Track> RecorderMut<'a, 'b, BothMut<'c, A, B>> {
             es')) }
     {
         let value = &mut *self.value;
-        call_mut_part(
+        let output = call_mut_part(
             self.alloc,
             &mut *value.second,
             &mut *self.recording,
@@ -352,6 +358,8 @@ impl<'a, 'b, 'c, A: Track, B: Track> RecorderMut<'a, 'b, BothMut<'c, A, B>> {
             cache,
             needs,
             key,
-        )
+        );
+        self.recording.has_reads_and_writes();
+        output
     }
 }

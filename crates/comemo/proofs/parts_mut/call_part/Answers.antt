@@ -6,7 +6,7 @@ use Rattle.comemo.proofs.PartsMut.{broken_as, broken_on}
 use Rattle.comemo.proofs.parts_mut.call_part.Goals as goal
 
 pub returns-clause-reply : goal.returns-clause-reply
-returns-clause-reply g c = (c.in_ok-reply.reply, refl, by_map (g.H.Hold.entries c.args.cache.now) (g.H.Hold.entries c.args.cache.now) (g.H.Hold.entries c.memoized.new.cache) _ _ (λ es mid es' k. resent (λ P W took. rw c.drop.ensures (rw c.new-sink.ensures.value at (rw c.new-sink.ensures.map at took.sent))) k) (rw c.track-view.ensures at c.in_ok-reply.ensures.reply))
+returns-clause-reply g c = (c.in_ok-reply.reply, refl, by_map (g.H.Hold.entries c.args.cache.now) (g.H.Hold.entries c.args.cache.now) (g.H.Hold.entries c.memoized.new.cache) _ _ (λ es mid es' k. resent (λ P W took. rw c.drop-sink-2.ensures (rw c.new-sink.ensures.value at (rw c.new-sink.ensures.map at took.sent))) k) (rw c.track-view.ensures at c.in_ok-reply.ensures.reply))
 
 pub returns-in_err-reply-clause-err : goal.returns-in_err-reply-clause-err
 returns-in_err-reply-clause-err g c =

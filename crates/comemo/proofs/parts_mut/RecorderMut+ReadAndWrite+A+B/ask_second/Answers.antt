@@ -42,4 +42,4 @@ pub returns-clause-tells : goal.returns-clause-tells
 returns-clause-tells g c = tells_asked_second_any (read_and_write (parts g)) refl refl c.requires.agrees (ap (λ v. second_as c.args.self.now.value.now v) c.ask_part.ensures.same) c.args.call c.requires.read c.ask_part.result c.ask_part.ensures.asks c.ask_part.ensures.err
 
 pub returns-clause-writes : goal.returns-clause-writes
-returns-clause-writes g c = asked_writes second_call second_answer c.args.self.now.recording.now _ c.ask_part.result c.ask_part.ensures.asks c.ask_part.ensures.err
+returns-clause-writes g c = asked_writes second_call second_answer _ _ _ _ _ _ c.args.self.now.recording.now _ c.ask_part.result c.ask_part.ensures.asks c.ask_part.ensures.err

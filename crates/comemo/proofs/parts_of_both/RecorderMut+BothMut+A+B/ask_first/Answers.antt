@@ -42,4 +42,4 @@ pub returns-clause-tells : goal.returns-clause-tells
 returns-clause-tells g c = tells_asked_first_any (both_mut (parts g)) refl refl c.requires.agrees (ap (λ v. first_mut_as c.args.self.now.value.now v) c.ask_part.ensures.same) c.args.call c.requires.read c.ask_part.result c.ask_part.ensures.asks c.ask_part.ensures.err
 
 pub returns-clause-writes : goal.returns-clause-writes
-returns-clause-writes g c = asked_writes first_call first_answer c.args.self.now.recording.now _ c.ask_part.result c.ask_part.ensures.asks c.ask_part.ensures.err
+returns-clause-writes g c = asked_writes first_call first_answer _ _ _ _ _ _ c.args.self.now.recording.now _ c.ask_part.result c.ask_part.ensures.asks c.ask_part.ensures.err

@@ -37,13 +37,13 @@ parts g = record {
 }
 
 pub returns-clause-reply : goal.returns-clause-reply
-returns-clause-reply g c = ok_as c.call_mut_part.result (λ output k. (k.0, k.1, by_map (g.H.Hold.entries c.args.cache.now) (g.H.Hold.entries c.args.cache.now) (g.H.Hold.entries c.call_mut_part.new.cache) _ _ (λ es mid es' is. whole_reply second_call second_answer (λ W d. second_mut_done (parts g) c.args.self.now.value.now c.call_mut_part.new.part W d) is) k.2)) c.call_mut_part.ensures.reply
+returns-clause-reply g c = ok_as c.call_mut_part-output.result (λ output k. (k.0, k.1, by_map (g.H.Hold.entries c.args.cache.now) (g.H.Hold.entries c.args.cache.now) (g.H.Hold.entries c.call_mut_part-output.new.cache) _ _ (λ es mid es' is. whole_reply second_call second_answer _ _ _ (λ W d. second_mut_done (parts g) c.args.self.now.value.now c.call_mut_part-output.new.part W d) is) k.2)) c.call_mut_part-output.ensures.reply
 
 pub returns-clause-agrees : goal.returns-clause-agrees
-returns-clause-agrees g c = called_second_any (both_mut (parts g)) refl refl c.requires.agrees g.G.Key.PartialEq.eq g.G.Out.Clone.is_clone g.G.Memo.def g.G.Memo.naming c.args.key c.call_mut_part.result (returns-clause-reply g c) c.call_mut_part.ensures.reads c.call_mut_part.ensures.spoiled
+returns-clause-agrees g c = called_second_any (both_mut (parts g)) refl refl c.requires.agrees g.G.Key.PartialEq.eq g.G.Out.Clone.is_clone g.G.Memo.def g.G.Memo.naming c.args.key _ _ c.call_mut_part-output.result (returns-clause-reply g c) c.has_reads_and_writes.ensures.reads c.call_mut_part-output.ensures.spoiled
 
 pub returns-clause-tells : goal.returns-clause-tells
-returns-clause-tells g c = tells_called_second_any (both_mut (parts g)) refl refl c.requires.agrees g.G.Key.PartialEq.eq g.G.Out.Clone.is_clone g.G.Memo.def g.G.Memo.naming c.args.key c.call_mut_part.result (returns-clause-reply g c) c.call_mut_part.ensures.reads c.call_mut_part.ensures.spoiled (second_mut_reached (parts g) c.args.self.now.value.now c.call_mut_part.new.part c.call_mut_part.ensures.reached)
+returns-clause-tells g c = tells_called_second_any (both_mut (parts g)) refl refl c.requires.agrees g.G.Key.PartialEq.eq g.G.Out.Clone.is_clone g.G.Memo.def g.G.Memo.naming c.args.key _ _ c.call_mut_part-output.result (returns-clause-reply g c) c.has_reads_and_writes.ensures.reads c.call_mut_part-output.ensures.spoiled (second_mut_reached (parts g) c.args.self.now.value.now c.call_mut_part-output.new.part c.call_mut_part-output.ensures.reached)
 
 pub returns-clause-err : goal.returns-clause-err
-returns-clause-err g c = on_err_as c.call_mut_part.result (λ e. leads_map (g.H.Hold.entries c.args.cache.now) (g.H.Hold.entries c.call_mut_part.new.cache) _ _ (λ es es' k. failed_as (λ W d. second_mut_done (parts g) c.args.self.now.value.now c.call_mut_part.new.part W d) (λ P b. b) (λ P W b. b) k) e) c.call_mut_part.ensures.err
+returns-clause-err g c = on_err_as c.call_mut_part-output.result (λ e. leads_map (g.H.Hold.entries c.args.cache.now) (g.H.Hold.entries c.call_mut_part-output.new.cache) _ _ (λ es es' k. failed_as (λ W d. second_mut_done (parts g) c.args.self.now.value.now c.call_mut_part-output.new.part W d) (λ P b. b) (λ P W b. b) k) e) c.call_mut_part-output.ensures.err

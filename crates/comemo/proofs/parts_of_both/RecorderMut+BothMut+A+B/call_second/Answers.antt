@@ -36,17 +36,17 @@ parts g = record {
 }
 
 pub returns-clause-agrees : goal.returns-clause-agrees
-returns-clause-agrees g c = read_second_any (both_mut (parts g)) refl refl c.requires.agrees g.G.Key.PartialEq.eq g.G.Out.Clone.is_clone g.G.Memo.def g.G.Memo.naming c.args.key (ap (λ v. second_mut_as c.args.self.now.value.now v) c.call_part.ensures.same) (λ o output W d. g.met.G.FunctionOf.reads c.args.key o output W d) c.call_part.result c.call_part.ensures.reply c.call_part.ensures.reads c.call_part.ensures.spoiled
+returns-clause-agrees g c = read_second_any (both_mut (parts g)) refl refl c.requires.agrees g.G.Key.PartialEq.eq g.G.Out.Clone.is_clone g.G.Memo.def g.G.Memo.naming c.args.key _ _ (ap (λ v. second_mut_as c.args.self.now.value.now v) c.call_part-output.ensures.same) (λ o output W d. g.met.G.FunctionOf.reads c.args.key o output W d) c.call_part-output.result c.call_part-output.ensures.reply c.has_reads_and_writes.ensures.reads c.call_part-output.ensures.spoiled
 
 pub returns-clause-tells : goal.returns-clause-tells
-returns-clause-tells g c = tells_read_second_any (both_mut (parts g)) refl refl c.requires.agrees g.G.Key.PartialEq.eq g.G.Out.Clone.is_clone g.G.Memo.def g.G.Memo.naming c.args.key (ap (λ v. second_mut_as c.args.self.now.value.now v) c.call_part.ensures.same) (λ o output W d. g.met.G.FunctionOf.reads c.args.key o output W d) c.call_part.result c.call_part.ensures.reply c.call_part.ensures.reads c.call_part.ensures.spoiled
+returns-clause-tells g c = tells_read_second_any (both_mut (parts g)) refl refl c.requires.agrees g.G.Key.PartialEq.eq g.G.Out.Clone.is_clone g.G.Memo.def g.G.Memo.naming c.args.key _ _ (ap (λ v. second_mut_as c.args.self.now.value.now v) c.call_part-output.ensures.same) (λ o output W d. g.met.G.FunctionOf.reads c.args.key o output W d) c.call_part-output.result c.call_part-output.ensures.reply c.has_reads_and_writes.ensures.reads c.call_part-output.ensures.spoiled
 
 pub returns-clause-writes : goal.returns-clause-writes
 returns-clause-writes g c =
     let p = parts g in
-    part_writes_any second_call second_answer {eqd = p.calls} {touches = part_touches p.first_touches p.second_touches} (p.second_answers c.args.self.now.value.now.second.now) (p.second_respects c.args.self.now.value.now.second.now) c.args.self.now.recording.now _ c.call_part.result c.call_part.ensures.reply (λ o output W d. g.met.G.FunctionOf.reads c.args.key o output W d)
+    part_writes_any second_call second_answer _ p.calls (part_touches p.first_touches p.second_touches) c.args.key _ _ (p.second_answers c.args.self.now.value.now.second.now) (p.second_respects c.args.self.now.value.now.second.now) c.args.self.now.recording.now _ c.call_part-output.result c.call_part-output.ensures.reply (λ o output W d. g.met.G.FunctionOf.reads c.args.key o output W d)
 
 pub returns-clause-err : goal.returns-clause-err
 returns-clause-err g c =
     let p = parts g in
-    on_err_as c.call_part.result (λ e. (e.0, broke_whole p.second_calls p.second_likes p.calls p.likes second_call second_answer p.by_calls.seconds p.by_likes.seconds (Answers (both_mut p) c.args.self.now.value.now) (p.second_answers c.args.self.now.value.now.second.now) (λ x. refl) e.1)) c.call_part.ensures.err
+    on_err_as c.call_part-output.result (λ e. (e.0, broke_whole p.second_calls p.second_likes p.calls p.likes second_call second_answer p.by_calls.seconds p.by_likes.seconds (Answers (both_mut p) c.args.self.now.value.now) (p.second_answers c.args.self.now.value.now.second.now) (λ x. refl) e.1)) c.call_part-output.ensures.err
