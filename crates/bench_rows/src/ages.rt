@@ -8,7 +8,7 @@ use crate::broken::Broken;
 use crate::steps::{Anything, evict, look, store, touch};
 use crate::tally::Tally;
 use comemo::internal::{Meant, Step, StepReply};
-use comemo::{CacheData, Constraint, Fault, Function, How, MemoOf, Recorder, Track, memoized_with};
+use comemo::{CacheData, Constraint, Fault, Function, How, MemoOf, Recorder, Run, memoized_with};
 use std::alloc::{AllocError, Global};
 
 /// Returns 0.
@@ -21,11 +21,13 @@ impl Function for Null {
 
     type Out = u64;
 
-    type Needs = ();
-
     ghost means = { λ _ _ out. out ≡ 0 };
 
     ghost laws = { Prim.search rules };
+}
+
+impl Run for Null {
+    type Needs = ();
 
     fn run(_key: &(), _of: &mut Recorder<'_, ()>, _needs: &mut ()) -> Result<u64, Fault> {
         Ok(0)
@@ -51,15 +53,7 @@ fn call_null(
 ) -> Option<usize> {
     let nothing = ();
     let mut sink = Constraint::new(alloc);
-    let reply = memoized_with(
-        alloc,
-        cache,
-        &mut (),
-        (),
-        &nothing.track(alloc),
-        &mut sink,
-        true,
-    );
+    let reply = memoized_with(alloc, cache, &mut (), (), &nothing, &mut sink, true);
     let went = match reply {
         Ok(reply) => {
             tally.hold(reply.output == 0);

@@ -1,16 +1,16 @@
 //! Calls of memoized functions, and their expected results.
 
-use comemo::{CacheData, Fault, Function, How, MemoOf, Reply, Track, memoized};
+use comemo::{CacheData, Fault, How, MemoOf, Reply, Run, memoized};
 use std::alloc::Global;
 
 /// Calls a function that needs nothing, outside of any run.
-pub(crate) fn call<F: Function<Needs = ()>>(
+pub(crate) fn call<F: Run<Needs = ()>>(
     alloc: Global,
     cache: &mut CacheData<MemoOf<F>>,
     key: F::Key,
     of: &F::Of,
 ) -> Result<Reply<F::Out>, Fault> {
-    memoized(alloc, cache, key, &of.track(alloc))
+    memoized(alloc, cache, key, of)
 }
 
 /// Whether a reply has this output, and came about like this.

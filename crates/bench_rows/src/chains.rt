@@ -1,7 +1,7 @@
 //! The row of chains, which borrow one another.
 
 use crate::broken::Broken;
-use comemo::{CacheData, How, Track, memoized};
+use comemo::{CacheData, How, memoized};
 use comemo_guide::chains::{Chain, IsInChain};
 use std::alloc::Global;
 
@@ -14,8 +14,7 @@ fn says(
     output: bool,
     how: How,
 ) -> bool {
-    let view = chain.track(alloc);
-    match memoized(alloc, cache, number, &view) {
+    match memoized(alloc, cache, number, chain) {
         Ok(reply) => reply.output == output && reply.how == how,
         Err(_) => false,
     }

@@ -2,7 +2,7 @@
 
 use crate::broken::Broken;
 use comemo::{
-    BothMut, Cache, CacheData, Fault, Hold, How, MemoOfMut, Top, memoized_mut, memoized_mut_with,
+    BothMut, Cache, CacheData, Fault, Hold, How, MemoOf, Top, memoized_mut, memoized_mut_with,
 };
 use comemo_guide::late::{AddsAndGets, Bump, Readback, Twice};
 use comemo_samples::Counter;
@@ -10,7 +10,7 @@ use std::alloc::Global;
 use std::sync::Wait;
 
 /// Whether a call of `Bump` has this result, and adds 3.
-fn bumps<H: Hold<MemoOfMut<Bump>>>(
+fn bumps<H: Hold<MemoOf<Bump>>>(
     alloc: Global,
     cache: &mut H,
     counter: &mut Counter,
@@ -22,14 +22,14 @@ fn bumps<H: Hold<MemoOfMut<Bump>>>(
 }
 
 /// Whether a call of `Readback` on a new counter is late.
-fn reads_back<H: Hold<MemoOfMut<Readback>>>(alloc: Global, cache: &mut H) -> Result<bool, Fault> {
+fn reads_back<H: Hold<MemoOf<Readback>>>(alloc: Global, cache: &mut H) -> Result<bool, Fault> {
     let mut counter = Counter { number: 0 };
     let reply = memoized_mut(alloc, cache, 3, &mut counter)?;
     Ok(reply.how == How::Late && reply.output == 3 && counter.number == 3)
 }
 
 /// Whether a call of `Twice` on a new counter is late.
-fn bumps_twice<B: Hold<MemoOfMut<Bump>>, H: Hold<MemoOfMut<Twice<B>>>>(
+fn bumps_twice<B: Hold<MemoOf<Bump>>, H: Hold<MemoOf<Twice<B>>>>(
     alloc: Global,
     cache: &mut H,
     bumps: &mut B,
@@ -60,8 +60,8 @@ fn calls_come_to_that<B, R, A>(
     adding: &mut A,
 ) -> Result<bool, Fault>
 where
-    B: Hold<MemoOfMut<Bump>>,
-    R: Hold<MemoOfMut<Readback>>,
+    B: Hold<MemoOf<Bump>>,
+    R: Hold<MemoOf<Readback>>,
     A: Hold<AddsAndGets>,
 {
     let mut counter = Counter { number: 0 };
@@ -78,7 +78,7 @@ where
 
 /// Whether runs that read what they wrote are late, and others are stored, in caches of one owner.
 fn late_runs_are_not_kept(alloc: Global) -> Result<bool, Fault> {
-    let mut bump: CacheData<MemoOfMut<Bump>> = CacheData::new(alloc);
+    let mut bump: CacheData<MemoOf<Bump>> = CacheData::new(alloc);
     let mut readback = CacheData::new(alloc);
     let mut twice = CacheData::new(alloc);
     let mut adding = CacheData::new(alloc);
@@ -91,8 +91,8 @@ fn late_runs_are_not_kept(alloc: Global) -> Result<bool, Fault> {
 fn come_to_that_through_shares<'x, W: Wait>(
     rt: &'x W,
     alloc: Global,
-    bump: &'x Cache<MemoOfMut<Bump>>,
-    readback: &'x Cache<MemoOfMut<Readback>>,
+    bump: &'x Cache<MemoOf<Bump>>,
+    readback: &'x Cache<MemoOf<Readback>>,
     adding: &'x Cache<AddsAndGets>,
 ) -> Result<bool, Fault> {
     let bump = &mut bump.hold(rt);
@@ -105,9 +105,9 @@ fn come_to_that_through_shares<'x, W: Wait>(
 fn bumps_twice_through_a_share<'x, W: Wait>(
     rt: &'x W,
     alloc: Global,
-    twice: &'x Cache<MemoOfMut<Twice<CacheData<MemoOfMut<Bump>>>>>,
+    twice: &'x Cache<MemoOf<Twice<CacheData<MemoOf<Bump>>>>>,
 ) -> Result<bool, Fault> {
-    let mut bump: CacheData<MemoOfMut<Bump>> = CacheData::new(alloc);
+    let mut bump: CacheData<MemoOf<Bump>> = CacheData::new(alloc);
     let mut counter = Counter { number: 0 };
     let twice = &mut twice.hold(rt);
     Ok(

@@ -3,7 +3,7 @@
 use crate::broken::Broken;
 use crate::calls::{call, gives};
 use crate::fibonacci::{FibMemo, numbered};
-use comemo::{CacheData, Constraint, How, MemoOf, Top, Track, memoized_with};
+use comemo::{CacheData, Constraint, How, MemoOf, Top, memoized_with};
 use comemo_guide::double::Double;
 use comemo_guide::numbers::{Identity, Sum};
 use std::alloc::Global;
@@ -61,10 +61,9 @@ fn keeps_large_numbers(alloc: Global) -> Result<bool, Broken> {
         (2000, How::Stored),
         (2000, How::Hit),
     ] {
-        let nothing = ().track(alloc);
         let enabled = number >= 1000;
         let sink = &mut Top::new();
-        let reply = memoized_with(alloc, &mut cache, &mut (), number, &nothing, sink, enabled)?;
+        let reply = memoized_with(alloc, &mut cache, &mut (), number, &(), sink, enabled)?;
         if !gives(reply, number, how) {
             return Ok(false);
         }

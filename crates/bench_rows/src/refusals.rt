@@ -8,7 +8,7 @@ use crate::place::{Place, PlaceAnswer, PlaceCall};
 use crate::places::{AnySaid, contextual, expected_at, recorded};
 use crate::tally::Tally;
 use comemo::{
-    Begun, CacheData, Constraint, Fault, FunctionMut, How, MemoOfMut, RecorderMut, Reply, Track,
+    Begun, CacheData, Constraint, Fault, Function, How, MemoOf, RecorderMut, Reply, RunMut, Track,
     begin, memoized_mut_with,
 };
 use comemo_samples::NotebookCall;
@@ -72,21 +72,25 @@ impl Track for Book {
 /// Notes 1, 2 and 3, and returns the book's number.
 struct NotesThree;
 
-impl FunctionMut for NotesThree {
+impl Function for NotesThree {
     type Key = u64;
 
     type Of = Book;
 
     type Out = u64;
 
-    type Needs = ();
-
     ghost use Rattle.comemo_samples.specs.declared.notebook.NotebookCall.TheVariants.{Note};
 
-    ghost means = { λ n m out writes. (out ≡ n) × (writes ≡ Note 1 ∷ Note 2 ∷ Note 3 ∷ []) };
+    ghost means = { λ n _ out. out ≡ n };
+
+    ghost writes = { λ _ _ _ W. W ≡ Note 1 ∷ Note 2 ∷ Note 3 ∷ [] };
 
     ghost laws = { exact_laws (λ x y h. Prim.search rules) (λ x y h. Prim.search rules)
         (λ x y h. Prim.search rules) (λ a b h. Prim.search rules) };
+}
+
+impl RunMut for NotesThree {
+    type Needs = ();
 
     fn run(n: &u64, book: &mut RecorderMut<'_, '_, Book>, _needs: &mut ()) -> Result<u64, Fault> {
         book.write(NotebookCall::Note(1))?;
@@ -110,7 +114,7 @@ fn sent(sink: Constraint<NotebookCall, u64>) -> Option<usize> {
 /// got.
 fn note(
     alloc: Global,
-    cache: &mut CacheData<MemoOfMut<NotesThree>>,
+    cache: &mut CacheData<MemoOf<NotesThree>>,
     tally: &mut Tally,
     book: &mut Book,
 ) -> (Result<How, Fault>, bool, Option<usize>) {
@@ -139,7 +143,7 @@ fn book_of(alloc: Global, room: usize, refuses_after: Option<usize>) -> Result<B
 /// Checks a hit whose second write fails, and then the same call again. Before, the entry has age 1.
 fn is_stopped_and_goes_on(
     alloc: Global,
-    cache: &mut CacheData<MemoOfMut<NotesThree>>,
+    cache: &mut CacheData<MemoOf<NotesThree>>,
     tally: &mut Tally,
     book: &mut Book,
 ) {
@@ -170,7 +174,7 @@ fn is_stopped_and_goes_on(
 /// Whether a hit with a failing write reports it, does the writes before it, and resets the age; and whether the same
 /// call then hits, and does all its writes.
 pub(crate) fn a_refused_write_is_done_again(alloc: Global) -> Result<bool, Broken> {
-    let mut cache: CacheData<MemoOfMut<NotesThree>> = CacheData::new(alloc);
+    let mut cache: CacheData<MemoOf<NotesThree>> = CacheData::new(alloc);
     let mut tally = Tally::new();
     let mut first = book_of(alloc, 3, None)?;
     let mut book = book_of(alloc, 4, Some(1))?;

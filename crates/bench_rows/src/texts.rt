@@ -2,7 +2,7 @@
 
 use crate::broken::Broken;
 use crate::calls::{call, gives, gives_text};
-use comemo::{CacheData, How, MemoOf, Top, Track, memoized_with};
+use comemo::{CacheData, How, MemoOf, Top, memoized_with};
 use comemo_guide::greetings::{Greeting, SaysHello, World};
 use comemo_guide::kinds::{IsLong, Selfie, Text};
 use comemo_guide::loader::{Contents, Library, Loader};
@@ -57,9 +57,8 @@ fn the_world_is_big(alloc: Global) -> Result<bool, Broken> {
     let mut cache: CacheData<MemoOf<World>> = CacheData::new(alloc);
     let mut needs = alloc;
     for how in [How::Stored, How::Hit, How::Hit] {
-        let nothing = ().track(alloc);
         let sink = &mut Top::new();
-        let reply = memoized_with(alloc, &mut cache, &mut needs, (), &nothing, sink, true)?;
+        let reply = memoized_with(alloc, &mut cache, &mut needs, (), &(), sink, true)?;
         if !gives_text(reply, "The world is big", how) {
             return Ok(false);
         }

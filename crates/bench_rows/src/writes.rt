@@ -1,13 +1,13 @@
 //! The row of functions that write: an emitter, and counters.
-ghost use Rattle.std.specs.Prelude.{◌≡◌, [], ◌∷◌};
+ghost use Rattle.std.specs.Prelude.{◌≡◌, [], ◌∷◌, ⊤};
 ghost use Rattle.std.proofs.Common.{rules};
-ghost use Rattle.comemo.specs.MeaningLaws.{exact_laws};
+ghost use Rattle.comemo.specs.MeaningLaws.{exact_laws, writing_laws};
 
 use crate::ages::aged;
 use crate::broken::Broken;
 use crate::tally::Tally;
 use comemo::{
-    CacheData, Constraint, Fault, FunctionMut, How, MemoOfMut, RecorderMut, memoized_mut_with,
+    CacheData, Constraint, Fault, Function, How, MemoOf, RecorderMut, RunMut, memoized_mut_with,
 };
 use comemo_samples::{Counter, CounterCall, Emitter, EmitterCall};
 use std::alloc::Global;
@@ -15,21 +15,25 @@ use std::alloc::Global;
 /// Emits a text, and then `1`.
 struct Dump;
 
-impl FunctionMut for Dump {
+impl Function for Dump {
     type Key = String;
 
     type Of = Emitter;
 
     type Out = ();
 
-    type Needs = Global;
-
     ghost use Rattle.bench_rows.specs.Emitting.{EmitsWithOne, emitting_laws};
 
-    ghost means = { λ text _ _ writes. EmitsWithOne text writes };
+    ghost means = { λ _ _ _. ⊤ };
 
-    ghost laws = { emitting_laws (λ x y h. Prim.search rules) (λ x y h. Prim.search rules)
-        (λ x y h. Prim.search rules) };
+    ghost writes = { λ text _ _ W. EmitsWithOne text W };
+
+    ghost laws = { writing_laws (emitting_laws (λ x y h. Prim.search rules)
+        (λ x y h. Prim.search rules) (λ x y h. Prim.search rules)) };
+}
+
+impl RunMut for Dump {
+    type Needs = Global;
 
     fn run(
         text: &String,
@@ -71,7 +75,7 @@ fn recorded(sink: Constraint<EmitterCall, ()>, parts: &[u8]) -> Option<usize> {
 /// Emits texts, each followed by `1`, and checks the results.
 #[derive(Drop)]
 struct Emitting {
-    cache: CacheData<MemoOfMut<Dump>>,
+    cache: CacheData<MemoOf<Dump>>,
     emitter: Emitter,
     tally: Tally,
 }
@@ -149,7 +153,7 @@ impl Emitting {
 
 /// Evicts with a bound, checks the number of entries, and returns their ages.
 fn evict(
-    cache: &mut CacheData<MemoOfMut<Dump>>,
+    cache: &mut CacheData<MemoOf<Dump>>,
     tally: &mut Tally,
     kept: [Option<usize>; 3],
     max_age: usize,
@@ -198,21 +202,25 @@ fn a_hit_emits_again(alloc: Global) -> Result<bool, Broken> {
 /// Adds 3 to a counter.
 struct AddsThree;
 
-impl FunctionMut for AddsThree {
+impl Function for AddsThree {
     type Key = ();
 
     type Of = Counter;
 
     type Out = ();
 
-    type Needs = ();
-
     ghost use Rattle.comemo_samples.specs.declared.counter.CounterCall.TheVariants.{Add};
 
-    ghost means = { λ _ _ _ writes. writes ≡ Add 3 ∷ [] };
+    ghost means = { λ _ _ _. ⊤ };
+
+    ghost writes = { λ _ _ _ W. W ≡ Add 3 ∷ [] };
 
     ghost laws = { exact_laws (λ x y h. Prim.search rules) (λ x y h. Prim.search rules)
         (λ x y h. Prim.search rules) (λ a b h. Prim.search rules) };
+}
+
+impl RunMut for AddsThree {
+    type Needs = ();
 
     fn run(
         _key: &(),
@@ -227,26 +235,30 @@ impl FunctionMut for AddsThree {
 /// Adds 3 to a counter by a call of `AddsThree`, whatever its key.
 struct AddsByAnother;
 
-impl FunctionMut for AddsByAnother {
+impl Function for AddsByAnother {
     type Key = u64;
 
     type Of = Counter;
 
     type Out = ();
 
-    type Needs = CacheData<MemoOfMut<AddsThree>>;
-
     ghost use Rattle.comemo_samples.specs.declared.counter.CounterCall.TheVariants.{Add};
 
-    ghost means = { λ _ _ _ writes. writes ≡ Add 3 ∷ [] };
+    ghost means = { λ _ _ _. ⊤ };
+
+    ghost writes = { λ _ _ _ W. W ≡ Add 3 ∷ [] };
 
     ghost laws = { exact_laws (λ x y h. Prim.search rules) (λ x y h. Prim.search rules)
         (λ x y h. Prim.search rules) (λ a b h. Prim.search rules) };
+}
+
+impl RunMut for AddsByAnother {
+    type Needs = CacheData<MemoOf<AddsThree>>;
 
     fn run(
         _number: &u64,
         counter: &mut RecorderMut<'_, '_, Counter>,
-        kept: &mut CacheData<MemoOfMut<AddsThree>>,
+        kept: &mut CacheData<MemoOf<AddsThree>>,
     ) -> Result<(), Fault> {
         counter.call_mut(kept, &mut (), ())?;
         Ok(())
@@ -264,8 +276,8 @@ fn has_added(sink: Constraint<CounterCall, u64>, is_sure: bool) -> bool {
 /// entry, returns whether there is one afterwards.
 fn add_by_another(
     alloc: Global,
-    cache: &mut CacheData<MemoOfMut<AddsByAnother>>,
-    inner: &mut CacheData<MemoOfMut<AddsThree>>,
+    cache: &mut CacheData<MemoOf<AddsByAnother>>,
+    inner: &mut CacheData<MemoOf<AddsThree>>,
     tally: &mut Tally,
     number: u64,
     was_kept: bool,
@@ -293,7 +305,7 @@ fn add_by_another(
 
 /// Whether a hit repeats the writes of a function that its run called.
 fn a_hit_writes_what_was_written_within(alloc: Global) -> Result<bool, Broken> {
-    let mut cache: CacheData<MemoOfMut<AddsByAnother>> = CacheData::new(alloc);
+    let mut cache: CacheData<MemoOf<AddsByAnother>> = CacheData::new(alloc);
     let mut inner = CacheData::new(alloc);
     let mut tally = Tally::new();
     let zero = add_by_another(alloc, &mut cache, &mut inner, &mut tally, 0, false);

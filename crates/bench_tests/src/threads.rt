@@ -7,7 +7,7 @@ use bench_workers::{
 };
 use comemo::internal::evictors::evict;
 use comemo::internal::{Evict, Evictor, Hashed, register_evictor};
-use comemo::{Cache, CacheData, Hold, How, Memo, MemoOf, Track, memoized};
+use comemo::{Cache, CacheData, Hold, How, Memo, MemoOf, memoized};
 use comemo_guide::double::Double;
 use comemo_guide::shared::warmths;
 use comemo_guide::warmth::Warmth;
@@ -77,8 +77,7 @@ fn an_eviction_reaches_all_keys(rt: HostRuntime) -> Result<(), Fail> {
 /// Whether a call returns the double of 7, and ends as `how`.
 fn doubles_seven<H: Hold<MemoOf<Double>>>(alloc: Global, held: &mut H, how: How) -> bool {
     let nothing = ();
-    let view = nothing.track(alloc);
-    match memoized(alloc, held, 7, &view) {
+    match memoized(alloc, held, 7, &nothing) {
         Ok(reply) => reply.output == 14 && reply.how == how,
         Err(_) => false,
     }
@@ -180,8 +179,7 @@ impl<M: Memo, R: Wait + Drop + Clone> Numbered<M, R> {
 /// Whether a call of `Null` returns its output, and ends as `how`.
 fn gives_nothing<H: Hold<MemoOf<Null>>>(alloc: Global, held: &mut H, how: How) -> bool {
     let nothing = ();
-    let view = nothing.track(alloc);
-    match memoized(alloc, held, (), &view) {
+    match memoized(alloc, held, (), &nothing) {
         Ok(reply) => reply.output == 0 && reply.how == how,
         Err(_) => false,
     }

@@ -3,7 +3,7 @@ ghost use Rattle.std.specs.Prelude.{◌≡◌};
 ghost use Rattle.std.proofs.Common.{rules};
 
 use comemo::internal::Evict;
-use comemo::{Fault, Function, Hold, How, MemoOf, Recorder, Track, memoized};
+use comemo::{Fault, Function, Hold, How, MemoOf, Recorder, Run, memoized};
 use std::alloc::Global;
 
 /// Returns 0.
@@ -16,11 +16,13 @@ impl Function for Null {
 
     type Out = u64;
 
-    type Needs = ();
-
     ghost means = { λ _ _ out. out ≡ 0 };
 
     ghost laws = { Prim.search rules };
+}
+
+impl Run for Null {
+    type Needs = ();
 
     fn run(_key: &(), _of: &mut Recorder<'_, ()>, _needs: &mut ()) -> Result<u64, Fault> {
         Ok(0)
@@ -46,8 +48,7 @@ pub fn evictions_reach_a_cache<H: Hold<MemoOf<Null>>, E: Evict>(
             evictor.evict(1);
         }
         let nothing = ();
-        let view = nothing.track(alloc);
-        let reply = memoized(alloc, cache, (), &view)?;
+        let reply = memoized(alloc, cache, (), &nothing)?;
         if reply.output != 0 || reply.how != how {
             return Ok(false);
         }

@@ -1,5 +1,5 @@
 -- What a memoized function of a key and a tracked value means, and what its run learns.
-use Rattle.std.specs.Prelude.{◌≡◌, Bool, true, false, IsTrue, [], Result, IfOk, OnOk, IfErr, refl}
+use Rattle.std.specs.Prelude.{◌≡◌, Bool, true, false, IsTrue, List, [], Result, IfOk, OnOk, IfErr, refl}
 use Rattle.std.specs.Coded.{Coded, code_by, coded×}
 use Rattle.comemo_base.specs.Answers.{Respects, Agrees}
 use Rattle.comemo_track.specs.Recording.{Recording, recording_code}
@@ -66,3 +66,16 @@ pub record Tells {V C R X : Type 0} (fits : Recording C R → (C → R) → Type
 -- are answers of the whole by g
 abbrev pub OnPart : {C D R Q : Type 0} → (C → D) → (R → Q) → (D → Q) → ((C → R) → Type 0) → Type 0
 OnPart {C} {D} {R} f g m holds = (part : C → R) → ((c : C) → m (f c) ≡ g (part c)) → holds part
+
+-- what a function means, where these outputs and these writes are right: one of each
+abbrev pub writing : {K C R O : Type 0} → (K → (C → R) → O → Type 0) → (K → (C → R) → O → List C → Type 0) → K → (C → R) → O → List C → Type 0
+writing means writes key m output W = writes key m output W × means key m output
+
+-- what is right has no writes
+abbrev pub ReadsAlone : {K C R O : Type 0} → (K → (C → R) → O → List C → Type 0) → Type 0
+ReadsAlone {K} {C} {R} {O} def = (key : K) (m : C → R) (output : O) (W : List C) → def key m output W → W ≡ []
+
+-- none are right, and no others
+pub record WritesNone {K C R O : Type 0} (writes : K → (C → R) → O → List C → Type 0) : Type 0 where
+  pub alone : ReadsAlone writes
+  pub none : (key : K) (m : C → R) (output : O) → writes key m output []

@@ -1,7 +1,9 @@
 -- Laws of what functions mean, which traits require. No reader needs to believe them.
 use Rattle.std.proofs.Common.{◌≡◌, ◌∙◌, Bool, List, [], ◌∷◌, IsTrue, map, refl, sym, ap, subst}
+use Rattle.std.specs.Bool.{⊤}
 use Rattle.comemo_cache.specs.Meaning.{SameWrites}
 use Rattle.comemo_cache.specs.Cache.{MemoLaws}
+use Rattle.comemo.specs.Function.{Laws, writing}
 use Rattle.comemo.specs.FunctionMut.{LawsMut}
 
 -- if there are no writes, there are no equal ones
@@ -42,3 +44,21 @@ module _ {C R K O : Type 0} {eq : C → C → Bool} {same : R → R → Bool} {e
     key_clones = clones;
     answer_clones = answers;
   }
+
+-- the laws of what a function that writes nothing means
+pub reads_laws : {C R K O : Type 0} {eq : C → C → Bool} {same : R → R → Bool} {eqk : K → K → Bool} {key_clone : K → K → Type 0} {cloned : O → O → Type 0} {means : K → (C → R) → O → Type 0} → Laws eq same eqk key_clone cloned means → LawsMut eq same eqk key_clone cloned (writing means (λ _ _ _ W. W ≡ []))
+reads_laws {eq = eq} l = record {
+  outputs = λ key m a b writes respects is right. (right.0, l.outputs key m a b respects is right.1);
+  keys = λ j k m output writes respects is right. (right.0, l.keys j k m output respects is right.1);
+  writes = λ key m output V W respects is right. (none_alike eq V W is right.0, right.1);
+  clones = l.clones;
+}
+
+-- the laws of a function that is what it writes, whatever it gives
+pub writing_laws : {C R K O : Type 0} {eq : C → C → Bool} {same : R → R → Bool} {eqk : K → K → Bool} {key_clone : K → K → Type 0} {cloned : O → O → Type 0} {writes : K → (C → R) → O → List C → Type 0} → LawsMut eq same eqk key_clone cloned writes → LawsMut eq same eqk key_clone cloned (writing (λ _ _ _. ⊤) writes)
+writing_laws l = record {
+  outputs = λ key m a b W respects is right. (l.outputs key m a b W respects is right.0, tt);
+  keys = λ j k m output W respects is right. (l.keys j k m output W respects is right.0, tt);
+  writes = λ key m output V W respects is right. (l.writes key m output V W respects is right.0, tt);
+  clones = l.clones;
+}

@@ -1,14 +1,14 @@
 //! Memoized functions that only read: a function of a key and a tracked value, as one trait and one call. A hit costs
 //! what `begin` costs; any other call costs what `begin`, the run and `Pending::finish` cost.
 ghost use Rattle.std.specs.Prelude.{◌≡◌, ◌⊎◌, [], List, true, false, IsTrue, IfOk, IfErr, OnOk, OnErr, ⊤};
-ghost use Rattle.comemo_cache.specs.Meaning.{Naming, unnamed, invocation, reading};
-ghost use Rattle.comemo.specs.MeaningLaws.{none_alike};
+ghost use Rattle.comemo_cache.specs.Meaning.{Naming, unnamed, invocation};
+ghost use Rattle.comemo.specs.FunctionMut.{LawsMut};
 ghost use Rattle.comemo.specs.Called.{RanAs, IsOfRun, HeldReply};
 ghost use Rattle.comemo_cache.specs.Held.{Held, Leads, Stays};
 ghost use Rattle.comemo.specs.Finish.{BrokeOff};
 ghost use Rattle.comemo_track.specs.Recording.{Recording, Took, Spoiled};
 ghost use Rattle.comemo_track.specs.Sending.{Asks, BreaksOff};
-ghost use Rattle.comemo.specs.Function.{Recorded, Fits, Tells, Laws, SettlesRun};
+ghost use Rattle.comemo.specs.Function.{Recorded, Fits, Tells, ReadsAlone, SettlesRun, writing};
 
 use crate::lent::LentKey;
 use crate::pending::{Begun, Fault, How, Pending, Reply, look_up};
@@ -44,10 +44,10 @@ impl<T: Track> Told for T {
         (BreaksOff (Took T.Call.eq T.Call.touches) Spoiled s.recording t.recording) };
 }
 
-/// A memoized function of a key and a tracked value, which it only reads.
+/// What a memoized function of a key and a tracked value means: which outputs, and which writes, are right.
 ///
-/// Several untracked arguments form one key, as a tuple. An implementation states by `means` what the function is, and
-/// does it in `run`. The checker finds the laws if keys and outputs are plain values.
+/// Several untracked arguments form one key, as a tuple. A `Run` or a `RunMut` does the function; one that calls itself
+/// has neither. The checker finds the laws if keys and outputs are plain values.
 pub trait Function {
     /// The untracked arguments, under which a call is cached.
     type Key: Clone + Eq + Hash;
@@ -58,18 +58,28 @@ pub trait Function {
     /// The output.
     type Out: Clone;
 
-    /// What a run needs besides its arguments: the caches of the functions that it calls, or `()`.
-    ///
-    /// They can't hold the function's own cache, which the checker refuses: a function that calls itself is a
-    /// `Recursive`.
-    type Needs;
-
     // at this key and these answers, this output is right
     ghost means: { Self.Key → (Self.Of.Call → Self.Of.Answer) → Self.Out → Type 0 };
+
+    // and these writes: none, by default
+    ghost writes: { Self.Key → (Self.Of.Call → Self.Of.Answer) → Self.Out
+        → List Self.Of.Call → Type 0 } = { λ _ _ _ W. W ≡ [] };
 
     // which calls are asked at a key and at answers, if the function names them; then no run goes unstored because of
     // another order of its calls
     ghost naming: { Naming Self.Key Self.Of.Call Self.Of.Answer } = { unnamed };
+
+    // clones of keys are equal; the meaning treats equal keys and equal writes alike, and an output like its clone
+    ghost laws: { LawsMut Self.Of.Call.eq Self.Of.Answer.eq Self.Key.eq Self.Key.is_clone
+        Self.Out.is_clone (writing means writes) };
+}
+
+/// How a function that only reads is done.
+pub trait Run: Function {
+    /// What a run needs besides its arguments: the caches of the functions that it calls, or `()`.
+    ///
+    /// They can't hold the function's own cache, which the checker refuses: a function that calls itself has no `Run`.
+    type Needs;
 
     /// Does the function, and asks the value through the recorder.
     ///
@@ -82,15 +92,13 @@ pub trait Function {
     ) -> Result<Self::Out, Fault>
         ensures same { of.new.value ≡ of.old.value }
         ensures right { IfOk result (λ output. (m : Self.Of.Call → Self.Of.Answer)
-            → ⟦<Self::Of as Told>⟧.fits of.new.recording m → means key.now m output) }
-        ensures settled { SettlesRun Self.Key.eq Self.Of.Call.eq Self.Of.Answer.eq naming key.now
+            → ⟦<Self::Of as Told>⟧.fits of.new.recording m → Self.means key.now m output) }
+        ensures none { (m : Self.Of.Call → Self.Of.Answer) (output : Self.Out)
+            → Self.writes key.now m output [] }
+        ensures settled { SettlesRun Self.Key.eq Self.Of.Call.eq Self.Of.Answer.eq Self.naming key.now
             of.old.recording of.new.recording result }
         ensures fault { IfErr result
             (λ fault. fault ≡ Fault.Incomplete → of.new.recording.whole ≡ false) };
-
-    // clones of keys are equal; the meaning treats equal keys alike, and an output like its clone
-    ghost laws: { Laws Self.Of.Call.eq Self.Of.Answer.eq Self.Key.eq Self.Key.is_clone
-        Self.Out.is_clone means };
 }
 
 /// A view of a tracked value that records what it is asked. A run gets one.
@@ -151,6 +159,7 @@ impl<'a, T: Track> Recorder<'a, T> {
         needs: &mut G::Needs,
         key: G::Key,
     ) -> Result<G::Out, Fault>
+        requires { ReadsAlone G.def }
         ensures tells { Tells ⟦<T as Told>⟧.fits self.old self.new result
             (λ output m. G.def key m output []) }
         ensures reply { IfOk result (λ output. (reply : Reply G.Out) × (reply.output ≡ output)
@@ -172,6 +181,7 @@ impl<'a, T: Track> Recorder<'a, T> {
         key: G::Key,
         enabled: bool,
     ) -> Result<Reply<G::Out>, Fault>
+        requires { ReadsAlone G.def }
         ensures tells { Tells ⟦<T as Told>⟧.fits self.old self.new result
             (λ reply m. G.def key m reply.output []) }
         ensures reply { IfOk result (λ reply. HeldReply ⟦<G as Meant>⟧.meaning
@@ -181,7 +191,7 @@ impl<'a, T: Track> Recorder<'a, T> {
         ensures err { OnErr result (Stays (H.entries cache.old) (H.entries cache.new)
             × ⟦<T as Told>⟧.broke_off self.old self.new) }
     {
-        let reply = memoized_with(
+        let reply = memoized_view(
             self.alloc,
             cache,
             needs,
@@ -208,15 +218,14 @@ impl<F: Function> Memo for MemoOf<F> {
 
     type Out = F::Out;
 
-    ghost def = { reading F.means };
+    ghost def = { writing F.means F.writes };
 
     ghost naming = { F.naming };
 
     ghost laws = { record {
-      outputs = λ key m a b _ r c right. (right.0, F.laws.outputs key m a b r c right.1);
-      keys = λ j k m output _ r e right. (right.0, F.laws.keys j k m output r e right.1);
-      writes = λ key m output V W _ same right.
-          (none_alike F.Of.Call.eq V W same right.0, right.1);
+      outputs = F.laws.outputs;
+      keys = F.laws.keys;
+      writes = F.laws.writes;
       key_clones = F.laws.clones;
       answer_clones = F.Of.clones;
     } };
@@ -226,15 +235,14 @@ impl<F: Function> Memo for MemoOf<F> {
 /// user's own type.
 ///
 /// The meaning is that of its `Memo`, which names no lifetime, so its cache outlives the values. The `MemoOf` of each
-/// `Function` is one already.
+/// `Run` is one already.
 pub trait FunctionOf<T: Track>: Memo<Call = T::Call, Answer = T::Answer> {
     /// What a run needs besides its arguments: the caches of the functions that it calls, or `()`.
     ///
-    /// They can't hold the function's own cache, which the checker refuses: a function that calls itself is a
-    /// `Recursive`.
+    /// They can't hold the function's own cache, which the checker refuses: a function that calls itself has no run.
     type Needs;
 
-    /// Does the function, under the same terms as `Function::run`.
+    /// Does the function, under the same terms as `Run::run`.
     fn run(
         key: &Self::Key,
         of: &mut Recorder<'_, T>,
@@ -247,17 +255,10 @@ pub trait FunctionOf<T: Track>: Memo<Call = T::Call, Answer = T::Answer> {
             of.old.recording of.new.recording result }
         ensures fault { IfErr result
             (λ fault. fault ≡ Fault.Incomplete → of.new.recording.whole ≡ false) };
-
-    // a run only reads: the meaning allows no writes
-    ghost reads: { (key : Self.Key) (m : T.Call → T.Answer)
-        (output : Self.Out) (writes : List T.Call)
-        → Self.Memo.def key m output writes → writes ≡ [] };
 }
 
-impl<F: Function> FunctionOf<F::Of> for MemoOf<F> {
+impl<F: Run> FunctionOf<F::Of> for MemoOf<F> {
     type Needs = F::Needs;
-
-    ghost reads = { λ key m output writes right. right.0 };
 
     fn run(
         key: &F::Key,
@@ -282,10 +283,42 @@ pub fn memoized_with<
     cache: &mut H,
     needs: &mut M::Needs,
     key: M::Key,
+    of: &T,
+    sink: &mut S,
+    enabled: bool,
+) -> Result<Reply<M::Out>, Fault>
+    requires { ReadsAlone M.def }
+    ensures right { IfOk result (λ reply. M.def key (T.answers of.now) reply.output []) }
+    ensures reply { IfOk result (λ reply. HeldReply ⟦<M as Meant>⟧.meaning
+        (invocation key (T.answers of.now) enabled) (H.entries cache.old)
+        (S.took sink.old sink.new) reply (H.entries cache.new)) }
+    ensures fault { IfErr result
+        (λ fault. (fault ≡ Fault.Memory) ⊎ Held (H.entries cache.old) (λ es.
+        IsOfRun ⟦<M as Meant>⟧.meaning (invocation key (T.answers of.now) enabled) es
+        (S.spoils sink.old sink.new))) }
+    ensures err { OnErr result (Stays (H.entries cache.old) (H.entries cache.new)
+        × BrokeOff T.Answer.eq (T.answers of.now)
+        (⟦<S as Breaking>⟧.breaks_off sink.old sink.new)) }
+{
+    memoized_view(alloc, cache, needs, key, &of.track(alloc), sink, enabled)
+}
+
+/// Calls a memoized function of a value that is viewed: `memoized_with`, which says what stands.
+pub(crate) fn memoized_view<
+    M: FunctionOf<T>,
+    H: Hold<M>,
+    T: Track,
+    S: Sink<Call = T::Call, Answer = T::Answer>,
+>(
+    alloc: Global,
+    cache: &mut H,
+    needs: &mut M::Needs,
+    key: M::Key,
     of: &Tracked<'_, T>,
     sink: &mut S,
     enabled: bool,
 ) -> Result<Reply<M::Out>, Fault>
+    requires { ReadsAlone M.def }
     ensures right { IfOk result (λ reply. M.def key (T.answers of.now) reply.output []) }
     ensures reply { IfOk result (λ reply. HeldReply ⟦<M as Meant>⟧.meaning
         (invocation key (T.answers of.now) enabled) (H.entries cache.old)
@@ -357,8 +390,9 @@ pub fn memoized<M: FunctionOf<T, Needs = ()>, H: Hold<M>, T: Track>(
     alloc: Global,
     cache: &mut H,
     key: M::Key,
-    of: &Tracked<'_, T>,
+    of: &T,
 ) -> Result<Reply<M::Out>, Fault>
+    requires { ReadsAlone M.def }
     ensures right { IfOk result (λ reply. M.def key (T.answers of.now) reply.output []) }
     ensures reply { IfOk result (λ reply. HeldReply ⟦<M as Meant>⟧.meaning
         (invocation key (T.answers of.now) true) (H.entries cache.old)

@@ -6,14 +6,14 @@ ghost use Rattle.comemo_cache.specs.Meaning.{invocation};
 ghost use Rattle.comemo_cache.specs.Held.{Leads, Stays};
 ghost use Rattle.comemo.specs.Begin.{Reaches};
 ghost use Rattle.comemo.specs.Finish.{BrokeOff};
-ghost use Rattle.comemo.specs.Function.{SettlesAs, SettlesRun};
-ghost use Rattle.comemo.specs.FunctionMut.{Lent, lent, HasBegun, NoneTouches, Goes, TellsMut, TellsWrites, LawsMut, WasStopped, IsFailed, FailsBy};
+ghost use Rattle.comemo.specs.Function.{ReadsAlone, SettlesAs, SettlesRun, writing};
+ghost use Rattle.comemo.specs.FunctionMut.{Lent, lent, HasBegun, NoneTouches, Goes, TellsMut, TellsWrites, WasStopped, IsFailed, FailsBy};
 ghost use Rattle.comemo_base.specs.Answers.{Agrees};
 ghost use Rattle.comemo_track.specs.Recording.{Recording, Took, Spoiled, MarkedLate};
 ghost use Rattle.comemo_track.specs.Writing.{Done};
 ghost use Rattle.comemo_track.specs.Sending.{Asks, BreaksOff, SpoiledAfter, TookAs};
 
-use crate::function::{FunctionOf, Told, memoized_with};
+use crate::function::{Function, FunctionOf, MemoOf, Told, memoized_view};
 use crate::lent::LentKeyMut;
 use crate::pending::{Begun, Fault, How, Reply, begin};
 use comemo_cache::cache::{Meant, Memo};
@@ -21,8 +21,6 @@ use comemo_cache::hold::Hold;
 use comemo_track::constraint::Constraint;
 use comemo_track::track::{Breaking, Call, Sink, Top, Track, Written};
 use std::alloc::Global;
-use std::hash::Hash;
-use std::marker::PhantomData;
 
 /// What a recorder that writes knows of its recording, for contracts, as `⟦<T as ToldMut>⟧.agrees`. There is nothing to
 /// implement.
@@ -49,26 +47,12 @@ impl<T: Track> ToldMut for T {
     ghost took = { Took T.Call.eq T.Call.touches };
 }
 
-/// A memoized function of a key and a tracked value, which it reads and writes.
+/// How a memoized function that reads and writes is done: a `Function` whose `writes` says which writes are right.
 ///
-/// It is written like a `Function`. But `means` also states which writes are right, and by the laws it treats equal
-/// writes alike.
-pub trait FunctionMut {
-    /// The untracked arguments, under which a call is cached.
-    type Key: Clone + Eq + Hash;
-
-    /// The tracked value that a run asks and changes.
-    type Of: Track;
-
-    /// The output.
-    type Out: Clone;
-
+/// How a function that also writes is done. It states by `writes` which writes are right.
+pub trait RunMut: Function {
     /// What a run needs besides its arguments: the caches of the functions that it calls, or `()`.
     type Needs;
-
-    // at this key and these answers, this output and these writes are right
-    ghost means: { Self.Key → (Self.Of.Call → Self.Of.Answer) → Self.Out
-        → List Self.Of.Call → Type 0 };
 
     /// Does the function, and asks the value and writes to it through the recorder.
     ///
@@ -86,13 +70,11 @@ pub trait FunctionMut {
             (lent of.old.value of.old.recording) (lent of.new.value of.new.recording) }
         ensures right { IfOk result (λ output. (m : Self.Of.Call → Self.Of.Answer)
             → ⟦<Self::Of as Told>⟧.fits of.new.recording.now m
-            → means key.now m output of.new.recording.now.writes) }
+            → writing Self.means Self.writes key.now m output of.new.recording.now.writes) }
+        ensures settled { SettlesRun Self.Key.eq Self.Of.Call.eq Self.Of.Answer.eq Self.naming key.now
+            of.old.recording.now of.new.recording.now result }
         ensures fault { IfErr result
             (λ fault. fault ≡ Fault.Incomplete → of.new.recording.now.whole ≡ false) };
-
-    // clones of keys are equal; the meaning treats equal keys and equal writes alike, and an output like its clone
-    ghost laws: { LawsMut Self.Of.Call.eq Self.Of.Answer.eq Self.Key.eq Self.Key.is_clone
-        Self.Out.is_clone means };
 }
 
 /// A tracked value that is lent to a run, and the recording of what the run asks and writes. A run gets one.
@@ -175,6 +157,7 @@ impl<'a, 'b, T: Track> RecorderMut<'a, 'b, T> {
         needs: &mut G::Needs,
         key: G::Key,
     ) -> Result<G::Out, Fault>
+        requires reads { ReadsAlone G.def }
         requires agrees { ⟦<T as ToldMut>⟧.agrees (lent self.old.value self.old.recording) }
         ensures agrees { ⟦<T as ToldMut>⟧.agrees (lent self.new.value self.new.recording) }
         ensures tells { TellsMut ⟦<T as ToldMut>⟧.goes ⟦<T as Told>⟧.fits
@@ -193,7 +176,7 @@ impl<'a, 'b, T: Track> RecorderMut<'a, 'b, T> {
             (BreaksOff (Took T.Call.eq T.Call.touches) Spoiled self.old.recording.now self.new.recording.now)) }
     {
         let view = self.value.track(self.alloc);
-        let reply = memoized_with(self.alloc, cache, needs, key, &view, self.recording, true)?;
+        let reply = memoized_view(self.alloc, cache, needs, key, &view, self.recording, true)?;
         // For the proof: its pairs are reads, and its writes are writes.
         self.recording.has_reads_and_writes();
         Ok(reply.output)
@@ -243,41 +226,16 @@ impl<'a, 'b, T: Track> RecorderMut<'a, 'b, T> {
     }
 }
 
-/// The `Memo` of a `FunctionMut`: `CacheData<MemoOfMut<F>>` is the cache of `F`. It has no values.
-pub struct MemoOfMut<F> {
-    function: PhantomData<F>,
-}
-
-impl<F: FunctionMut> Memo for MemoOfMut<F> {
-    type Call = <F::Of as Track>::Call;
-
-    type Key = F::Key;
-
-    type Answer = <F::Of as Track>::Answer;
-
-    type Out = F::Out;
-
-    ghost def = { F.means };
-
-    ghost laws = { record {
-      outputs = F.laws.outputs;
-      keys = F.laws.keys;
-      writes = F.laws.writes;
-      key_clones = F.laws.clones;
-      answer_clones = F.Of.clones;
-    } };
-}
-
 /// A memoized function of a key and `T`, which it reads and writes. `T` may borrow: several tracked values as one, by
 /// `BothMut` or `ReadAndWrite`, or the user's own type.
 ///
-/// The meaning is that of its `Memo`, which names no lifetime, so its cache outlives the values. The `MemoOfMut` of
-/// each `FunctionMut` is one already.
+/// The meaning is that of its `Memo`, which names no lifetime, so its cache outlives the values. The `MemoOf` of each
+/// `RunMut` is one already.
 pub trait FunctionMutOf<T: Track>: Memo<Call = T::Call, Answer = T::Answer> {
     /// What a run needs besides its arguments: the caches of the functions that it calls, or `()`.
     type Needs;
 
-    /// Does the function, under the same terms as `FunctionMut::run`.
+    /// Does the function, under the same terms as `RunMut::run`.
     fn run(
         key: &Self::Key,
         of: &mut RecorderMut<'_, '_, T>,
@@ -297,7 +255,7 @@ pub trait FunctionMutOf<T: Track>: Memo<Call = T::Call, Answer = T::Answer> {
             (λ fault. fault ≡ Fault.Incomplete → of.new.recording.now.whole ≡ false) };
 }
 
-impl<F: FunctionMut> FunctionMutOf<F::Of> for MemoOfMut<F> {
+impl<F: RunMut> FunctionMutOf<F::Of> for MemoOf<F> {
     type Needs = F::Needs;
 
     fn run(

@@ -51,10 +51,6 @@ pub use comemo_track::{
     Tracked,
 };
 pub use explanation::explain;
-pub use function::{Function, FunctionOf, MemoOf, Recorder, memoized, memoized_with};
-pub use function_mut::{
-    FunctionMut, FunctionMutOf, MemoOfMut, RecorderMut, memoized_mut, memoized_mut_with,
-};
+pub use function::{Function, FunctionOf, MemoOf, Recorder, Run, memoized, memoized_with};
+pub use function_mut::{FunctionMutOf, RecorderMut, RunMut, memoized_mut, memoized_mut_with};
 pub use pending::{Begun, Fault, How, Reply, begin};
-pub use recursive::{MemoOfRecursive, Recursive};
-pub use recursive_mut::{MemoOfRecursiveMut, RecursiveMut};

@@ -5,9 +5,9 @@ ghost use Rattle.comemo_cache.specs.Meaning.{invocation};
 ghost use Rattle.comemo_cache.specs.Held.{Stays};
 ghost use Rattle.comemo_track.specs.Sending.{Asks};
 ghost use Rattle.comemo_track.specs.Mapped.{Through};
-ghost use Rattle.comemo.specs.Function.{Tells, OnPart};
+ghost use Rattle.comemo.specs.Function.{Tells, OnPart, ReadsAlone};
 
-use crate::function::{FunctionOf, Recorder, Told, memoized_with};
+use crate::function::{FunctionOf, Recorder, Told, memoized_view};
 use crate::pending::{Fault, Reply};
 use comemo_cache::cache::Meant;
 use comemo_cache::hold::Hold;
@@ -32,7 +32,8 @@ impl<'a, T: Track> Recorder<'a, T> {
         of: &Tracked<'_, A>,
         map: P,
     ) -> Result<G::Out, Fault>
-        requires { (c : A.Call)
+        requires reads { ReadsAlone G.def }
+        requires through { (c : A.Call)
             → T.answers self.old.value (P.maps map c) ≡ P.maps_answer map (A.answers of.now c) }
         ensures tells { Tells ⟦<T as Told>⟧.fits self.old self.new result
             (λ output m. OnPart (P.maps map) (P.maps_answer map) m
@@ -47,7 +48,7 @@ impl<'a, T: Track> Recorder<'a, T> {
     {
         let alloc = self.alloc;
         let mut sink = MappedSink::new(&mut self.recording, map);
-        let reply = memoized_with(alloc, cache, needs, key, of, &mut sink, true)?;
+        let reply = memoized_view(alloc, cache, needs, key, of, &mut sink, true)?;
         Ok(reply.output)
     }
 }
@@ -105,6 +106,7 @@ impl<'a, 'b, A: Track, B: Track> Recorder<'a, Both<'b, A, B>> {
         needs: &mut G::Needs,
         key: G::Key,
     ) -> Result<G::Out, Fault>
+        requires { ReadsAlone G.def }
         ensures tells { Tells ⟦<Both<'b, A, B> as Told>⟧.fits self.old self.new result
             (λ output m. OnPart first_call first_answer m (λ part. G.def key part output [])) }
         ensures reply { IfOk result (λ output. (reply : Reply G.Out) × (reply.output ≡ output)
@@ -127,6 +129,7 @@ impl<'a, 'b, A: Track, B: Track> Recorder<'a, Both<'b, A, B>> {
         needs: &mut G::Needs,
         key: G::Key,
     ) -> Result<G::Out, Fault>
+        requires { ReadsAlone G.def }
         ensures tells { Tells ⟦<Both<'b, A, B> as Told>⟧.fits self.old self.new result
             (λ output m. OnPart second_call second_answer m (λ part. G.def key part output [])) }
         ensures reply { IfOk result (λ output. (reply : Reply G.Out) × (reply.output ≡ output)

@@ -3,13 +3,13 @@ ghost use Rattle.std.specs.Prelude.{◌≡◌, [], ◌∷◌, true, false, IsTru
 ghost use Rattle.comemo.specs.Called.{HeldReply, HeldReplyMut};
 ghost use Rattle.comemo_cache.specs.Meaning.{invocation};
 ghost use Rattle.comemo_cache.specs.Held.{Leads, Stays};
-ghost use Rattle.comemo.specs.Function.{OnPart};
+ghost use Rattle.comemo.specs.Function.{OnPart, ReadsAlone};
 ghost use Rattle.comemo.specs.FunctionMut.{lent, TellsMut, TellsWrites, OnPartWrites, IsFailed};
 ghost use Rattle.comemo_track.specs.Mapped.{Through, mapped_pairs};
 ghost use Rattle.comemo_track.specs.Recording.{Spoiled, MarkedLate};
 ghost use Rattle.comemo_track.specs.Sending.{Asks, BreaksOff, SpoiledAfter, TookAs};
 
-use crate::function::{FunctionOf, Told, memoized_with};
+use crate::function::{FunctionOf, Told, memoized_view};
 use crate::function_mut::{FunctionMutOf, RecorderMut, ToldMut, memoized_mut_with};
 use crate::pending::{Fault, Reply};
 use comemo_cache::cache::Meant;
@@ -111,6 +111,7 @@ impl<'a, 'b, 'c, A: Track, B: Track> RecorderMut<'a, 'b, ReadAndWrite<'c, A, B>>
         needs: &mut G::Needs,
         key: G::Key,
     ) -> Result<G::Out, Fault>
+        requires reads { ReadsAlone G.def }
         requires agrees { ⟦<ReadAndWrite<'c, A, B> as ToldMut>⟧.agrees
             (lent self.old.value self.old.recording) }
         ensures agrees { ⟦<ReadAndWrite<'c, A, B> as ToldMut>⟧.agrees
@@ -135,7 +136,7 @@ impl<'a, 'b, 'c, A: Track, B: Track> RecorderMut<'a, 'b, ReadAndWrite<'c, A, B>>
     {
         let view = self.value.first.fork(self.alloc);
         let mut sink = MappedSink::new(&mut *self.recording, First::new());
-        let reply = memoized_with(self.alloc, cache, needs, key, &view, &mut sink, true)?;
+        let reply = memoized_view(self.alloc, cache, needs, key, &view, &mut sink, true)?;
         drop(sink);
         // For the proof: its pairs are reads, and its writes are writes.
         self.recording.has_reads_and_writes();

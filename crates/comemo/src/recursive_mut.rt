@@ -4,7 +4,7 @@ ghost use Rattle.std.specs.Prelude.{◌≡◌, ◌↔◌, [], true, false, List,
 ghost use Rattle.comemo.specs.Called.{HeldReply};
 ghost use Rattle.comemo.specs.Begun.{OnFault};
 ghost use Rattle.comemo.specs.Finish.{BreaksOffRun, BrokeOff};
-ghost use Rattle.comemo.specs.FunctionMut.{Lent, LawsMut, TellsWrites, WasStopped, lent};
+ghost use Rattle.comemo.specs.FunctionMut.{Lent, TellsWrites, WasStopped, lent};
 ghost use Rattle.comemo.specs.Recursive.{OnCallBegun, FinishedAs};
 ghost use Rattle.comemo.specs.RecursiveMut.{IsEmpty, Within, StartsMut};
 ghost use Rattle.comemo_cache.specs.Meaning.{IsNamedRun, invocation, run};
@@ -20,57 +20,7 @@ use comemo_cache::cache::{Meant, Memo};
 use comemo_cache::hold::Hold;
 use comemo_track::constraint::Constraint;
 use comemo_track::track::{Call, Track, Written};
-use std::hash::Hash;
-use std::marker::PhantomData;
 use std::mem;
-
-/// A memoized function that calls itself through its own cache, and writes: its meaning, of a key and a tracked value.
-///
-/// It is a `FunctionMut` without a run. The run is an ordinary function of the user's, between `RecorderMut::begin` and
-/// `RecorderMut::finish`.
-pub trait RecursiveMut {
-    /// The untracked arguments, under which a call is cached.
-    type Key: Clone + Eq + Hash;
-
-    /// The tracked value that a run asks and changes.
-    type Of: Track;
-
-    /// The output.
-    type Out: Clone;
-
-    // at this key and these answers, this output and these writes are right
-    ghost means: { Self.Key → (Self.Of.Call → Self.Of.Answer) → Self.Out
-        → List Self.Of.Call → Type 0 };
-
-    // clones of keys are equal; the meaning treats equal keys and equal writes alike, and an output like its clone
-    ghost laws: { LawsMut Self.Of.Call.eq Self.Of.Answer.eq Self.Key.eq Self.Key.is_clone
-        Self.Out.is_clone means };
-}
-
-/// The `Memo` of a `RecursiveMut`: `CacheData<MemoOfRecursiveMut<F>>` is the cache of `F`. It has no values.
-pub struct MemoOfRecursiveMut<F> {
-    function: PhantomData<F>,
-}
-
-impl<F: RecursiveMut> Memo for MemoOfRecursiveMut<F> {
-    type Call = <F::Of as Track>::Call;
-
-    type Key = F::Key;
-
-    type Answer = <F::Of as Track>::Answer;
-
-    type Out = F::Out;
-
-    ghost def = { F.means };
-
-    ghost laws = { record {
-      outputs = F.laws.outputs;
-      keys = F.laws.keys;
-      writes = F.laws.writes;
-      key_clones = F.laws.clones;
-      answer_clones = F.Of.clones;
-    } };
-}
 
 /// A nested run of a function that writes: what is set aside until it is finished. It can't be dropped: a run that
 /// failed is finished too, with its fault.

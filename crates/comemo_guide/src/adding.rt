@@ -3,28 +3,30 @@ ghost use Rattle.std.specs.Prelude.{◌≡◌, ◌+◌, ◌%◌, ◌^◌, [], �
 ghost use Rattle.std.proofs.Common.{rules};
 ghost use Rattle.comemo.specs.MeaningLaws.{exact_laws};
 
-use comemo::{CacheData, Fault, FunctionMut, MemoOfMut, RecorderMut};
+use comemo::{CacheData, Fault, Function, MemoOf, RecorderMut, RunMut};
 use comemo_samples::{Counter, CounterCall};
 
 /// Adds a number to a counter, and then 1. Returns their sum, which wraps at 64 bits.
 pub struct Adds;
 
-impl FunctionMut for Adds {
+impl Function for Adds {
     type Key = u64;
 
     type Of = Counter;
 
     type Out = u64;
 
-    type Needs = ();
-
     ghost use Rattle.comemo_samples.specs.declared.counter.CounterCall.TheVariants.{Add};
 
-    ghost means = { λ n _ out writes. (out ≡ (n + 1) % 2 ^ 64)
-        × (writes ≡ Add n ∷ Add 1 ∷ []) };
+    ghost means = { λ n _ out. out ≡ (n + 1) % 2 ^ 64 };
 
-    ghost laws = { exact_laws (λ x y h. Prim.search rules) (λ x y h. Prim.search rules)
-        (λ x y h. Prim.search rules) (λ a b h. Prim.search rules) };
+    ghost writes = { λ n _ _ W. W ≡ Add n ∷ Add 1 ∷ [] };
+
+    ghost laws = { Prim.search rules };
+}
+
+impl RunMut for Adds {
+    type Needs = ();
 
     fn run(
         n: &u64,
@@ -40,27 +42,30 @@ impl FunctionMut for Adds {
 /// Calls `Adds` twice: with a number, and with the first result. Returns the second result.
 pub struct AddsTwice;
 
-impl FunctionMut for AddsTwice {
+impl Function for AddsTwice {
     type Key = u64;
 
     type Of = Counter;
 
     type Out = u64;
 
-    type Needs = CacheData<MemoOfMut<Adds>>;
-
     ghost use Rattle.comemo_samples.specs.declared.counter.CounterCall.TheVariants.{Add};
 
-    ghost means = { λ n _ out writes. (out ≡ (n + 2) % 2 ^ 64)
-        × (writes ≡ Add n ∷ Add 1 ∷ Add ((n + 1) % 2 ^ 64) ∷ Add 1 ∷ []) };
+    ghost means = { λ n _ out. out ≡ (n + 2) % 2 ^ 64 };
+
+    ghost writes = { λ n _ _ W. W ≡ Add n ∷ Add 1 ∷ Add ((n + 1) % 2 ^ 64) ∷ Add 1 ∷ [] };
 
     ghost laws = { exact_laws (λ x y h. Prim.search rules) (λ x y h. Prim.search rules)
         (λ x y h. Prim.search rules) (λ a b h. Prim.search rules) };
+}
+
+impl RunMut for AddsTwice {
+    type Needs = CacheData<MemoOf<Adds>>;
 
     fn run(
         n: &u64,
         counter: &mut RecorderMut<'_, '_, Counter>,
-        kept: &mut CacheData<MemoOfMut<Adds>>,
+        kept: &mut CacheData<MemoOf<Adds>>,
     ) -> Result<u64, Fault> {
         let once = counter.call_mut(kept, &mut (), *n)?;
         let twice = counter.call_mut(kept, &mut (), once)?;

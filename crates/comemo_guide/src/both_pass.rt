@@ -5,7 +5,7 @@ ghost use Rattle.comemo.specs.Function.{Tells};
 ghost use Rattle.comemo_samples.specs.declared.town.TownCall.TheVariants.{People, Degrees};
 
 use comemo::internal::Told;
-use comemo::{Fault, Function, Recorder};
+use comemo::{Fault, Function, Recorder, Run};
 use comemo_samples::{Town, TownCall};
 
 /// The people and the degrees of a town.
@@ -30,11 +30,13 @@ impl Function for BothPass {
 
     type Out = bool;
 
-    type Needs = ();
-
     ghost means = { λ n m out. out ≡ nat_lt n (min (m People) (m Degrees)) };
 
     ghost laws = { Prim.search rules };
+}
+
+impl Run for BothPass {
+    type Needs = ();
 
     fn run(n: &u64, town: &mut Recorder<'_, Town>, _needs: &mut ()) -> Result<bool, Fault> {
         let (people, degrees) = people_and_degrees(town)?;

@@ -115,8 +115,6 @@ impl Memo for IsInChain {
 impl<'a> FunctionOf<Chain<'a>> for IsInChain {
     type Needs = ();
 
-    ghost reads = { λ n m out writes right. right.0 };
-
     fn run(n: &u32, chain: &mut Recorder<'_, Chain<'a>>, _needs: &mut ()) -> Result<bool, Fault> {
         let is = chain.ask(ChainCall::Contains(*n))?;
         Ok(is)

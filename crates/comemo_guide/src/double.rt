@@ -2,7 +2,7 @@
 ghost use Rattle.std.specs.Prelude.{◌≡◌, ◌+◌, ◌%◌, ◌^◌};
 ghost use Rattle.std.proofs.Common.{rules};
 
-use comemo::{Fault, Function, Recorder};
+use comemo::{Fault, Function, Recorder, Run};
 
 /// Twice a number, which wraps at 32 bits. Asks nothing. Its run does not allocate.
 pub struct Double;
@@ -14,11 +14,13 @@ impl Function for Double {
 
     type Out = u32;
 
-    type Needs = ();
-
     ghost means = { λ n _ out. out ≡ (n + n) % 2 ^ 32 };
 
     ghost laws = { Prim.search rules };
+}
+
+impl Run for Double {
+    type Needs = ();
 
     fn run(n: &u32, _of: &mut Recorder<'_, ()>, _needs: &mut ()) -> Result<u32, Fault> {
         Ok(n.wrapping_add(*n))

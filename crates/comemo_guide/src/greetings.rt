@@ -2,7 +2,7 @@
 ghost use Rattle.std.specs.Prelude.{◌≡◌, codes, string_bytes};
 ghost use Rattle.std.proofs.Common.{rules};
 
-use comemo::{Fault, Function, Recorder, Track};
+use comemo::{Fault, Function, Recorder, Run, Track};
 use std::alloc::{AllocError, Global};
 
 /// What the world is: a constant text, which each run allocates. Asks nothing, and needs an allocator.
@@ -15,11 +15,13 @@ impl Function for World {
 
     type Out = String;
 
-    type Needs = Global;
-
     ghost means = { λ _ _ out. string_bytes out ≡ codes "The world is big" };
 
     ghost laws = { Prim.search rules };
+}
+
+impl Run for World {
+    type Needs = Global;
 
     fn run(_key: &(), _of: &mut Recorder<'_, ()>, alloc: &mut Global) -> Result<String, Fault> {
         Ok(String::from_str(*alloc, "The world is big")?)
@@ -61,11 +63,13 @@ impl Function for SaysHello {
 
     type Out = bool;
 
-    type Needs = ();
-
     ghost means = { λ _ m out. out ≡ m tt };
 
     ghost laws = { Prim.search rules };
+}
+
+impl Run for SaysHello {
+    type Needs = ();
 
     fn run(_key: &(), text: &mut Recorder<'_, Greeting>, _needs: &mut ()) -> Result<bool, Fault> {
         let is = text.ask(())?;

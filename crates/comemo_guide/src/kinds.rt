@@ -4,7 +4,7 @@ ghost use Rattle.std.proofs.Common.{rules};
 ghost use Rattle.comemo_guide.specs.Kinds.{text_in, length_in};
 ghost use Rattle.comemo_guide.specs.declared.kinds.TextCall.TheVariants.{Itself, LengthPlus};
 
-use comemo::{Call, Fault, Function, Recorder, Track};
+use comemo::{Call, Fault, Function, Recorder, Run, Track};
 use std::alloc::AllocError;
 
 /// What can be asked of a text.
@@ -85,11 +85,13 @@ impl Function for Selfie {
 
     type Out = String;
 
-    type Needs = ();
-
     ghost means = { λ _ m out. string_bytes out ≡ text_in (m Itself) };
 
     ghost laws = { Prim.search rules };
+}
+
+impl Run for Selfie {
+    type Needs = ();
 
     fn run(_key: &(), text: &mut Recorder<'_, Text>, _needs: &mut ()) -> Result<String, Fault> {
         // The answer to this question is a text, so the other branch does not occur.
@@ -110,11 +112,13 @@ impl Function for IsLong {
 
     type Out = bool;
 
-    type Needs = ();
-
     ghost means = { λ _ m out. out ≡ nat_lt 10 (length_in (m (LengthPlus 5))) };
 
     ghost laws = { Prim.search rules };
+}
+
+impl Run for IsLong {
+    type Needs = ();
 
     fn run(_key: &(), text: &mut Recorder<'_, Text>, _needs: &mut ()) -> Result<bool, Fault> {
         // The answer to this question is a length, so the other branch does not occur.

@@ -1,11 +1,11 @@
 //! Functions that read a counter and write to it. A run that reads what it wrote is late.
-ghost use Rattle.std.specs.Prelude.{◌≡◌, [], ◌∷◌};
+ghost use Rattle.std.specs.Prelude.{◌≡◌, [], ◌∷◌, ⊤};
 ghost use Rattle.std.proofs.Common.{rules};
 ghost use Rattle.comemo.specs.MeaningLaws.{exact_laws};
 
 use comemo::{
-    BothMut, Fault, FunctionMut, FunctionMutOf, Hold, Memo, MemoOfMut, MultiAnswer, MultiCall,
-    RecorderMut,
+    BothMut, Fault, Function, FunctionMutOf, Hold, Memo, MemoOf, MultiAnswer, MultiCall,
+    RecorderMut, RunMut,
 };
 use comemo_samples::{Counter, CounterCall};
 use std::marker::PhantomData;
@@ -13,21 +13,25 @@ use std::marker::PhantomData;
 /// Returns a counter's number, and then adds to it.
 pub struct Bump;
 
-impl FunctionMut for Bump {
+impl Function for Bump {
     type Key = u64;
 
     type Of = Counter;
 
     type Out = u64;
 
-    type Needs = ();
-
     ghost use Rattle.comemo_samples.specs.declared.counter.CounterCall.TheVariants.{Get, Add};
 
-    ghost means = { λ k m out writes. (out ≡ m Get) × (writes ≡ Add k ∷ []) };
+    ghost means = { λ _ m out. out ≡ m Get };
+
+    ghost writes = { λ k _ _ W. W ≡ Add k ∷ [] };
 
     ghost laws = { exact_laws (λ x y h. Prim.search rules) (λ x y h. Prim.search rules)
         (λ x y h. Prim.search rules) (λ a b h. Prim.search rules) };
+}
+
+impl RunMut for Bump {
+    type Needs = ();
 
     fn run(
         k: &u64,
@@ -43,21 +47,25 @@ impl FunctionMut for Bump {
 /// Adds to a counter, and then returns its number.
 pub struct Readback;
 
-impl FunctionMut for Readback {
+impl Function for Readback {
     type Key = u64;
 
     type Of = Counter;
 
     type Out = u64;
 
-    type Needs = ();
-
     ghost use Rattle.comemo_samples.specs.declared.counter.CounterCall.TheVariants.{Add};
 
-    ghost means = { λ k _ _ writes. writes ≡ Add k ∷ [] };
+    ghost means = { λ _ _ _. ⊤ };
+
+    ghost writes = { λ k _ _ W. W ≡ Add k ∷ [] };
 
     ghost laws = { exact_laws (λ x y h. Prim.search rules) (λ x y h. Prim.search rules)
         (λ x y h. Prim.search rules) (λ a b h. Prim.search rules) };
+}
+
+impl RunMut for Readback {
+    type Needs = ();
 
     fn run(
         k: &u64,
@@ -75,21 +83,25 @@ pub struct Twice<H> {
     held: PhantomData<H>,
 }
 
-impl<H: Hold<MemoOfMut<Bump>>> FunctionMut for Twice<H> {
+impl<H: Hold<MemoOf<Bump>>> Function for Twice<H> {
     type Key = u64;
 
     type Of = Counter;
 
     type Out = u64;
 
-    type Needs = H;
-
     ghost use Rattle.comemo_samples.specs.declared.counter.CounterCall.TheVariants.{Add};
 
-    ghost means = { λ k _ _ writes. writes ≡ Add k ∷ Add k ∷ [] };
+    ghost means = { λ _ _ _. ⊤ };
+
+    ghost writes = { λ k _ _ W. W ≡ Add k ∷ Add k ∷ [] };
 
     ghost laws = { exact_laws (λ x y h. Prim.search rules) (λ x y h. Prim.search rules)
         (λ x y h. Prim.search rules) (λ a b h. Prim.search rules) };
+}
+
+impl<H: Hold<MemoOf<Bump>>> RunMut for Twice<H> {
+    type Needs = H;
 
     fn run(
         k: &u64,

@@ -10,11 +10,11 @@
 //!
 //! let mut cache: CacheData<MemoOf<Warmth>> = CacheData::new(alloc);
 //! let mut town = Town { people: 900, degrees: 21 };
-//! let first = memoized(alloc, &mut cache, (), &town.track(alloc))?;
+//! let first = memoized(alloc, &mut cache, (), &town)?;
 //! assert_eq!(rt; (first.output, first.how), (21, How::Stored));
 //!
 //! town.people = 7000;
-//! let grown = memoized(alloc, &mut cache, (), &town.track(alloc))?;
+//! let grown = memoized(alloc, &mut cache, (), &town)?;
 //! assert_eq!(rt; (grown.output, grown.how), (21, How::Hit));
 //! ```
 //!

@@ -1,35 +1,39 @@
 //! A function that writes to a log in a loop.
-ghost use Rattle.std.specs.Prelude.{◌≡◌, map, string_bytes};
+ghost use Rattle.std.specs.Prelude.{◌≡◌, map, string_bytes, ⊤};
 ghost use Rattle.std.proofs.Common.{rules, ◌∙◌, sym};
 ghost use Rattle.comemo.proofs.Texts.{texts_clone, bytes_in_turn};
 ghost use Rattle.comemo.specs.MeaningLaws.{map_writes};
 ghost use Rattle.comemo_guide.specs.ListingLaws.{logged_alike};
 ghost use Rattle.comemo_samples.specs.Writers.{logged};
 
-use comemo::{Fault, FunctionMut, RecorderMut};
+use comemo::{Fault, Function, RecorderMut, RunMut};
 use comemo_samples::{Log, LogCall};
 
 /// Writes each of these texts to a log.
 pub struct Listing;
 
-impl FunctionMut for Listing {
+impl Function for Listing {
     type Key = Vec<String>;
 
     type Of = Log;
 
     type Out = ();
 
-    type Needs = ();
+    ghost means = { λ _ _ _. ⊤ };
 
-    ghost means = { λ texts _ _ writes. map logged writes ≡ map string_bytes texts.items };
+    ghost writes = { λ texts _ _ W. map logged W ≡ map string_bytes texts.items };
 
     ghost laws = { record {
       outputs = λ key m a b writes r c right. right;
-      keys = λ j k m output writes r e right. right ∙ bytes_in_turn j.items k.items e;
+      keys = λ j k m output writes r e right. (right.0 ∙ bytes_in_turn j.items k.items e, tt);
       writes = λ key m output V W r same right.
-          sym (map_writes logged logged_alike V W same) ∙ right;
+          (sym (map_writes logged logged_alike V W same) ∙ right.0, tt);
       clones = λ x y h. Prim.search (rules, texts_clone);
     } };
+}
+
+impl RunMut for Listing {
+    type Needs = ();
 
     fn run(
         texts: &Vec<String>,

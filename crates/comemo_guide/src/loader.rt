@@ -4,7 +4,7 @@ ghost use Rattle.std.specs.Global.{Global as AnyGlobal};
 ghost use Rattle.std.specs.List.{each_same};
 ghost use Rattle.std.proofs.Common.{rules, ◌∙◌};
 
-use comemo::{Call, Fault, Function, Recorder, Track};
+use comemo::{Call, Fault, Function, Recorder, Run, Track};
 use std::alloc::AllocError;
 use std::marker::PhantomData;
 
@@ -83,14 +83,16 @@ impl<L: Loader> Function for Contents<L> {
 
     type Out = Vec<u8>;
 
-    type Needs = ();
-
     ghost use Rattle.comemo_guide.specs.declared.loader.LibraryCall.TheVariants.{Load};
     ghost use Rattle.comemo_guide.specs.LoadLaws.{same_bytes};
 
     ghost means = { λ path m out. out.items ≡ (m (Load path)).items };
 
     ghost laws = { Prim.search (rules, each_same, same_bytes) };
+}
+
+impl<L: Loader> Run for Contents<L> {
+    type Needs = ();
 
     fn run(path: &String, of: &mut Recorder<'_, Library<L>>, _: &mut ()) -> Result<Vec<u8>, Fault> {
         let bytes = of.ask(LibraryCall::Load(path.clone()?))?;

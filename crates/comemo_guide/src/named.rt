@@ -3,7 +3,7 @@ ghost use Rattle.std.specs.Prelude.{◌≡◌, ◌+◌, ◌%◌, ◌^◌, ⊤, n
 ghost use Rattle.std.proofs.Common.{rules};
 ghost use Rattle.comemo.specs.Meaning.{names};
 
-use comemo::{CacheData, Fault, Function, MemoOf, Recorder};
+use comemo::{CacheData, Fault, Function, MemoOf, Recorder, Run};
 use comemo_samples::{Context, ContextCall};
 
 /// The sum of a context's location and its styles, which wraps at 64 bits.
@@ -18,8 +18,6 @@ impl Function for Sum {
 
     type Out = u64;
 
-    type Needs = ContextCall;
-
     ghost use Rattle.comemo_samples.specs.declared.contexts.ContextCall.TheVariants.{Location, Styles};
 
     ghost means = { λ _ m out. out ≡ (m Location + m Styles) % 2 ^ 64 };
@@ -28,6 +26,10 @@ impl Function for Sum {
     ghost naming = { names (λ _ _ _. ⊤) };
 
     ghost laws = { Prim.search rules };
+}
+
+impl Run for Sum {
+    type Needs = ContextCall;
 
     fn run(
         _key: &(),
@@ -62,8 +64,6 @@ impl Function for IsOver {
 
     type Out = bool;
 
-    type Needs = (CacheData<MemoOf<Sum>>, ContextCall);
-
     ghost use Rattle.comemo_samples.specs.declared.contexts.ContextCall.TheVariants.{Location, Styles};
 
     ghost means = { λ n m out. out ≡ nat_lt n ((m Location + m Styles) % 2 ^ 64) };
@@ -72,6 +72,10 @@ impl Function for IsOver {
     ghost naming = { names (λ n m call. ⊤) };
 
     ghost laws = { Prim.search rules };
+}
+
+impl Run for IsOver {
+    type Needs = (CacheData<MemoOf<Sum>>, ContextCall);
 
     fn run(
         n: &u64,

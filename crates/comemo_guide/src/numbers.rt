@@ -4,7 +4,7 @@ ghost use Rattle.std.specs.Prelude.{◌≡◌, ◌+◌, ◌%◌, ◌^◌, [], re
 ghost use Rattle.std.specs.List.{sum, range_with_len};
 ghost use Rattle.std.proofs.Common.{rules};
 
-use comemo::{Fault, Function, Recorder};
+use comemo::{Fault, Function, Recorder, Run};
 use std::hash::{Hash, Hasher};
 
 /// The number itself.
@@ -17,11 +17,13 @@ impl Function for Identity {
 
     type Out = u64;
 
-    type Needs = ();
-
     ghost means = { λ n _ out. out ≡ n };
 
     ghost laws = { Prim.search rules };
+}
+
+impl Run for Identity {
+    type Needs = ();
 
     fn run(n: &u64, _of: &mut Recorder<'_, ()>, _needs: &mut ()) -> Result<u64, Fault> {
         Ok(*n)
@@ -38,11 +40,13 @@ impl Function for Sum {
 
     type Out = u32;
 
-    type Needs = ();
-
     ghost means = { λ key _ out. out ≡ (key.0 + key.1) % 2 ^ 32 };
 
     ghost laws = { Prim.search rules };
+}
+
+impl Run for Sum {
+    type Needs = ();
 
     fn run(key: &(u32, u32), _of: &mut Recorder<'_, ()>, _needs: &mut ()) -> Result<u32, Fault> {
         Ok(key.0.wrapping_add(key.1))
@@ -70,11 +74,13 @@ impl Function for SumBelow {
 
     type Out = u64;
 
-    type Needs = ();
-
     ghost means = { λ n _ out. out ≡ sum (range_with_len 0 n) };
 
     ghost laws = { Prim.search rules };
+}
+
+impl Run for SumBelow {
+    type Needs = ();
 
     fn run(n: &u32, _of: &mut Recorder<'_, ()>, _needs: &mut ()) -> Result<u64, Fault> {
         Ok(sum_below(*n))
@@ -103,11 +109,13 @@ impl Function for DoubleFlat {
 
     type Out = u32;
 
-    type Needs = ();
-
     ghost means = { λ n _ out. out ≡ (n.0 + n.0) % 2 ^ 32 };
 
     ghost laws = { Prim.search rules };
+}
+
+impl Run for DoubleFlat {
+    type Needs = ();
 
     fn run(n: &Flat, _of: &mut Recorder<'_, ()>, _needs: &mut ()) -> Result<u32, Fault> {
         Ok(n.0.wrapping_add(n.0))

@@ -2,7 +2,7 @@
 ghost use Rattle.std.specs.Prelude.{◌≡◌, ◌||◌, ⊤, nat_lt};
 ghost use Rattle.std.proofs.Common.{rules};
 
-use comemo::{Fault, Function, Recorder};
+use comemo::{Fault, Function, Recorder, Run};
 use comemo_samples::{Town, TownCall};
 
 /// Which question is asked, or asked first.
@@ -27,11 +27,13 @@ impl Function for Either {
 
     type Out = u64;
 
-    type Needs = Turn;
-
     ghost means = { λ _ _ _. ⊤ };
 
     ghost laws = { Prim.search rules };
+}
+
+impl Run for Either {
+    type Needs = Turn;
 
     fn run(_key: &(), town: &mut Recorder<'_, Town>, turn: &mut Turn) -> Result<u64, Fault> {
         match turn {
@@ -53,13 +55,15 @@ impl Function for Both {
 
     type Out = (u64, u64);
 
-    type Needs = Turn;
-
     ghost use Rattle.comemo_samples.specs.declared.town.TownCall.TheVariants.{People, Degrees};
 
     ghost means = { λ _ m out. out ≡ (m People, m Degrees) };
 
     ghost laws = { Prim.search rules };
+}
+
+impl Run for Both {
+    type Needs = Turn;
 
     fn run(_key: &(), town: &mut Recorder<'_, Town>, turn: &mut Turn) -> Result<(u64, u64), Fault> {
         match turn {
@@ -88,13 +92,15 @@ impl Function for Exceeds {
 
     type Out = bool;
 
-    type Needs = ();
-
     ghost use Rattle.comemo_samples.specs.declared.town.TownCall.TheVariants.{People, Degrees};
 
     ghost means = { λ n m out. out ≡ (nat_lt n (m People) || nat_lt n (m Degrees)) };
 
     ghost laws = { Prim.search rules };
+}
+
+impl Run for Exceeds {
+    type Needs = ();
 
     fn run(n: &u64, town: &mut Recorder<'_, Town>, _needs: &mut ()) -> Result<bool, Fault> {
         let people = town.ask(TownCall::People)?;

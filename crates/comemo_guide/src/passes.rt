@@ -2,7 +2,7 @@
 ghost use Rattle.std.specs.Prelude.{◌≡◌, max, nat_lt};
 ghost use Rattle.std.proofs.Common.{rules};
 
-use comemo::{Fault, Function, Recorder};
+use comemo::{Fault, Function, Recorder, Run};
 use comemo_samples::{Town, TownCall};
 
 /// Whether the greater of a town's people and degrees exceeds a number.
@@ -17,13 +17,15 @@ impl Function for Passes {
 
     type Out = bool;
 
-    type Needs = ();
-
     ghost use Rattle.comemo_samples.specs.declared.town.TownCall.TheVariants.{People, Degrees};
 
     ghost means = { λ n m out. out ≡ nat_lt n (max (m People) (m Degrees)) };
 
     ghost laws = { Prim.search rules };
+}
+
+impl Run for Passes {
+    type Needs = ();
 
     fn run(n: &u64, town: &mut Recorder<'_, Town>, _needs: &mut ()) -> Result<bool, Fault> {
         let people = town.ask(TownCall::People)?;

@@ -6,7 +6,7 @@ ghost use Rattle.comemo.specs.MeaningLaws.{exact_memo_laws};
 use crate::adding::Adds;
 use crate::warmth::Warmth;
 use comemo::{
-    CacheData, Fault, FunctionMutOf, Memo, MemoOf, MemoOfMut, MultiAnswer, MultiCall, ReadAndWrite,
+    CacheData, Fault, FunctionMutOf, Memo, MemoOf, MultiAnswer, MultiCall, ReadAndWrite,
     RecorderMut,
 };
 use comemo_samples::{Counter, CounterCall, Town, TownCall};
@@ -112,12 +112,12 @@ impl Memo for AddsOneMore {
 }
 
 impl<'a> FunctionMutOf<ReadAndWrite<'a, Town, Counter>> for AddsOneMore {
-    type Needs = CacheData<MemoOfMut<Adds>>;
+    type Needs = CacheData<MemoOf<Adds>>;
 
     fn run(
         _: &(),
         both: &mut RecorderMut<'_, '_, ReadAndWrite<'a, Town, Counter>>,
-        kept: &mut CacheData<MemoOfMut<Adds>>,
+        kept: &mut CacheData<MemoOf<Adds>>,
     ) -> Result<u64, Fault> {
         let degrees = both.ask_first(TownCall::Degrees)?;
         let sum = both.call_mut_second(kept, &mut (), degrees)?;

@@ -103,8 +103,6 @@ impl Memo for Warmest {
 impl<'a> FunctionOf<Region<'a>> for Warmest {
     type Needs = ();
 
-    ghost reads = { λ key m out writes right. right.0 };
-
     fn run(_: &(), region: &mut Recorder<'_, Region<'a>>, _: &mut ()) -> Result<u64, Fault> {
         let coast = region.ask(RegionCall::Coast(TownCall::Degrees))?;
         let river = region.ask(RegionCall::River(TownCall::Degrees))?;

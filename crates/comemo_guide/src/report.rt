@@ -4,7 +4,7 @@ ghost use Rattle.std.proofs.Common.{rules};
 
 use crate::passes::Passes;
 use crate::warmth::Warmth;
-use comemo::{CacheData, Fault, Function, MemoOf, Recorder};
+use comemo::{CacheData, Fault, Function, MemoOf, Recorder, Run};
 use comemo_samples::Town;
 
 /// The caches of the functions that a report calls: of `Passes`, and of `Warmth`.
@@ -23,14 +23,16 @@ impl Function for Report {
 
     type Out = u64;
 
-    type Needs = Kept;
-
     ghost use Rattle.comemo_samples.specs.declared.town.TownCall.TheVariants.{People, Degrees};
 
     ghost means = { λ key m out.
         out ≡ cond (nat_lt key.0 (max (m People) (m Degrees))) (m Degrees) key.1 };
 
     ghost laws = { Prim.search rules };
+}
+
+impl Run for Report {
+    type Needs = Kept;
 
     fn run(key: &(u64, u64), town: &mut Recorder<'_, Town>, kept: &mut Kept) -> Result<u64, Fault> {
         if town.call(&mut kept.0, &mut (), key.0)? {

@@ -1,5 +1,5 @@
 //! A function that calls itself and writes.
-ghost use Rattle.std.specs.Prelude.{◌≡◌, IfOk};
+ghost use Rattle.std.specs.Prelude.{◌≡◌, IfOk, ⊤};
 ghost use Rattle.std.proofs.Common.{rules};
 ghost use Rattle.comemo.specs.FunctionMut.{TellsWrites, lent};
 ghost use Rattle.comemo.specs.MeaningLaws.{exact_laws};
@@ -7,21 +7,23 @@ ghost use Rattle.comemo_guide.specs.Rulers.{marks};
 ghost use Rattle.comemo_samples.specs.declared.notebook.NotebookCall.TheVariants.{Owner};
 
 use comemo::internal::{Told, ToldMut, Written};
-use comemo::{Begun, Constraint, Fault, Hold, MemoOfRecursiveMut, RecorderMut, RecursiveMut};
+use comemo::{Begun, Constraint, Fault, Function, Hold, MemoOf, RecorderMut};
 use comemo_samples::{Notebook, NotebookCall};
 use std::alloc::Global;
 
 /// Draws the marks of a ruler up to a height into a notebook, each with the notebook's owner.
 pub struct Ruler;
 
-impl RecursiveMut for Ruler {
+impl Function for Ruler {
     type Key = u64;
 
     type Of = Notebook;
 
     type Out = ();
 
-    ghost means = { λ height m _ writes. writes ≡ marks (m Owner) height };
+    ghost means = { λ _ _ _. ⊤ };
+
+    ghost writes = { λ height m _ W. W ≡ marks (m Owner) height };
 
     ghost laws = { exact_laws (λ x y h. Prim.search rules) (λ x y h. Prim.search rules)
         (λ x y h. Prim.search rules) (λ a b h. Prim.search rules) };
@@ -29,7 +31,7 @@ impl RecursiveMut for Ruler {
 
 /// Draws the marks up to a height, through a cache. A run draws the lower marks first by a call, and again by a hit.
 #[cycle(drawing)]
-pub fn ruled<H: Hold<MemoOfRecursiveMut<Ruler>>>(
+pub fn ruled<H: Hold<MemoOf<Ruler>>>(
     cache: &mut H,
     height: u64,
     book: &mut RecorderMut<'_, '_, Notebook>,
@@ -38,7 +40,7 @@ pub fn ruled<H: Hold<MemoOfRecursiveMut<Ruler>>>(
     ensures agrees { ⟦<Notebook as ToldMut>⟧.agrees (lent book.new.value book.new.recording) }
     ensures tells { TellsWrites ⟦<Notebook as ToldMut>⟧.goes ⟦<Notebook as Told>⟧.fits
         (lent book.old.value book.old.recording) (lent book.new.value book.new.recording) result
-        (λ _ m writes. writes ≡ marks (m Owner) height) }
+        (λ _ m writes. (writes ≡ marks (m Owner) height) × ⊤) }
 {
     let run = match book.begin(cache, &height)? {
         Begun::Hit(()) => return Ok(()),
@@ -50,7 +52,7 @@ pub fn ruled<H: Hold<MemoOfRecursiveMut<Ruler>>>(
 
 /// The run of `ruled`.
 #[cycle(drawing)]
-fn draw<H: Hold<MemoOfRecursiveMut<Ruler>>>(
+fn draw<H: Hold<MemoOf<Ruler>>>(
     cache: &mut H,
     height: u64,
     book: &mut RecorderMut<'_, '_, Notebook>,
@@ -59,7 +61,7 @@ fn draw<H: Hold<MemoOfRecursiveMut<Ruler>>>(
     ensures agrees { ⟦<Notebook as ToldMut>⟧.agrees (lent book.new.value book.new.recording) }
     ensures tells { TellsWrites ⟦<Notebook as ToldMut>⟧.goes ⟦<Notebook as Told>⟧.fits
         (lent book.old.value book.old.recording) (lent book.new.value book.new.recording) result
-        (λ _ m writes. writes ≡ marks (m Owner) height) }
+        (λ _ m writes. (writes ≡ marks (m Owner) height) × ⊤) }
 {
     if height == 0 {
         return Ok(());
@@ -74,7 +76,7 @@ fn draw<H: Hold<MemoOfRecursiveMut<Ruler>>>(
 /// Draws the marks up to a height into a notebook, through a cache.
 ///
 /// After a fault the notebook holds a prefix of them.
-pub fn rule<H: Hold<MemoOfRecursiveMut<Ruler>>>(
+pub fn rule<H: Hold<MemoOf<Ruler>>>(
     alloc: Global,
     cache: &mut H,
     height: u64,

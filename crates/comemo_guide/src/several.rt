@@ -31,8 +31,6 @@ impl Memo for IsWarmer {
 impl<'a> FunctionOf<Both<'a, Town, Town>> for IsWarmer {
     type Needs = ();
 
-    ghost reads = { λ key m out writes right. right.0 };
-
     fn run(
         _: &(),
         towns: &mut Recorder<'_, Both<'a, Town, Town>>,
@@ -70,8 +68,6 @@ impl Memo for Lead {
 
 impl<'a> FunctionOf<Both<'a, Town, Town>> for Lead {
     type Needs = CacheData<MemoOf<Warmth>>;
-
-    ghost reads = { λ key m out writes right. right.0 };
 
     fn run(
         _key: &(),

@@ -2,7 +2,7 @@
 ghost use Rattle.std.specs.Prelude.{◌≡◌, ◌<◌, ℕ, length, IfOk, slice_index_or};
 
 use crate::warmth::Warmth;
-use comemo::{Cache, Fault, MemoOf, Track, memoized};
+use comemo::{Cache, Fault, MemoOf, memoized};
 use comemo_samples::Town;
 use std::alloc::{AllocError, Global};
 use std::sync::Wait;
@@ -18,8 +18,7 @@ pub fn shared_warmth<R: Wait>(
     ensures { IfOk result (λ degrees. degrees ≡ town.now.degrees) }
 {
     let held = &mut cache.hold(rt);
-    let view = town.track(alloc);
-    let reply = memoized(alloc, held, (), &view)?;
+    let reply = memoized(alloc, held, (), town)?;
     Ok(reply.output)
 }
 

@@ -2,7 +2,7 @@
 ghost use Rattle.std.specs.Prelude.{◌≡◌};
 ghost use Rattle.std.proofs.Common.{rules};
 
-use comemo::{Fault, Function, Recorder};
+use comemo::{Fault, Function, Recorder, Run};
 use comemo_samples::{Town, TownCall};
 
 /// How warm a town is, in degrees. Asks for the degrees alone.
@@ -15,13 +15,15 @@ impl Function for Warmth {
 
     type Out = u64;
 
-    type Needs = ();
-
     ghost use Rattle.comemo_samples.specs.declared.town.TownCall.TheVariants.{Degrees};
 
     ghost means = { λ _ m out. out ≡ m Degrees };
 
     ghost laws = { Prim.search rules };
+}
+
+impl Run for Warmth {
+    type Needs = ();
 
     fn run(_key: &(), town: &mut Recorder<'_, Town>, _needs: &mut ()) -> Result<u64, Fault> {
         let degrees = town.ask(TownCall::Degrees)?;

@@ -3,7 +3,7 @@
 //!
 //! Some helpers return how many calls, from the first on, have the wanted results.
 
-use comemo::{CacheData, Caches, Function, How, MemoOf, Top, Track, memoized, memoized_with};
+use comemo::{CacheData, Caches, How, MemoOf, Run, Top, Track, memoized, memoized_with};
 use comemo_guide::both_pass::BothPass;
 use comemo_guide::numbers::{DoubleFlat, Flat};
 use comemo_guide::orders::{Both, Either, Exceeds, Turn};
@@ -23,7 +23,7 @@ fn town((people, degrees): Of) -> Town {
 }
 
 /// Whether a call of a town returns this output and ends as `how`. It is enabled unless `how` is `Disabled`.
-fn gives<O: Copy + PartialEq, F: Function<Of = Town, Out = O>>(
+fn gives<O: Copy + PartialEq, F: Run<Of = Town, Out = O>>(
     alloc: Global,
     cache: &mut CacheData<MemoOf<F>>,
     needs: &mut F::Needs,
@@ -33,9 +33,8 @@ fn gives<O: Copy + PartialEq, F: Function<Of = Town, Out = O>>(
     how: How,
 ) -> bool {
     let town = town(of);
-    let view = town.track(alloc);
     let enabled = how != How::Disabled;
-    match memoized_with(alloc, cache, needs, key, &view, &mut Top::new(), enabled) {
+    match memoized_with(alloc, cache, needs, key, &town, &mut Top::new(), enabled) {
         Ok(reply) => reply.output == output && reply.how == how,
         Err(_) => false,
     }
@@ -70,7 +69,7 @@ fn only_what_was_asked_counts(rt: HostRuntime) {
 }
 
 /// How many calls of a function of a town and a number have these results.
-fn answers<F: Function<Key = u64, Of = Town, Needs = (), Out = bool>>(
+fn answers<F: Run<Key = u64, Of = Town, Needs = (), Out = bool>>(
     alloc: Global,
     number: u64,
     calls: &[(Of, bool, How)],
@@ -144,11 +143,10 @@ fn what_a_called_function_asked_counts_for_its_caller(rt: HostRuntime) {
 /// How many calls double a number.
 fn doubles(alloc: Global, calls: &[(u32, How)]) -> usize {
     let mut cache: CacheData<MemoOf<DoubleFlat>> = CacheData::new(alloc);
-    let view = ().track(alloc);
     let mut held: usize = 0;
     for (n, how) in calls {
         let sink = &mut Top::new();
-        let is_so = match memoized_with(alloc, &mut cache, &mut (), Flat(*n), &view, sink, true) {
+        let is_so = match memoized_with(alloc, &mut cache, &mut (), Flat(*n), &(), sink, true) {
             Ok(reply) => reply.output == n.wrapping_mul(2) && reply.how == *how,
             Err(_) => false,
         };
@@ -167,7 +165,7 @@ fn keys_of_one_hash_are_told_apart(rt: HostRuntime) {
 }
 
 /// How many calls of a function with this order of questions have these results, each with the number of entries then.
-fn in_turn<O: Copy + PartialEq, F: Function<Key = (), Of = Town, Needs = Turn, Out = O>>(
+fn in_turn<O: Copy + PartialEq, F: Run<Key = (), Of = Town, Needs = Turn, Out = O>>(
     alloc: Global,
     calls: &[(Turn, Of, O, How, usize)],
 ) -> usize {
@@ -214,8 +212,7 @@ fn compares(
         first: one.track(alloc),
         second: other.track(alloc),
     };
-    let view = towns.track(alloc);
-    match memoized(alloc, cache, (), &view) {
+    match memoized(alloc, cache, (), &towns) {
         Ok(reply) => reply.output == is_warmer && reply.how == how,
         Err(_) => false,
     }
@@ -254,8 +251,7 @@ fn leads(
         first: one.track(alloc),
         second: other.track(alloc),
     };
-    let view = towns.track(alloc);
-    match memoized_with(alloc, cache, kept, (), &view, &mut Top::new(), true) {
+    match memoized_with(alloc, cache, kept, (), &towns, &mut Top::new(), true) {
         Ok(reply) => reply.output == lead && reply.how == how,
         Err(_) => false,
     }
@@ -296,8 +292,7 @@ fn is_warmest(
         river: &river,
         hill: &hill,
     };
-    let view = region.track(alloc);
-    match memoized(alloc, cache, (), &view) {
+    match memoized(alloc, cache, (), &region) {
         Ok(reply) => reply.output == degrees && reply.how == how,
         Err(_) => false,
     }

@@ -1,6 +1,6 @@
 //! Tests of the functions that name their calls.
 
-use comemo::{CacheData, How, MemoOf, Top, Track, memoized_with};
+use comemo::{CacheData, How, MemoOf, Top, memoized_with};
 use comemo_guide::named::{IsOver, Sum};
 use comemo_samples::{Context, ContextCall};
 use std::alloc::Global;
@@ -18,8 +18,15 @@ fn sums(
     how: How,
 ) -> bool {
     let context = Context { location, styles };
-    let view = context.track(alloc);
-    match memoized_with(alloc, cache, &mut first, (), &view, &mut Top::new(), true) {
+    match memoized_with(
+        alloc,
+        cache,
+        &mut first,
+        (),
+        &context,
+        &mut Top::new(),
+        true,
+    ) {
         Ok(reply) => reply.output == sum && reply.how == how,
         Err(_) => false,
     }
@@ -53,8 +60,7 @@ fn is_over(
     how: How,
 ) -> bool {
     let context = Context { location, styles };
-    let view = context.track(alloc);
-    match memoized_with(alloc, cache, kept, 4, &view, &mut Top::new(), true) {
+    match memoized_with(alloc, cache, kept, 4, &context, &mut Top::new(), true) {
         Ok(reply) => reply.output == is_over && reply.how == how,
         Err(_) => false,
     }

@@ -1,6 +1,6 @@
 //! Tests of the functions that call themselves and write.
 
-use comemo::{CacheData, Fault, MemoOfRecursiveMut, ReadAndWrite, Top, Track, memoized_mut_with};
+use comemo::{CacheData, Fault, MemoOf, ReadAndWrite, Top, Track, memoized_mut_with};
 use comemo_guide::ruler::{Ruler, rule};
 use comemo_guide::totals::{NotesTotals, RunningTotal};
 use comemo_samples::{Cells, Notebook};
@@ -11,7 +11,7 @@ use std::test::Fail;
 /// marks.
 fn is_ruled(
     alloc: Global,
-    cache: &mut CacheData<MemoOfRecursiveMut<Ruler>>,
+    cache: &mut CacheData<MemoOf<Ruler>>,
     height: u64,
     (owner, room): (u64, usize),
     ended: Result<(), Fault>,
@@ -25,7 +25,7 @@ fn is_ruled(
 #[test]
 fn a_ruler_is_drawn_by_the_marks_below(rt: HostRuntime) {
     let alloc = rt.alloc();
-    let mut cache: CacheData<MemoOfRecursiveMut<Ruler>> = CacheData::new(alloc);
+    let mut cache: CacheData<MemoOf<Ruler>> = CacheData::new(alloc);
     let rulers: &[(u64, u64, &[u64], usize)] = &[
         // The heights 0, 1 and 2 are stored, each once.
         (2, 7, &[1, 7, 2, 7, 1, 7], 3),
@@ -44,7 +44,7 @@ fn a_ruler_is_drawn_by_the_marks_below(rt: HostRuntime) {
 #[test]
 fn a_ruler_that_has_no_room_is_begun(rt: HostRuntime) {
     let alloc = rt.alloc();
-    let mut cache: CacheData<MemoOfRecursiveMut<Ruler>> = CacheData::new(alloc);
+    let mut cache: CacheData<MemoOf<Ruler>> = CacheData::new(alloc);
     let rulers: &[(Fault, &[u64])] = &[
         // The fourth line fails, in the run of height 2. The heights 0 and 1 were stored.
         (Fault::Memory, &[1, 7, 2]),

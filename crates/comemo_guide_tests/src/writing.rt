@@ -1,8 +1,7 @@
 //! Tests of the functions that write: a hit writes what the run wrote.
 
 use comemo::{
-    BothMut, CacheData, How, MemoOf, MemoOfMut, ReadAndWrite, Top, Track, memoized_mut,
-    memoized_mut_with,
+    BothMut, CacheData, How, MemoOf, ReadAndWrite, Top, Track, memoized_mut, memoized_mut_with,
 };
 use comemo_guide::adding::{Adds, AddsTwice};
 use comemo_guide::listing::Listing;
@@ -16,7 +15,7 @@ use std::test::Fail;
 /// Whether a call that adds a number returns the next number, and ends as `how`.
 fn adds(
     alloc: Global,
-    cache: &mut CacheData<MemoOfMut<Adds>>,
+    cache: &mut CacheData<MemoOf<Adds>>,
     number: u64,
     counter: &mut Counter,
     how: How,
@@ -30,7 +29,7 @@ fn adds(
 #[test]
 fn a_hit_adds_again(rt: HostRuntime) {
     let alloc = rt.alloc();
-    let mut cache: CacheData<MemoOfMut<Adds>> = CacheData::new(alloc);
+    let mut cache: CacheData<MemoOf<Adds>> = CacheData::new(alloc);
     let mut counter = Counter { number: 0 };
     let calls: &[(u64, How, u64)] = &[
         (5, How::Stored, 6),
@@ -48,8 +47,8 @@ fn a_hit_adds_again(rt: HostRuntime) {
 /// Whether a call that adds a number and the next one returns the one after that, and ends as `how`.
 fn adds_twice(
     alloc: Global,
-    cache: &mut CacheData<MemoOfMut<AddsTwice>>,
-    kept: &mut CacheData<MemoOfMut<Adds>>,
+    cache: &mut CacheData<MemoOf<AddsTwice>>,
+    kept: &mut CacheData<MemoOf<Adds>>,
     number: u64,
     counter: &mut Counter,
     how: How,
@@ -63,8 +62,8 @@ fn adds_twice(
 #[test]
 fn what_was_added_within_is_added_again(rt: HostRuntime) {
     let alloc = rt.alloc();
-    let mut cache: CacheData<MemoOfMut<AddsTwice>> = CacheData::new(alloc);
-    let mut kept: CacheData<MemoOfMut<Adds>> = CacheData::new(alloc);
+    let mut cache: CacheData<MemoOf<AddsTwice>> = CacheData::new(alloc);
+    let mut kept: CacheData<MemoOf<Adds>> = CacheData::new(alloc);
     let mut counter = Counter { number: 0 };
     // The last column is the number of entries of the called function.
     let calls: &[(u64, How, u64, usize)] = &[
@@ -184,7 +183,7 @@ fn a_counter_that_is_written_is_read_too(rt: HostRuntime) -> Result<(), Fail> {
 fn a_counter_is_written_by_another_function(rt: HostRuntime) -> Result<(), Fail> {
     let alloc = rt.alloc();
     let mut cache: CacheData<AddsOneMore> = CacheData::new(alloc);
-    let mut kept: CacheData<MemoOfMut<Adds>> = CacheData::new(alloc);
+    let mut kept: CacheData<MemoOf<Adds>> = CacheData::new(alloc);
     let mut counter = Counter { number: 0 };
     // The last columns are the counter's number and the number of entries of `Adds`.
     let calls = [
@@ -237,7 +236,7 @@ fn ends_with_day(log: &Log, lines: usize) -> bool {
 #[test]
 fn a_hit_writes_each_line_again(rt: HostRuntime) -> Result<(), Fail> {
     let alloc = rt.alloc();
-    let mut cache: CacheData<MemoOfMut<Listing>> = CacheData::new(alloc);
+    let mut cache: CacheData<MemoOf<Listing>> = CacheData::new(alloc);
     let mut log = Log::new(alloc);
     for (how, lines) in [(How::Stored, 2_usize), (How::Hit, 4)] {
         let texts = two_texts(alloc)?;

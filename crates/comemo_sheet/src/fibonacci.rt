@@ -5,12 +5,12 @@ ghost use Rattle.comemo.specs.Recursive.{TellsOwn};
 ghost use Rattle.comemo_sheet.specs.Fibonacci.{fib};
 
 use comemo::internal::Told;
-use comemo::{Begun, Fault, Hold, MemoOfRecursive, Recorder, Recursive};
+use comemo::{Begun, Fault, Function, Hold, MemoOf, Recorder};
 
 /// The Fibonacci number at a place, modulo 2^64.
 pub struct Fib;
 
-impl Recursive for Fib {
+impl Function for Fib {
     type Key = u64;
 
     type Of = ();
@@ -25,7 +25,7 @@ impl Recursive for Fib {
 /// The Fibonacci number at a place, by those before it, which are kept except the first two.
 ///
 /// `H` holds the cache: a `CacheData`, or a share of one that threads share.
-pub fn numbered<H: Hold<MemoOfRecursive<Fib>>>(
+pub fn numbered<H: Hold<MemoOf<Fib>>>(
     cache: &mut H,
     place: u64,
     of: &mut Recorder<'_, ()>,

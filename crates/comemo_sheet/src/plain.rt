@@ -1,12 +1,13 @@
 //! The number of a cell, or why it has none: a memoized function that may fail.
 ghost use Rattle.std.specs.Prelude.{◌≡◌};
+ghost use Rattle.comemo.specs.MeaningLaws.{reads_laws};
 ghost use Rattle.std.proofs.Common.{rules, ◌∙◌};
 ghost use Rattle.comemo_sheet.specs.Plain.{plain_number};
 ghost use Rattle.comemo_sheet.specs.PlainLaws.{plain_alike};
 ghost use Rattle.comemo_sheet.specs.declared.sheet.SheetCall.TheVariants.{Cell};
 
 use crate::sheet::{Content, Sheet, SheetCall};
-use comemo::{Fault, Function, Recorder};
+use comemo::{Fault, Function, Recorder, Run};
 
 /// Why a cell has no number of its own.
 #[derive(Clone, Copy, Drop, Debug, PartialEq, Eq)]
@@ -27,16 +28,18 @@ impl Function for PlainNumber {
 
     type Out = Result<i64, NoNumber>;
 
-    type Needs = ();
-
     ghost means = { λ name m out. out ≡ plain_number (m (Cell name)) };
 
-    ghost laws = { record {
+    ghost laws = { reads_laws (record {
       outputs = λ key m a b r c right. Prim.search rules;
       keys = λ j k m output r e right.
           right ∙ plain_alike (m (Cell j)) (m (Cell k)) (r (Cell j) (Cell k) e);
       clones = Prim.search rules;
-    } };
+    }) };
+}
+
+impl Run for PlainNumber {
+    type Needs = ();
 
     fn run(
         name: &String,

@@ -1,6 +1,7 @@
 //! The value of a cell by the totals of ranges, and the total of a range by the values of cells: two functions that
 //! call each other, each through its own cache.
 ghost use Rattle.std.specs.Prelude.{◌≡◌, Some, pos};
+ghost use Rattle.comemo.specs.MeaningLaws.{reads_laws};
 ghost use Rattle.std.proofs.Common.{rules};
 ghost use Rattle.comemo.specs.Recursive.{TellsOwn};
 ghost use Rattle.comemo.proofs.Texts.{texts_clone};
@@ -10,7 +11,7 @@ ghost use Rattle.comemo_sheet.specs.ValueLaws.{range_alike};
 use crate::sheet::{Content, Sheet, SheetCall};
 use crate::value::{Value, sum};
 use comemo::internal::Told;
-use comemo::{Begun, CacheData, Fault, Hold, MemoOfRecursive, Recorder, Recursive};
+use comemo::{Begun, CacheData, Fault, Function, Hold, MemoOf, Recorder};
 
 /// The cells of these names, and the limit on how deep their values go.
 #[derive(Clone, Drop, Debug, PartialEq, Eq, Hash)]
@@ -26,7 +27,7 @@ pub struct Range {
 /// It is kept once for all cells that refer to the range.
 pub struct RangeTotal;
 
-impl Recursive for RangeTotal {
+impl Function for RangeTotal {
     type Key = Range;
 
     type Of = Sheet;
@@ -36,23 +37,20 @@ impl Recursive for RangeTotal {
     ghost means = { λ range m out.
         out ≡ sum_of (value_of m range.limit) (Some (pos 0)) range.names.items };
 
-    ghost laws = { record {
+    ghost laws = { reads_laws (record {
       outputs = λ key m a b r c right. Prim.search rules;
       keys = λ j k m output r e right.
           Prim.search (rules, range_alike m r j.limit j.names.items k.names.items);
       clones = λ x y h. Prim.search (rules, texts_clone);
-    } };
+    }) };
 }
 
 /// The caches of both functions. The first also serves `valued`, which has the same meaning.
-pub type Kept = (
-    CacheData<MemoOfRecursive<Value>>,
-    CacheData<MemoOfRecursive<RangeTotal>>,
-);
+pub type Kept = (CacheData<MemoOf<Value>>, CacheData<MemoOf<RangeTotal>>);
 
 /// The value of the cell of a name, through the caches, by the totals of ranges, up to a depth of `limit`.
 #[cycle(ranging)]
-pub fn ranged<H: Hold<MemoOfRecursive<Value>>, G: Hold<MemoOfRecursive<RangeTotal>>>(
+pub fn ranged<H: Hold<MemoOf<Value>>, G: Hold<MemoOf<RangeTotal>>>(
     kept: &mut (H, G),
     name: String,
     limit: u64,
@@ -83,7 +81,7 @@ pub fn ranged<H: Hold<MemoOfRecursive<Value>>, G: Hold<MemoOfRecursive<RangeTota
 
 /// The total of a range, through the caches, by the values of its cells.
 #[cycle(ranging)]
-pub fn range_total<H: Hold<MemoOfRecursive<Value>>, G: Hold<MemoOfRecursive<RangeTotal>>>(
+pub fn range_total<H: Hold<MemoOf<Value>>, G: Hold<MemoOf<RangeTotal>>>(
     kept: &mut (H, G),
     range: Range,
     of: &mut Recorder<'_, Sheet>,

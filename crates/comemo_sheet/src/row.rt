@@ -1,12 +1,13 @@
 //! The total of a row of cells: a memoized function that asks in a loop.
 ghost use Rattle.std.specs.Prelude.{◌≡◌};
+ghost use Rattle.comemo.specs.MeaningLaws.{reads_laws};
 ghost use Rattle.std.proofs.Common.{rules, ◌∙◌};
 ghost use Rattle.comemo_sheet.specs.Totals.{plus, total_of};
 ghost use Rattle.comemo_sheet.specs.TotalLaws.{total_alike};
 ghost use Rattle.comemo.proofs.Texts.{texts_clone};
 
 use crate::sheet::{Sheet, SheetCall};
-use comemo::{Fault, Function, Recorder};
+use comemo::{Fault, Function, Recorder, Run};
 
 /// The sum of the numbers that the cells of these names hold, which wraps at 64 bits.
 pub struct RowTotal;
@@ -18,15 +19,17 @@ impl Function for RowTotal {
 
     type Out = i64;
 
-    type Needs = ();
-
     ghost means = { λ names m out. out ≡ total_of m names.items };
 
-    ghost laws = { record {
+    ghost laws = { reads_laws (record {
       outputs = λ key m a b r c right. Prim.search rules;
       keys = λ j k m output r e right. right ∙ total_alike m r j.items k.items e;
       clones = λ x y h. texts_clone x.items y.items h.0;
-    } };
+    }) };
+}
+
+impl Run for RowTotal {
+    type Needs = ();
 
     fn run(
         names: &Vec<String>,

@@ -62,8 +62,6 @@ impl<H> Memo for Shown<H> {
 impl<'a, H: Hold<MemoOf<NumberIn>>> FunctionOf<Both<'a, Sheet, Settings>> for Shown<H> {
     type Needs = H;
 
-    ghost reads = { λ key m out writes right. right.0 };
-
     fn run(
         name: &String,
         both: &mut Recorder<'_, Both<'a, Sheet, Settings>>,

@@ -1,5 +1,6 @@
 //! The value of a cell by the cells that it refers to: a function that calls itself through its own cache.
 ghost use Rattle.std.specs.Prelude.{◌≡◌, IfOk};
+ghost use Rattle.comemo.specs.MeaningLaws.{reads_laws};
 ghost use Rattle.std.proofs.Common.{rules, ◌∙◌};
 ghost use Rattle.comemo.specs.Recursive.{TellsOwn};
 ghost use Rattle.comemo_sheet.specs.Sheets.{cell_answer};
@@ -9,7 +10,7 @@ ghost use Rattle.comemo_sheet.specs.ValueLaws.{value_alike};
 use crate::row::add;
 use crate::sheet::{Sheet, SheetCall};
 use comemo::internal::Told;
-use comemo::{Begun, Fault, Hold, MemoOfRecursive, Recorder, Recursive, Track};
+use comemo::{Begun, Fault, Function, Hold, MemoOf, Recorder, Track};
 use std::alloc::Global;
 
 /// The value of a cell: its number, or the sum of the values of the cells that it refers to.
@@ -18,7 +19,7 @@ use std::alloc::Global;
 /// their value is `None`.
 pub struct Value;
 
-impl Recursive for Value {
+impl Function for Value {
     type Key = (String, u64);
 
     type Of = Sheet;
@@ -27,11 +28,11 @@ impl Recursive for Value {
 
     ghost means = { λ key m out. out ≡ value_of m key.1 key.0 };
 
-    ghost laws = { record {
+    ghost laws = { reads_laws (record {
       outputs = λ key m a b r c right. Prim.search rules;
       keys = λ j k m output r e right. Prim.search (rules, value_alike m r j.1 j.0 k.0);
       clones = Prim.search rules;
-    } };
+    }) };
 }
 
 /// The sum of two values; `None` if one of them is.
@@ -45,7 +46,7 @@ pub fn sum(total: Option<i64>, value: Option<i64>) -> Option<i64>
 }
 
 /// The value of the cell of a name, through a cache, up to a depth of `limit`.
-pub fn valued<H: Hold<MemoOfRecursive<Value>>>(
+pub fn valued<H: Hold<MemoOf<Value>>>(
     cache: &mut H,
     name: String,
     limit: u64,
@@ -74,7 +75,7 @@ pub fn valued<H: Hold<MemoOfRecursive<Value>>>(
 }
 
 /// The value of the cell of a name in a sheet as it is, through a cache, up to a depth of `limit`.
-pub fn value_now<H: Hold<MemoOfRecursive<Value>>>(
+pub fn value_now<H: Hold<MemoOf<Value>>>(
     alloc: Global,
     cache: &mut H,
     sheet: &Sheet,

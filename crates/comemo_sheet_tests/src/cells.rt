@@ -1,9 +1,7 @@
 //! Functions of a spreadsheet: what they return, and which calls are hits.
 
 use Step::{Kept, Number, Plain, Ranged, Row, Set, Show, Sum, Third, Total};
-use comemo::{
-    Both, CacheData, How, MemoOf, MemoOfRecursive, Recorder, Top, Track, memoized, memoized_with,
-};
+use comemo::{Both, CacheData, How, MemoOf, Recorder, Top, Track, memoized, memoized_with};
 use comemo_sheet::number::NumberIn;
 use comemo_sheet::plain::{NoNumber, PlainNumber};
 use comemo_sheet::range::{Kept as Ranges, Range, range_total, ranged};
@@ -61,7 +59,7 @@ fn is_number(
     let Ok(key) = String::from_str(alloc, "A1") else {
         return false;
     };
-    match memoized(alloc, cache, key, &sheet.track(alloc)) {
+    match memoized(alloc, cache, key, sheet) {
         Ok(reply) => reply.output == number && reply.how == how,
         Err(_) => false,
     }
@@ -79,7 +77,7 @@ fn is_plain(
     let Ok(key) = String::from_str(alloc, name) else {
         return false;
     };
-    match memoized(alloc, cache, key, &sheet.track(alloc)) {
+    match memoized(alloc, cache, key, sheet) {
         Ok(reply) => reply.output == number && reply.how == how,
         Err(_) => false,
     }
@@ -96,7 +94,7 @@ fn is_total(
     let Ok(row) = names(alloc, &["A1", "A2", "A3", "B1"]) else {
         return false;
     };
-    match memoized(alloc, cache, row, &sheet.track(alloc)) {
+    match memoized(alloc, cache, row, sheet) {
         Ok(reply) => reply.output == total && reply.how == how,
         Err(_) => false,
     }
@@ -118,8 +116,7 @@ fn is_shown(
         first: sheet.track(alloc),
         second: settings.track(alloc),
     };
-    let view = both.track(alloc);
-    match memoized_with(alloc, cache, numbers, key, &view, &mut Top::new(), true) {
+    match memoized_with(alloc, cache, numbers, key, &both, &mut Top::new(), true) {
         Ok(reply) => reply.output == shown && reply.how == how,
         Err(_) => false,
     }
@@ -128,7 +125,7 @@ fn is_shown(
 /// Whether this is the value of C1, up to a depth of 3.
 fn is_third(
     alloc: Global,
-    cache: &mut CacheData<MemoOfRecursive<Value>>,
+    cache: &mut CacheData<MemoOf<Value>>,
     sheet: &Sheet,
     value: Option<i64>,
 ) -> bool {
@@ -179,7 +176,7 @@ struct Desk {
     plain: CacheData<MemoOf<PlainNumber>>,
     rows: CacheData<MemoOf<RowTotal>>,
     shown: CacheData<Shown<CacheData<MemoOf<NumberIn>>>>,
-    values: CacheData<MemoOfRecursive<Value>>,
+    values: CacheData<MemoOf<Value>>,
     ranges: Ranges,
 }
 

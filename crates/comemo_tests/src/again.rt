@@ -2,10 +2,11 @@
 //! `validate` alone.
 ghost use Rattle.std.specs.Prelude.{◌≡◌, IfOk, IsTrue};
 ghost use Rattle.std.proofs.Common.{rules};
+ghost use Rattle.comemo.specs.Function.{ReadsAlone};
 
 use comemo::{
-    CacheData, Constraint, Fault, Function, FunctionOf, How, MemoOf, Recorder, Reply, Top, Track,
-    Tracked, memoized_with,
+    CacheData, Constraint, Fault, Function, FunctionOf, How, MemoOf, Recorder, Reply, Run, Top,
+    Track, memoized_with,
 };
 use comemo_samples::{Context, ContextCall};
 use std::alloc::Global;
@@ -20,13 +21,15 @@ impl Function for Location {
 
     type Out = u64;
 
-    type Needs = ();
-
     ghost use Rattle.comemo_samples.specs.declared.contexts.ContextCall.TheVariants.{Location};
 
     ghost means = { λ _ m output. output ≡ m Location };
 
     ghost laws = { Prim.search rules };
+}
+
+impl Run for Location {
+    type Needs = ();
 
     fn run(_key: &(), of: &mut Recorder<'_, Context>, _needs: &mut ()) -> Result<u64, Fault> {
         of.ask(ContextCall::Location)
@@ -41,8 +44,9 @@ pub fn call_twice<M: FunctionOf<T>, T: Track>(
     cache: &mut CacheData<M>,
     needs: &mut M::Needs,
     key: M::Key,
-    of: &Tracked<'_, T>,
+    of: &T,
 ) -> Result<(Reply<M::Out>, Reply<M::Out>), Fault>
+    requires { ReadsAlone M.def }
     ensures hit { IfOk result (λ replies. replies.0.how ≡ How.Stored → replies.1.how ≡ How.Hit) }
     ensures output { IfOk result (λ replies. replies.0.how ≡ How.Stored → (kept : M.Out)
         × M.Out.is_clone replies.0.output kept × M.Out.is_clone kept replies.1.output) }
@@ -72,30 +76,15 @@ pub fn call_around<M: FunctionOf<T>, T: Track>(
     before: &T,
     after: &T,
 ) -> Result<Around<M::Out>, Fault>
+    requires { ReadsAlone M.def }
     ensures { IfOk result (λ around. IsTrue around.valid → around.first.how ≡ How.Stored
         → around.second.how ≡ How.Hit) }
 {
     let again = key.clone()?;
     let mut asked = Constraint::new(alloc);
-    let first = memoized_with(
-        alloc,
-        cache,
-        needs,
-        key,
-        &before.track(alloc),
-        &mut asked,
-        true,
-    )?;
+    let first = memoized_with(alloc, cache, needs, key, before, &mut asked, true)?;
     let valid = asked.validate(after)?;
-    let second = memoized_with(
-        alloc,
-        cache,
-        needs,
-        again,
-        &after.track(alloc),
-        &mut Top::new(),
-        true,
-    )?;
+    let second = memoized_with(alloc, cache, needs, again, after, &mut Top::new(), true)?;
     Ok(Around {
         first,
         valid,
@@ -115,7 +104,7 @@ fn is_hit_again(alloc: Global) -> bool {
         location: 3,
         styles: 40,
     };
-    match call_twice(alloc, &mut cache, &mut (), (), &context.track(alloc)) {
+    match call_twice(alloc, &mut cache, &mut (), (), &context) {
         Ok((first, second)) => gives(first, 3, How::Stored) && gives(second, 3, How::Hit),
         Err(_) => false,
     }

@@ -2,7 +2,7 @@
 ghost use Rattle.std.specs.Prelude.{◌≡◌};
 ghost use Rattle.std.proofs.Common.{rules};
 
-use comemo::{CacheData, Constraint, Fault, Function, How, MemoOf, Recorder, Track, memoized};
+use comemo::{CacheData, Constraint, Fault, Function, How, MemoOf, Recorder, Run, Track, memoized};
 use comemo_samples::{Town, TownCall};
 use std::test::Fail;
 
@@ -34,13 +34,15 @@ impl Function for Warmth {
 
     type Out = u64;
 
-    type Needs = ();
-
     ghost use Rattle.comemo_samples.specs.declared.town.TownCall.TheVariants.{Degrees};
 
     ghost means = { λ _ m out. out ≡ m Degrees };
 
     ghost laws = { Prim.search rules };
+}
+
+impl Run for Warmth {
+    type Needs = ();
 
     fn run(_key: &(), town: &mut Recorder<'_, Town>, _needs: &mut ()) -> Result<u64, Fault> {
         let degrees = town.ask(TownCall::Degrees)?;
@@ -59,7 +61,7 @@ fn a_town_that_grows_is_as_warm(rt: HostRuntime) -> Result<(), Fail> {
     ];
     for (people, degrees, how) in calls {
         let town = Town { people, degrees };
-        let reply = memoized(alloc, &mut cache, (), &town.track(alloc))?;
+        let reply = memoized(alloc, &mut cache, (), &town)?;
         assert_eq!(rt; reply.output, degrees);
         assert_eq!(rt; reply.how, how);
     }

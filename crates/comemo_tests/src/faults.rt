@@ -6,7 +6,7 @@ ghost use Rattle.comemo.specs.Meaning.{reading};
 use crate::inputs::LocationMemo;
 use comemo::{
     Both, CacheData, Constraint, Fault, Function, FunctionOf, Memo, MemoOf, MultiAnswer, MultiCall,
-    Recorder, Sink, Top, Track, Tracked, memoize, memoized_with,
+    Recorder, Run, Sink, Top, Track, Tracked, memoize, memoized_with,
 };
 use comemo_samples::{Context, ContextCall};
 use std::alloc::Global;
@@ -21,11 +21,13 @@ impl Function for Refused {
 
     type Out = u64;
 
-    type Needs = ();
-
     ghost means = { λ _ _ _. ⊥ };
 
     ghost laws = { Prim.search rules };
+}
+
+impl Run for Refused {
+    type Needs = ();
 
     fn run(_key: &(), _of: &mut Recorder<'_, Context>, _needs: &mut ()) -> Result<u64, Fault> {
         Err(Fault::Memory)
@@ -43,11 +45,13 @@ impl Function for Failing {
 
     type Out = u64;
 
-    type Needs = CacheData<MemoOf<Refused>>;
-
     ghost means = { λ _ _ _. ⊥ };
 
     ghost laws = { Prim.search rules };
+}
+
+impl Run for Failing {
+    type Needs = CacheData<MemoOf<Refused>>;
 
     fn run(
         hands_on: &bool,
@@ -72,11 +76,13 @@ impl Function for Calling {
 
     type Out = u64;
 
-    type Needs = (CacheData<MemoOf<Failing>>, CacheData<MemoOf<Refused>>);
-
     ghost means = { λ _ _ _. ⊥ };
 
     ghost laws = { Prim.search rules };
+}
+
+impl Run for Calling {
+    type Needs = (CacheData<MemoOf<Failing>>, CacheData<MemoOf<Refused>>);
 
     fn run(
         hands_on: &bool,
@@ -107,8 +113,6 @@ impl Memo for CallingOfPart {
 
 impl<'a> FunctionOf<Both<'a, Context, Context>> for CallingOfPart {
     type Needs = (CacheData<MemoOf<Failing>>, CacheData<MemoOf<Refused>>);
-
-    ghost reads = { λ key m output writes right. right.0 };
 
     fn run(
         key: &(bool, bool),
@@ -168,7 +172,7 @@ fn is_told_of_spoiled(alloc: Global) -> bool {
 }
 
 /// Whether the caller of a function with this key gets this fault, and its own recording is incomplete then.
-fn is_told<F: Function<Key = bool, Of = Context, Out = u64>>(
+fn is_told<F: Run<Key = bool, Of = Context, Out = u64>>(
     alloc: Global,
     needs: &mut F::Needs,
     hands_on: bool,
@@ -181,7 +185,7 @@ fn is_told<F: Function<Key = bool, Of = Context, Out = u64>>(
         &mut cache,
         needs,
         hands_on,
-        &context().track(alloc),
+        &context(),
         &mut outer,
         true,
     );
@@ -202,7 +206,7 @@ fn is_told_of_part(alloc: Global, key: (bool, bool), fault: Fault) -> bool {
         &mut cache,
         &mut kept,
         key,
-        &both.track(alloc),
+        &both,
         &mut Top::new(),
         true,
     );

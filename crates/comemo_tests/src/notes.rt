@@ -3,28 +3,31 @@ ghost use Rattle.std.specs.Prelude.{◌≡◌, ◌+◌, ◌%◌, ◌^◌, [], �
 ghost use Rattle.std.proofs.Common.{rules};
 ghost use Rattle.comemo.specs.MeaningLaws.{exact_laws, exact_memo_laws};
 
-use comemo::{Fault, FunctionMut, Memo, RecorderMut};
+use comemo::{Fault, Function, Memo, RecorderMut, RunMut};
 use comemo_samples::{CounterCall, Notebook, NotebookCall};
 
 /// Notes a number, the owner's number, and the first number again. Returns the owner's number.
 pub struct NotesThree;
 
-impl FunctionMut for NotesThree {
+impl Function for NotesThree {
     type Key = u64;
 
     type Of = Notebook;
 
     type Out = u64;
 
-    type Needs = ();
-
     ghost use Rattle.comemo_samples.specs.declared.notebook.NotebookCall.TheVariants.{Owner, Note};
 
-    ghost means = { λ n m out writes. (out ≡ m Owner)
-        × (writes ≡ Note n ∷ Note (m Owner) ∷ Note n ∷ []) };
+    ghost means = { λ _ m out. out ≡ m Owner };
+
+    ghost writes = { λ n m _ W. W ≡ Note n ∷ Note (m Owner) ∷ Note n ∷ [] };
 
     ghost laws = { exact_laws (λ x y h. Prim.search rules) (λ x y h. Prim.search rules)
         (λ x y h. Prim.search rules) (λ a b h. Prim.search rules) };
+}
+
+impl RunMut for NotesThree {
+    type Needs = ();
 
     fn run(
         n: &u64,

@@ -2,7 +2,7 @@
 
 use crate::stopwatch::{Seen, Stopwatch};
 use crate::sums::{SumKey, SumMemo, sum};
-use comemo::{CacheData, Fault, Track};
+use comemo::{CacheData, Fault};
 use comemo_samples::Cells;
 use std::alloc::Global;
 use std::rt::Clock;
@@ -56,7 +56,7 @@ fn call(
             (1, 1)
         }
     };
-    sum(alloc, cache, SumKey { start, count }, &cells.track(alloc))
+    sum(alloc, cache, SumKey { start, count }, cells)
 }
 
 /// Evicts from a cache of sums. The result is the number of entries left.

@@ -7,7 +7,7 @@ use crate::stopwatch::{Seen, Stopwatch};
 use crate::sums::{SumKey, SumMemo, sum};
 use crate::texts::{text_by_kept_number, text_by_number, text_itself};
 use crate::workload::Workload;
-use comemo::{CacheData, Fault, Track, Tracked};
+use comemo::{CacheData, Fault};
 use comemo_samples::Cells;
 use std::alloc::Global;
 use std::rt::Clock;
@@ -57,12 +57,11 @@ fn hit_same_view<R: Clock>(
     let cells = Cells::new(alloc, CELLS)?;
     let mut cache: CacheData<SumMemo> = CacheData::new(alloc);
     let key = SumKey { start: 1, count };
-    let view = cells.track(alloc);
-    sum(alloc, &mut cache, key, &view)?;
+    sum(alloc, &mut cache, key, &cells)?;
     let watch = Stopwatch::start(rt);
     let mut all: u64 = 0;
     for _ in 0..operations {
-        all = all.wrapping_add(sum(alloc, &mut cache, key, &view)?);
+        all = all.wrapping_add(sum(alloc, &mut cache, key, &cells)?);
     }
     Ok(watch.seen(rt, all))
 }
@@ -77,11 +76,11 @@ fn hit_new_view<R: Clock>(
     let cells = Cells::new(alloc, CELLS)?;
     let mut cache: CacheData<SumMemo> = CacheData::new(alloc);
     let key = SumKey { start: 1, count };
-    sum(alloc, &mut cache, key, &cells.track(alloc))?;
+    sum(alloc, &mut cache, key, &cells)?;
     let watch = Stopwatch::start(rt);
     let mut all: u64 = 0;
     for _ in 0..operations {
-        all = all.wrapping_add(sum(alloc, &mut cache, key, &cells.track(alloc))?);
+        all = all.wrapping_add(sum(alloc, &mut cache, key, &cells)?);
     }
     Ok(watch.seen(rt, all))
 }
@@ -90,13 +89,13 @@ fn hit_new_view<R: Clock>(
 fn sums_of_keys(
     alloc: Global,
     cache: &mut CacheData<SumMemo>,
-    view: &Tracked<'_, Cells>,
+    cells: &Cells,
     count: u32,
     operations: u64,
 ) -> Result<u64, Fault> {
     let mut all: u64 = 0;
     for start in 0..operations {
-        all = all.wrapping_add(sum(alloc, cache, SumKey { start, count }, view)?);
+        all = all.wrapping_add(sum(alloc, cache, SumKey { start, count }, cells)?);
     }
     Ok(all)
 }
@@ -110,11 +109,10 @@ fn miss_new_keys<R: Clock>(
 ) -> Result<Seen, Fault> {
     let cells = Cells::new(alloc, CELLS)?;
     let mut cache: CacheData<SumMemo> = CacheData::new(alloc);
-    let view = cells.track(alloc);
-    sums_of_keys(alloc, &mut cache, &view, count, operations)?;
+    sums_of_keys(alloc, &mut cache, &cells, count, operations)?;
     cache.evict(0);
     let watch = Stopwatch::start(rt);
-    let all = sums_of_keys(alloc, &mut cache, &view, count, operations)?;
+    let all = sums_of_keys(alloc, &mut cache, &cells, count, operations)?;
     Ok(watch.seen(rt, all))
 }
 
@@ -130,7 +128,7 @@ fn sums_of_last(
     let mut all: u64 = 0;
     for number in 0..operations {
         cells.set(9, number);
-        all = all.wrapping_add(sum(alloc, cache, key, &cells.track(alloc))?);
+        all = all.wrapping_add(sum(alloc, cache, key, &cells)?);
     }
     Ok(all)
 }
@@ -163,13 +161,13 @@ fn hit_among<R: Clock>(
     let key = SumKey { start: 1, count: 1 };
     for number in 0..entries {
         cells.set(0, number);
-        sum(alloc, &mut cache, key, &cells.track(alloc))?;
+        sum(alloc, &mut cache, key, &cells)?;
     }
     let watch = Stopwatch::start(rt);
     let mut all: u64 = 0;
     for hit in 0..operations {
         cells.set(0, scattered(hit, entries));
-        all = all.wrapping_add(sum(alloc, &mut cache, key, &cells.track(alloc))?);
+        all = all.wrapping_add(sum(alloc, &mut cache, key, &cells)?);
     }
     Ok(watch.seen(rt, all))
 }
@@ -183,16 +181,15 @@ fn hit_among_keys<R: Clock>(
 ) -> Result<Seen, Fault> {
     let cells = Cells::new(alloc, CELLS)?;
     let mut cache: CacheData<SumMemo> = CacheData::new(alloc);
-    let view = cells.track(alloc);
     let count = 1;
     for start in 0..keys {
-        sum(alloc, &mut cache, SumKey { start, count }, &view)?;
+        sum(alloc, &mut cache, SumKey { start, count }, &cells)?;
     }
     let watch = Stopwatch::start(rt);
     let mut all: u64 = 0;
     for hit in 0..operations {
         let start = scattered(hit, keys);
-        all = all.wrapping_add(sum(alloc, &mut cache, SumKey { start, count }, &view)?);
+        all = all.wrapping_add(sum(alloc, &mut cache, SumKey { start, count }, &cells)?);
     }
     Ok(watch.seen(rt, all))
 }

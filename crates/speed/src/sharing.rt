@@ -2,7 +2,7 @@
 
 use crate::stopwatch::{Seen, Stopwatch};
 use crate::sums::{SumKey, SumMemo, sum};
-use comemo::{Cache, Fault, Track};
+use comemo::{Cache, Fault};
 use comemo_samples::Cells;
 use std::alloc::Global;
 use std::rt::Clock;
@@ -58,13 +58,12 @@ fn add_up<R: Wait>(
     share: Share,
     thread: u64,
 ) -> Result<u64, Fault> {
-    let view = cells.track(alloc);
     let held = &mut cache.hold(rt);
     let count = share.count;
     let mut all: u64 = 0;
     for step in 0..share.each {
         let start = share.start(thread, step);
-        all = all.wrapping_add(sum(alloc, held, SumKey { start, count }, &view)?);
+        all = all.wrapping_add(sum(alloc, held, SumKey { start, count }, cells)?);
     }
     Ok(all)
 }
@@ -77,9 +76,8 @@ fn keep_sums<R: Wait>(
     cells: &Cells,
     count: u32,
 ) -> Result<(), Fault> {
-    let view = cells.track(alloc);
     for start in 0..KEYS {
-        sum(alloc, &mut cache.hold(rt), SumKey { start, count }, &view)?;
+        sum(alloc, &mut cache.hold(rt), SumKey { start, count }, cells)?;
     }
     Ok(())
 }

@@ -2,7 +2,7 @@
 ghost use Rattle.std.specs.Prelude.{⊤};
 ghost use Rattle.std.proofs.Common.{rules};
 
-use comemo::{Fault, Function, Hold, MemoOf, Recorder, Tracked, memoized};
+use comemo::{Fault, Function, Hold, MemoOf, Recorder, Run, memoized};
 use comemo_samples::{Cells, Get};
 use std::alloc::Global;
 
@@ -27,11 +27,13 @@ impl Function for SumOfCells {
 
     type Out = u64;
 
-    type Needs = ();
-
     ghost means = { λ _ _ _. ⊤ };
 
     ghost laws = { Prim.search rules };
+}
+
+impl Run for SumOfCells {
+    type Needs = ();
 
     fn run(key: &SumKey, cells: &mut Recorder<'_, Cells>, _needs: &mut ()) -> Result<u64, Fault> {
         let mut sum = key.start;
@@ -51,7 +53,7 @@ pub fn sum<H: Hold<SumMemo>>(
     alloc: Global,
     cache: &mut H,
     key: SumKey,
-    cells: &Tracked<'_, Cells>,
+    cells: &Cells,
 ) -> Result<u64, Fault> {
     let reply = memoized(alloc, cache, key, cells)?;
     Ok(reply.output)

@@ -3,7 +3,7 @@ ghost use Rattle.std.specs.Prelude.{◌≡◌, nat_lt, IfOk};
 ghost use Rattle.std.proofs.Common.{rules};
 
 use crate::weather::{Weather, WeatherCall};
-use comemo::{CacheData, Fault, Function, MemoOf, Recorder, Track, memoized};
+use comemo::{CacheData, Fault, Function, MemoOf, Recorder, Run, memoized};
 use std::alloc::Global;
 
 /// Whether it is colder than so many degrees.
@@ -16,13 +16,15 @@ impl Function for Coat {
 
     type Out = bool;
 
-    type Needs = ();
-
     ghost use Rattle.weather.specs.declared.weather.WeatherCall.TheVariants.{Degrees};
 
     ghost means = { λ least m out. out ≡ nat_lt (m Degrees) least };
 
     ghost laws = { Prim.search rules };
+}
+
+impl Run for Coat {
+    type Needs = ();
 
     fn run(least: &u64, of: &mut Recorder<'_, Weather>, _needs: &mut ()) -> Result<bool, Fault> {
         let degrees = of.ask(WeatherCall::Degrees)?;
@@ -39,6 +41,6 @@ pub fn takes_coat(
 ) -> Result<bool, Fault>
     ensures { IfOk result (λ takes. takes ≡ nat_lt weather.now.degrees least) }
 {
-    let reply = memoized(alloc, cache, least, &weather.track(alloc))?;
+    let reply = memoized(alloc, cache, least, weather)?;
     Ok(reply.output)
 }

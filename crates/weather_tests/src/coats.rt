@@ -1,6 +1,6 @@
 //! Which calls ran, and which were answered from the cache.
 
-use comemo::{CacheData, How, MemoOf, Track, memoized};
+use comemo::{CacheData, How, MemoOf, memoized};
 use std::test::Fail;
 use weather::coat::{Coat, takes_coat};
 use weather::weather::Weather;
@@ -15,7 +15,7 @@ fn a_coat_is_kept_whatever_the_wind(rt: HostRuntime) -> Result<(), Fail> {
         (20, 50, false, How::Stored),
     ] {
         let weather = Weather { degrees, wind };
-        let reply = memoized(alloc, &mut cache, 10, &weather.track(alloc))?;
+        let reply = memoized(alloc, &mut cache, 10, &weather)?;
         assert_eq!(rt; reply.output, takes);
         assert_eq!(rt; reply.how, how);
         let takes_one = takes_coat(alloc, &mut cache, 10, &weather)?;

@@ -1,50 +1,13 @@
-use Rattle.std.proofs.Math.Logic.{⊎_map}
-use Rattle.std.proofs.Common.{[], inl, subst}
-use Rattle.comemo.proofs.Calls.{reply_by_hit, reply_by_own_run, broke_at_begin, on_fault, for_memory, never_stops}
-use Rattle.comemo_cache.proofs.Sendings.{mapped}
-use Rattle.comemo.proofs.Closures.{err_with}
-use Rattle.comemo_cache.proofs.Holding.{held_map, some_held, some_led, of_led, stayed, led_by, led_from}
 use Rattle.comemo.proofs.function.memoized_with.Goals as goal
 
-pub returns-in-Ok-Hit-clause-reply : goal.returns-in-Ok-Hit-clause-reply
-returns-in-Ok-Hit-clause-reply g c =
-    let hit = rw (c.in-Ok-Hit.is, c.in-Ok-Hit.field-0-is) at c.look_up.ensures.hit in
-    rw (← c.fork.ensures) (led_from (g.H.Hold.entries c.args.cache.now) (g.H.Hold.entries c.look_up.new.cache) _ _ (λ es es' found. reply_by_hit g.met.T.Call.Eq.laws g.met.T.Answer.Eq.laws es es' found.0 found.1) hit)
+pub returns-clause-right : goal.returns-clause-right
+returns-clause-right g c = rw c.track.ensures at c.memoized_view.ensures.right
 
-pub returns-in-Ok-Hit-clause-right : goal.returns-in-Ok-Hit-clause-right
-returns-in-Ok-Hit-clause-right g c =
-    let hit = (some_led (g.H.Hold.entries c.args.cache.now) (g.H.Hold.entries c.look_up.new.cache) _ (rw (c.in-Ok-Hit.is, c.in-Ok-Hit.field-0-is) at c.look_up.ensures.hit)).2.0 in
-    rw (← c.fork.ensures) (subst (λ ws. g.M.Memo.def c.args.key (g.T.Track.answers c.fork.result) c.in-Ok-Hit.output ws) (g.met.M.FunctionOf.reads c.args.key (g.T.Track.answers c.fork.result) c.in-Ok-Hit.output hit.writes hit.right) hit.right)
-
-pub returns-in-Ok-Run-clause-right : goal.returns-in-Ok-Run-clause-right
-returns-in-Ok-Run-clause-right g c =
-    let run = rw (c.in-Ok-Run.is, c.in-Ok-Run.field-0-is) at c.look_up.ensures.run in
-    let has = (some_held (g.H.Hold.entries c.args.cache.now) _ run.0).1 in
-    let m = g.T.Track.answers c.args.of.now in
-    let respects = g.met.T.Track.alike c.args.of.now in
-    mapped (λ reply ran. of_led (g.H.Hold.entries c.look_up.new.cache) (g.H.Hold.entries c.run_kept.new.cache) _ (λ es es' is. has.right m reply.output [] respects (is.stands m respects is.agrees)) ran) c.run_kept.result c.run_kept.ensures.ran
-
-pub returns-in-Ok-Run-clause-reply : goal.returns-in-Ok-Run-clause-reply
-returns-in-Ok-Run-clause-reply g c =
-    let run = rw (c.in-Ok-Run.is, c.in-Ok-Run.field-0-is, c.fork.ensures) at c.look_up.ensures.run in
-    mapped (λ reply ran. led_by (g.H.Hold.entries c.args.cache.now) (g.H.Hold.entries c.args.cache.now) (g.H.Hold.entries c.run_kept.new.cache) _ _ _ (λ es mid es' has is. reply_by_own_run has is) run.0 ran) c.run_kept.result (rw (stayed (g.H.Hold.entries c.args.cache.now) (g.H.Hold.entries c.look_up.new.cache) run.3) at (rw run.2 at c.run_kept.ensures.ran))
-
-pub returns-in-Ok-Run-clause-err : goal.returns-in-Ok-Run-clause-err
-returns-in-Ok-Run-clause-err g c =
-    let run = rw (c.in-Ok-Run.is, c.in-Ok-Run.field-0-is) at c.look_up.ensures.run in
-    rw (stayed (g.H.Hold.entries c.args.cache.now) (g.H.Hold.entries c.look_up.new.cache) run.3) at (rw run.2 at c.run_kept.ensures.err)
-
-pub returns-clause-err : goal.returns-clause-err
-returns-clause-err g c =
-    let err = (rw c.in-Err.is at c.look_up.ensures.err) in
-    (on_fault c.in-Err.fault err (λ memory. (memory.0, rw (← c.fork.ensures) (broke_at_begin (some_held (g.H.Hold.entries c.args.cache.now) _ memory.2).1))) (λ write. absurd (never_stops (g.met.T.Track.alike c.fork.result) (λ output writes d. g.met.M.FunctionOf.reads c.args.key (g.T.Track.answers c.fork.result) output writes d) (some_led (g.H.Hold.entries c.args.cache.now) (g.H.Hold.entries c.look_up.new.cache) _ write).2.1)))
-
-pub returns-in-Ok-Run-clause-fault : goal.returns-in-Ok-Run-clause-fault
-returns-in-Ok-Run-clause-fault g c =
-    let run = rw (c.in-Ok-Run.is, c.in-Ok-Run.field-0-is, c.fork.ensures) at c.look_up.ensures.run in
-    err_with (λ f e which. ⊎_map (λ memory. memory) (λ spoils. held_map (g.H.Hold.entries c.args.cache.now) _ _ (λ es has. (has.none, spoils)) run.0) which) c.run_kept.result c.run_kept.ensures.err (rw run.2 at c.run_kept.ensures.fault)
+pub returns-clause-reply : goal.returns-clause-reply
+returns-clause-reply g c = rw c.track.ensures at c.memoized_view.ensures.reply
 
 pub returns-clause-fault : goal.returns-clause-fault
-returns-clause-fault g c =
-    let err = (rw c.in-Err.is at c.look_up.ensures.err) in
-    inl (for_memory c.in-Err.fault _ err (λ write. never_stops (g.met.T.Track.alike c.fork.result) (λ output writes d. g.met.M.FunctionOf.reads c.args.key (g.T.Track.answers c.fork.result) output writes d) (some_led (g.H.Hold.entries c.args.cache.now) (g.H.Hold.entries c.look_up.new.cache) _ write).2.1))
+returns-clause-fault g c = rw c.track.ensures at c.memoized_view.ensures.fault
+
+pub returns-clause-err : goal.returns-clause-err
+returns-clause-err g c = rw c.track.ensures at c.memoized_view.ensures.err
