@@ -8,7 +8,7 @@ use crate::lent::LentKey;
 use comemo_cache::cache::{Meant, Memo};
 use comemo_cache::explain::Explanation;
 use comemo_cache::hold::Hold;
-use comemo_track::track::{Track, Tracked};
+use comemo_track::track::Track;
 use std::alloc::{AllocError, Global};
 
 /// Returns why a call with these arguments is a hit or a run, without running anything. Nothing changes. Fails if an
@@ -17,7 +17,7 @@ pub fn explain<M: Memo<Call = T::Call, Answer = T::Answer>, H: Hold<M>, T: Track
     alloc: Global,
     cache: &mut H,
     key: &M::Key,
-    of: &Tracked<'_, T>,
+    of: &T,
 ) -> Result<Explanation<T::Call, T::Answer>, AllocError>
     ensures explains { IfOk result (λ said. Held (H.entries cache.old) (λ es.
         Explains ⟦<M as Meant>⟧.meaning es (invocation key.now (T.answers of.now) true) said)) }
@@ -25,7 +25,7 @@ pub fn explain<M: Memo<Call = T::Call, Answer = T::Answer>, H: Hold<M>, T: Track
 {
     let mut input = LentKey {
         key,
-        view: of.fork(alloc),
+        view: of.track(alloc),
     };
     cache.explain(alloc, key, &mut input)
 }

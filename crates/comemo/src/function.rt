@@ -303,7 +303,7 @@ pub fn memoized_with<
     memoized_view(alloc, cache, needs, key, &of.track(alloc), sink, enabled)
 }
 
-/// Calls a memoized function of a value that is viewed: `memoized_with`, which says what stands.
+/// As `memoized_with`, for a view of the value.
 pub(crate) fn memoized_view<
     M: FunctionOf<T>,
     H: Hold<M>,

@@ -47,9 +47,7 @@ impl<T: Track> ToldMut for T {
     ghost took = { Took T.Call.eq T.Call.touches };
 }
 
-/// How a memoized function that reads and writes is done: a `Function` whose `writes` says which writes are right.
-///
-/// How a function that also writes is done. It states by `writes` which writes are right.
+/// How a function that also writes is done. Its `writes` states which writes are right.
 pub trait RunMut: Function {
     /// What a run needs besides its arguments: the caches of the functions that it calls, or `()`.
     type Needs;

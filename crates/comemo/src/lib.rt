@@ -19,7 +19,7 @@
 //!     ];
 //!     for (people, degrees, how) in calls {
 //!         let town = Town { people, degrees };
-//!         let reply = memoized(alloc, &mut cache, (), &town.track(alloc))?;
+//!         let reply = memoized(alloc, &mut cache, (), &town)?;
 //!         assert_eq!(rt; reply.output, degrees);
 //!         assert_eq!(rt; reply.how, how);
 //!     }

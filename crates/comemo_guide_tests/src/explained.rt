@@ -1,6 +1,6 @@
 //! Why a call is a hit or a run.
 
-use comemo::{Cache, CacheData, Explanation, Hold, MemoOf, Top, Track, explain, memoized_with};
+use comemo::{Cache, CacheData, Explanation, Hold, MemoOf, Top, explain, memoized_with};
 use comemo_guide::named::Sum;
 use comemo_samples::{Context, ContextCall};
 use std::alloc::Global;
@@ -22,7 +22,7 @@ fn says<H: Hold<MemoOf<Sum>>>(
     wanted: &Said<'_>,
 ) -> bool {
     let context = Context { location, styles };
-    match (explain(alloc, cache, &(), &context.track(alloc)), wanted) {
+    match (explain(alloc, cache, &(), &context), wanted) {
         (Ok(Explanation::Hit), Said::Hit) => true,
         (Ok(Explanation::NeverKept), Said::NeverKept) => true,
         (
@@ -48,8 +48,15 @@ fn sums<H: Hold<MemoOf<Sum>>>(
 ) -> bool {
     let context = Context { location, styles };
     let mut first = ContextCall::Location;
-    let view = context.track(alloc);
-    match memoized_with(alloc, cache, &mut first, (), &view, &mut Top::new(), true) {
+    match memoized_with(
+        alloc,
+        cache,
+        &mut first,
+        (),
+        &context,
+        &mut Top::new(),
+        true,
+    ) {
         Ok(reply) => reply.output == sum,
         Err(_) => false,
     }

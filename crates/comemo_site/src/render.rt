@@ -12,13 +12,13 @@ use crate::site::{Site, SiteCall};
 use crate::text::Text;
 use crate::title::Title;
 use comemo::internal::Told;
-use comemo::{Begun, CacheData, Fault, Hold, MemoOf, MemoOfRecursive, Recorder, Recursive, Track};
+use comemo::{Begun, CacheData, Fault, Function, Hold, MemoOf, Recorder, Track};
 use std::alloc::{AllocError, Global};
 
 /// The text of a page, with the pages that it includes. The key is a name and the depth up to which it goes.
 pub struct Render;
 
-impl Recursive for Render {
+impl Function for Render {
     type Key = (Text, u64);
 
     type Of = Site;
@@ -31,11 +31,11 @@ impl Recursive for Render {
 }
 
 /// The caches of rendering: of pages and of titles.
-pub type Kept = (CacheData<MemoOfRecursive<Render>>, CacheData<MemoOf<Title>>);
+pub type Kept = (CacheData<MemoOf<Render>>, CacheData<MemoOf<Title>>);
 
 /// The text of the page of a name, through caches, with the pages that it includes up to a depth of `limit`.
 #[cycle(rendering)]
-pub fn rendered<P: Hold<MemoOfRecursive<Render>>, T: Hold<MemoOf<Title>>>(
+pub fn rendered<P: Hold<MemoOf<Render>>, T: Hold<MemoOf<Title>>>(
     alloc: Global,
     kept: &mut (P, T),
     name: Text,
@@ -66,7 +66,7 @@ pub fn rendered<P: Hold<MemoOfRecursive<Render>>, T: Hold<MemoOf<Title>>>(
 
 /// The text of a line, with the page that it includes up to a depth of `limit`.
 #[cycle(rendering)]
-fn line_rendered<P: Hold<MemoOfRecursive<Render>>, T: Hold<MemoOf<Title>>>(
+fn line_rendered<P: Hold<MemoOf<Render>>, T: Hold<MemoOf<Title>>>(
     alloc: Global,
     kept: &mut (P, T),
     line: &Line,
@@ -121,7 +121,7 @@ fn linked(alloc: Global, title: Option<Text>, name: &Text) -> Result<Text, Alloc
 }
 
 /// The text of a page of a site as it is, with the pages that it includes up to a depth of `limit`.
-pub fn page_now<P: Hold<MemoOfRecursive<Render>>, T: Hold<MemoOf<Title>>>(
+pub fn page_now<P: Hold<MemoOf<Render>>, T: Hold<MemoOf<Title>>>(
     alloc: Global,
     kept: &mut (P, T),
     site: &Site,

@@ -6,7 +6,7 @@ ghost use Rattle.comemo_site.specs.declared.site.SiteCall.TheVariants.{TitleOf};
 
 use crate::site::{Site, SiteCall};
 use crate::text::Text;
-use comemo::{Fault, Function, Recorder};
+use comemo::{Fault, Function, Recorder, Run};
 
 /// The title of the page of a name; `None` if there is no such page.
 pub struct Title;
@@ -18,11 +18,13 @@ impl Function for Title {
 
     type Out = Option<Text>;
 
-    type Needs = ();
-
     ghost means = { λ key m out. out ≡ title_in (m (TitleOf key.0)) };
 
     ghost laws = { Prim.search rules };
+}
+
+impl Run for Title {
+    type Needs = ();
 
     fn run(
         key: &(Text, ()),
