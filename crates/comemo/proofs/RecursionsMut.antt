@@ -74,6 +74,20 @@ module _ {V C R : Type 0} {did : V → V → List C → Type 0} {touches : C →
       failed_after f (Ok y) b h = absurd h
       failed_after f (Err g) b e = record { goes = goes_both a.goes b.goes; before = tt; told = tt; whole = tt; fault = λ is. b.fault (sym e ∙ is) }
 
+      -- so did a call of a function that writes
+      pub stopped_after : {Y Z : Type 0} (f : Fault) (r : Result Z Fault) {Q : Y → (C → R) → List C → Type 0} {S : Z → (C → R) → List C → Type 0} → (let failed : Result Y Fault = Err f in TellsWrites (Goes did touches same answers) fits t u failed Q) → IsErrAnd r (λ g. g ≡ f) → TellsWrites (Goes did touches same answers) fits s u r S
+      stopped_after f (Ok y) b h = absurd h
+      stopped_after f (Err g) b e = record { goes = goes_both a.goes b.goes; before = tt; told = tt; whole = tt; fault = λ is. b.fault (sym e ∙ is) }
+
+    -- a step, after which memory is out
+    pub memory_after : {P : X → (C → R) → List C → Type 0} → TellsWrites (Goes did touches same answers) fits s t (Ok x) P → {Z : Type 0} (r : Result Z Fault) {S : Z → (C → R) → List C → Type 0} → IsErrAnd r (λ g. g ≡ fault.Memory) → TellsWrites (Goes did touches same answers) fits s t r S
+    memory_after a (Ok z) h = absurd h
+    memory_after a (Err g) e = record { goes = a.goes; before = tt; told = tt; whole = tt; fault = λ is. let no : fault.Memory ≡ fault.Incomplete = sym e ∙ is in cc }
+
+    -- another output, right by the same writes
+    pub writes_to : {Y : Type 0} {y : Y} {P : X → (C → R) → List C → Type 0} {Q : Y → (C → R) → List C → Type 0} → TellsWrites (Goes did touches same answers) fits s t (Ok x) P → ((m : C → R) (W : List C) → fits t.recording.now m → P x m W → Q y m W) → TellsWrites (Goes did touches same answers) fits s t (Ok y) Q
+    writes_to a so = record { goes = a.goes; before = a.before; told = λ m f. let k = a.told m f in (k.0, k.1, so m k.0 f k.2); whole = a.whole; fault = tt }
+
   -- a question writes nothing
   pub asked : {s t : Lent V C R} {x : R} {P : R → (C → R) → Type 0} → TellsMut (Goes did touches same answers) fits s t (Ok x) P → (eq reach : C → C → Bool) (like : R → R → Bool) (m : C → R) (call : C) → Asks like m call x (Took eq reach s.recording.now t.recording.now) → TellsWrites (Goes did touches same answers) fits s t (Ok x) (λ y n W. (W ≡ []) × P y n)
   asked a eq reach like m call k = record { goes = a.goes; before = a.before; told = λ n f. ([], k.sent.writes, (refl, a.told n f)); whole = k.sent.whole; fault = tt }

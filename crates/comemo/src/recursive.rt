@@ -3,10 +3,10 @@ ghost use Rattle.std.specs.Prelude.{◌≡◌, [], true, false, List, IsTrue, If
 ghost use Rattle.comemo.specs.Called.{HeldReply};
 ghost use Rattle.comemo_cache.specs.Meaning.{IsNamedRun, invocation, run};
 ghost use Rattle.comemo_cache.specs.Held.{Held, Leads, Stays};
-ghost use Rattle.comemo.specs.Function.{WritesNone};
+ghost use Rattle.comemo.specs.Function.{ReadsAlone, WritesNone};
 ghost use Rattle.comemo.specs.Recursive.{TellsOwn, TellsFrom, OnCallBegun, Starts, FinishedAs};
 
-use crate::function::{Function, MemoOf, Recorder, Told};
+use crate::function::{Function, FunctionOf, MemoOf, Recorder, Told};
 use crate::lent::LentKey;
 use crate::pending::{Begun, Fault, How, Pending, Reply, look_up};
 use comemo_cache::cache::Meant;
@@ -139,5 +139,30 @@ impl<'a, T: Track> Recorder<'a, T> {
         };
         let reply = pending.finish(cache, &mut self.recording, output)?;
         Ok(reply)
+    }
+
+    /// As `call`, for a function that calls itself: `Incomplete` is returned as `Memory`, since the fault may end a run
+    /// whose own recording is complete.
+    pub fn call_other<G: FunctionOf<T>, H: Hold<G>>(
+        &mut self,
+        cache: &mut H,
+        needs: &mut G::Needs,
+        key: G::Key,
+    ) -> Result<G::Out, Fault>
+        requires { ReadsAlone G.def }
+        ensures tells { TellsOwn ⟦<T as Told>⟧.fits self.old self.new result
+            (λ output m. G.def key m output []) }
+        ensures reply { IfOk result (λ output. (reply : Reply G.Out) × (reply.output ≡ output)
+            × HeldReply ⟦<G as Meant>⟧.meaning (invocation key (T.answers self.old.value) true)
+            (H.entries cache.old)
+            (⟦<T as Told>⟧.took self.old self.new) reply (H.entries cache.new)) }
+        ensures err { OnErr result (Stays (H.entries cache.old) (H.entries cache.new)
+            × ⟦<T as Told>⟧.broke_off self.old self.new) }
+    {
+        match self.call(cache, needs, key) {
+            Ok(output) => Ok(output),
+            Err(Fault::Incomplete) => Err(Fault::Memory),
+            Err(fault) => Err(fault),
+        }
     }
 }
