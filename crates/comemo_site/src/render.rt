@@ -3,8 +3,7 @@
 ghost use Rattle.std.specs.Prelude.{◌≡◌, ◌++◌, ◌∷◌, [], string_bytes, unwrap_or, IfOk};
 ghost use Rattle.std.proofs.Common.{rules};
 ghost use Rattle.comemo.specs.Recursive.{TellsOwn};
-ghost use Rattle.comemo_site.specs.Sites.{site_answer, title_in};
-ghost use Rattle.comemo_site.specs.declared.site.SiteCall.TheVariants.{TitleOf};
+ghost use Rattle.comemo_site.specs.Sites.{site_answer};
 ghost use Rattle.comemo_site.specs.Pages.{line_text, page_text};
 
 use crate::line::Line;
@@ -80,24 +79,9 @@ fn line_rendered<P: Hold<MemoOf<Render>>, T: Hold<MemoOf<Title>>>(
         Line::Words(words) => Ok(ended(alloc, words)?),
         Line::Include(name) => rendered(alloc, kept, name.clone()?, limit, site),
         Line::Link(name) => {
-            let title = titled(&mut kept.1, name, site)?;
+            let title = site.call_other(&mut kept.1, &mut (), (name.clone()?, ()))?;
             Ok(linked(alloc, title, name)?)
         }
-    }
-}
-
-/// The title of a page, through a cache.
-fn titled<T: Hold<MemoOf<Title>>>(
-    titles: &mut T,
-    name: &Text,
-    site: &mut Recorder<'_, Site>,
-) -> Result<Option<Text>, Fault>
-    ensures { TellsOwn ⟦<Site as Told>⟧.fits site.old site.new result
-        (λ title m. title ≡ title_in (m (TitleOf name.now))) }
-{
-    match site.call(titles, &mut (), (name.clone()?, ())) {
-        Ok(title) => Ok(title),
-        Err(_) => Err(Fault::Memory),
     }
 }
 
