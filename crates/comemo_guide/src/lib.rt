@@ -24,6 +24,7 @@
 #![tactic(auto)]
 
 pub mod adding;
+pub mod all_equal;
 pub mod both_pass;
 pub mod chains;
 pub mod double;
