@@ -25,6 +25,7 @@
 
 pub mod adding;
 pub mod both_pass;
+pub mod both_written;
 pub mod chains;
 pub mod double;
 pub mod greetings;
