@@ -48,9 +48,9 @@ impl<'a, 'b, 'c, A: Track, B: Track> RecorderMut<'a, 'b, BothMut<'c, A, B>> {
             self.old.recording.now self.new.recording.now [] []) }
     {
         let value = &mut *self.value;
-        let mut view = value.first.track_mut(self.alloc);
+        let mut first = value.first.track_mut(self.alloc);
         let mut sink = MappedSink::new(&mut *self.recording, First::new());
-        Ok(view.ask(call, &mut sink)?)
+        Ok(first.ask(call, &mut sink)?)
     }
 
     /// Asks the second value a read, and records it, as `RecorderMut::ask`.
@@ -76,9 +76,9 @@ impl<'a, 'b, 'c, A: Track, B: Track> RecorderMut<'a, 'b, BothMut<'c, A, B>> {
             self.old.recording.now self.new.recording.now [] []) }
     {
         let value = &mut *self.value;
-        let mut view = value.second.track_mut(self.alloc);
+        let mut second = value.second.track_mut(self.alloc);
         let mut sink = MappedSink::new(&mut *self.recording, Second::new());
-        Ok(view.ask(call, &mut sink)?)
+        Ok(second.ask(call, &mut sink)?)
     }
 
     /// Does a write on the first value, and records it, as `RecorderMut::write`.
@@ -102,9 +102,9 @@ impl<'a, 'b, 'c, A: Track, B: Track> RecorderMut<'a, 'b, BothMut<'c, A, B>> {
             self.old.recording.now self.new.recording.now [] []) }
     {
         let value = &mut *self.value;
-        let mut view = value.first.track_mut(self.alloc);
+        let mut first = value.first.track_mut(self.alloc);
         let mut sink = MappedSink::new(&mut *self.recording, First::new());
-        view.write(call, &mut sink)?;
+        first.write(call, &mut sink)?;
         Ok(())
     }
 
@@ -129,9 +129,9 @@ impl<'a, 'b, 'c, A: Track, B: Track> RecorderMut<'a, 'b, BothMut<'c, A, B>> {
             self.old.recording.now self.new.recording.now [] []) }
     {
         let value = &mut *self.value;
-        let mut view = value.second.track_mut(self.alloc);
+        let mut second = value.second.track_mut(self.alloc);
         let mut sink = MappedSink::new(&mut *self.recording, Second::new());
-        view.write(call, &mut sink)?;
+        second.write(call, &mut sink)?;
         Ok(())
     }
 

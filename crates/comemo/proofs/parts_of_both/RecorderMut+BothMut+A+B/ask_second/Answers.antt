@@ -36,13 +36,13 @@ parts g = record {
 }
 
 pub returns-clause-agrees : goal.returns-clause-agrees
-returns-clause-agrees g c = asked_second_begun (both_mut (parts g)) refl refl c.requires.agrees (ap (λ v. second_mut_as c.args.self.now.value.now v) (ap (λ view. (place_of view).now) c.ask.ensures.same ∙ c.track_mut-view.ensures.value)) c.args.call c.requires.read c.in_ok-ask.field-0 (asks_as (λ P W took. rw c.drop-sink-2.ensures (rw c.new-sink.ensures.value at took.sent)) (rw c.track_mut-view.ensures.value at c.in_ok-ask.ensures.ok))
+returns-clause-agrees g c = asked_second_begun (both_mut (parts g)) refl refl c.requires.agrees (ap (λ v. second_mut_as c.args.self.now.value.now v) (ap (λ view. (place_of view).now) c.ask.ensures.same ∙ c.track_mut-second.ensures.value)) c.args.call c.requires.read c.in_ok-ask.field-0 (asks_as (λ P W took. rw c.drop-sink-2.ensures (rw c.new-sink.ensures.value at took.sent)) (rw c.track_mut-second.ensures.value at c.in_ok-ask.ensures.ok))
 
 pub returns-clause-tells : goal.returns-clause-tells
-returns-clause-tells g c = tells_asked_second (both_mut (parts g)) refl refl c.requires.agrees (ap (λ v. second_mut_as c.args.self.now.value.now v) (ap (λ view. (place_of view).now) c.ask.ensures.same ∙ c.track_mut-view.ensures.value)) c.args.call c.requires.read c.in_ok-ask.field-0 (asks_as (λ P W took. rw c.drop-sink-2.ensures (rw c.new-sink.ensures.value at took.sent)) (rw c.track_mut-view.ensures.value at c.in_ok-ask.ensures.ok))
+returns-clause-tells g c = tells_asked_second (both_mut (parts g)) refl refl c.requires.agrees (ap (λ v. second_mut_as c.args.self.now.value.now v) (ap (λ view. (place_of view).now) c.ask.ensures.same ∙ c.track_mut-second.ensures.value)) c.args.call c.requires.read c.in_ok-ask.field-0 (asks_as (λ P W took. rw c.drop-sink-2.ensures (rw c.new-sink.ensures.value at took.sent)) (rw c.track_mut-second.ensures.value at c.in_ok-ask.ensures.ok))
 
 pub returns-in_err-ask-clause-agrees : goal.returns-in_err-ask-clause-agrees
-returns-in_err-ask-clause-agrees g c = refused_part_begun (both_mut (parts g)) refl refl c.requires.agrees (ap (λ v. second_mut_as c.args.self.now.value.now v) (ap (λ view. (place_of view).now) c.ask.ensures.same ∙ c.track_mut-view.ensures.value)) (rw c.drop-sink.ensures (rw c.new-sink.ensures.value at c.in_err-ask.ensures.err.sent))
+returns-in_err-ask-clause-agrees g c = refused_part_begun (both_mut (parts g)) refl refl c.requires.agrees (ap (λ v. second_mut_as c.args.self.now.value.now v) (ap (λ view. (place_of view).now) c.ask.ensures.same ∙ c.track_mut-second.ensures.value)) (rw c.drop-sink.ensures (rw c.new-sink.ensures.value at c.in_err-ask.ensures.err.sent))
 
 pub returns-in_err-ask-clause-tells : goal.returns-in_err-ask-clause-tells
-returns-in_err-ask-clause-tells g c = tells_refused_part (both_mut (parts g)) refl refl c.requires.agrees (ap (λ v. second_mut_as c.args.self.now.value.now v) (ap (λ view. (place_of view).now) c.ask.ensures.same ∙ c.track_mut-view.ensures.value)) (rw c.drop-sink.ensures (rw c.new-sink.ensures.value at c.in_err-ask.ensures.err.sent)) c.from_residual.result c.from_residual.ensures.1
+returns-in_err-ask-clause-tells g c = tells_refused_part (both_mut (parts g)) refl refl c.requires.agrees (ap (λ v. second_mut_as c.args.self.now.value.now v) (ap (λ view. (place_of view).now) c.ask.ensures.same ∙ c.track_mut-second.ensures.value)) (rw c.drop-sink.ensures (rw c.new-sink.ensures.value at c.in_err-ask.ensures.err.sent)) c.from_residual.result c.from_residual.ensures.1

@@ -36,20 +36,20 @@ parts g = record {
 }
 
 pub returns-clause-agrees : goal.returns-clause-agrees
-returns-clause-agrees g c = wrote_part_begun (both_mut (parts g)) refl refl c.requires.agrees (first_call c.args.call ∷ []) (rw c.drop-sink-2.ensures (rw c.new-sink.ensures.value at c.in_ok-write.ensures.sent.sent)) (first_mut_done (parts g) c.args.self.now.value.now c.write.new.self.value.now (c.args.call ∷ []) (rw c.track_mut-view.ensures.value at c.in_ok-write.ensures.did))
+returns-clause-agrees g c = wrote_part_begun (both_mut (parts g)) refl refl c.requires.agrees (first_call c.args.call ∷ []) (rw c.drop-sink-2.ensures (rw c.new-sink.ensures.value at c.in_ok-write.ensures.sent.sent)) (first_mut_done (parts g) c.args.self.now.value.now c.write.new.self.value.now (c.args.call ∷ []) (rw c.track_mut-first.ensures.value at c.in_ok-write.ensures.did))
 
 pub returns-clause-tells : goal.returns-clause-tells
-returns-clause-tells g c = tells_wrote_part (both_mut (parts g)) refl refl c.requires.agrees (first_call c.args.call ∷ []) (rw c.drop-sink-2.ensures (rw c.new-sink.ensures.value at c.in_ok-write.ensures.sent.sent)) (first_mut_done (parts g) c.args.self.now.value.now c.write.new.self.value.now (c.args.call ∷ []) (rw c.track_mut-view.ensures.value at c.in_ok-write.ensures.did)) _
+returns-clause-tells g c = tells_wrote_part (both_mut (parts g)) refl refl c.requires.agrees (first_call c.args.call ∷ []) (rw c.drop-sink-2.ensures (rw c.new-sink.ensures.value at c.in_ok-write.ensures.sent.sent)) (first_mut_done (parts g) c.args.self.now.value.now c.write.new.self.value.now (c.args.call ∷ []) (rw c.track_mut-first.ensures.value at c.in_ok-write.ensures.did)) _
 
 pub returns-clause-did : goal.returns-clause-did
-returns-clause-did g c = first_mut_done (parts g) c.args.self.now.value.now c.write.new.self.value.now (c.args.call ∷ []) (rw c.track_mut-view.ensures.value at c.in_ok-write.ensures.did)
+returns-clause-did g c = first_mut_done (parts g) c.args.self.now.value.now c.write.new.self.value.now (c.args.call ∷ []) (rw c.track_mut-first.ensures.value at c.in_ok-write.ensures.did)
 
 pub returns-in_err-write-clause-agrees : goal.returns-in_err-write-clause-agrees
 returns-in_err-write-clause-agrees g c =
-    let err = rw c.track_mut-view.ensures.value at c.in_err-write.ensures.err in
+    let err = rw c.track_mut-first.ensures.value at c.in_err-write.ensures.err in
     refused_part_begun (both_mut (parts g)) refl refl c.requires.agrees (ap (λ v. first_mut_as c.args.self.now.value.now v) err.0) (rw c.drop-sink.ensures (rw c.new-sink.ensures.value at err.1.sent))
 
 pub returns-in_err-write-clause-tells : goal.returns-in_err-write-clause-tells
 returns-in_err-write-clause-tells g c =
-    let err = rw c.track_mut-view.ensures.value at c.in_err-write.ensures.err in
+    let err = rw c.track_mut-first.ensures.value at c.in_err-write.ensures.err in
     tells_refused_part (both_mut (parts g)) refl refl c.requires.agrees (ap (λ v. first_mut_as c.args.self.now.value.now v) err.0) (rw c.drop-sink.ensures (rw c.new-sink.ensures.value at err.1.sent)) c.from_residual.result c.from_residual.ensures.1
