@@ -9,13 +9,14 @@ use Rattle.comemo_track.specs.Mapped.{mapped_pairs, Through, MapsTook, MapsSpoil
 use Rattle.comemo_track.specs.declared.mapped.MappedSink.{MappedSink}
 use Rattle.comemo_track.specs.Recording.{Recording, Took, Spoiled, MarkedLate}
 use Rattle.comemo_track.specs.Sending.{Asks, BreaksOff, SpoiledAfter, TookAs}
-use Rattle.comemo_track.specs.Writing.{SameReads, Done, WroteAt}
+use Rattle.comemo_track.specs.Writing.{SameReads, Writes, Done, WroteAt}
 use Rattle.comemo_track.specs.Multi.{first_call, second_call, first_answer, second_answer, by_part, part_touches, part_answers, OnCall}
 use Rattle.comemo_track.specs.declared.multi.MultiCall.{MultiCall}
 use Rattle.comemo_track.specs.declared.multi.MultiCall.TheVariants as call
 use Rattle.comemo_track.specs.declared.multi.MultiAnswer.{MultiAnswer}
 use Rattle.comemo_track.specs.declared.multi.MultiAnswer.TheVariants as answer
 use Rattle.comemo_track.specs.declared.read_and_write.ReadAndWrite.{ReadAndWrite}
+use Rattle.comemo_track.specs.declared.both_mut.BothMut.{BothMut}
 use Rattle.comemo_cache.specs.Meaning.{Meaning, Invocation, Naming, invocation}
 use Rattle.comemo_cache.specs.Cache.{Entries}
 use Rattle.comemo.specs.Begin.{Reaches}
@@ -270,6 +271,11 @@ module _ {X Y P Q : Type 0} {a : X → X → Bool} {b : Y → Y → Bool} {p : P
   second_reads w v t u laws m n o c reads (call.A x) h un = answers.firsts (m x) (m x) ∙ laws.refl (m x)
   second_reads w v t u laws m n o c reads (call.B y) h un = answers.seconds (n y) (o y) ∙ reads y h un
 
+  -- and so with the parts changed
+  pub first_reads : (w : X → Bool) (v : Y → Bool) (t : X → X → Bool) (u : Y → Y → Bool) → IsEquivalence q → (m o : X → P) (n : Y → Q) (c : X) → SameReads w (t c) p m o → SameReads (by_part w v) (part_touches t u (call.A c)) like (part_answers m n) (part_answers o n)
+  first_reads w v t u laws m o n c reads (call.A x) h un = answers.firsts (m x) (o x) ∙ reads x h un
+  first_reads w v t u laws m o n c reads (call.B y) h un = answers.seconds (n y) (n y) ∙ laws.refl (n y)
+
 -- equal calls of either part are both reads or both writes, where those of each part are
 pub parts_kind : {X Y : Type 0} {a : X → X → Bool} {b : Y → Y → Bool} (e : MultiCall X Y → MultiCall X Y → Bool) → JoinsCalls a b e → (w : X → Bool) (v : Y → Bool) → ((x y : X) → IsTrue (a x y) → w x ≡ w y) → ((x y : Y) → IsTrue (b x y) → v x ≡ v y) → (x y : MultiCall X Y) → IsTrue (e x y) → by_part w v x ≡ by_part w v y
 parts_kind e j w v f g (call.A x) (call.A y) h = f x y (sym (j.firsts x y) ∙ h)
@@ -277,12 +283,25 @@ parts_kind e j w v f g (call.A x) (call.B y) h = let no : false ≡ true = sym (
 parts_kind e j w v f g (call.B x) (call.A y) h = let no : false ≡ true = sym (j.second_first x y) ∙ h in cc
 parts_kind e j w v f g (call.B x) (call.B y) h = g x y (sym (j.seconds x y) ∙ h)
 
--- what is known of two values, of which the first is read and the second is read and written: what each answers and how its calls and
--- answers are told apart, and how those of both are
-pub record Joined (U V X Y P Q : Type 0) : Type 1 where
+-- what was done to a part, which `put` makes the whole of, was done to the whole
+module _ {S V C D R Q : Type 0} (put : V → S) (f : C → D) {own : V → C → V → Type 0} {w : C → Bool} {touches : C → C → Bool} {same : R → R → Bool} {answers : V → C → R} {wrote : S → D → S → Type 0} {v : D → Bool} {reach : D → D → Bool} {like : Q → Q → Bool} {gives : S → D → Q} (written : (i j : V) (c : C) → Writes own w touches same answers i c j → Writes wrote v reach like gives (put i) (f c) (put j)) where
+  part_done : (i j : V) (W : List C) → Done own w touches same answers i j W → Done wrote v reach like gives (put i) (put j) (map f W)
+  part_done i j [] d = ap put d
+  part_done i j (c ∷ W) d = (put d.0, written i d.0 c d.1, part_done d.0 j W d.2)
+
+-- a reply of a function of a part, which did so, and sent its calls and writes on through a sink before a recording of the whole
+pub part_reply : {N C D R Q K O : Type 0} (f : C → D) (g : R → Q) (eqd touching : D → D → Bool) {M : Meaning K C R O} {call : Invocation K C R} {touches : C → C → Bool} {es mid es' : Entries K C R O} {reply : Reply O} (own : List C → Type 0) (did : List D → Type 0) → ((W : List C) → own W → did (map f W)) → (a b : MappedSink (Recording D Q) N) {o r : Recording D Q} → a.sink.now ≡ o → r ≡ b.sink.now → IsReplyMut M call touches es mid (λ late L W. TookAs (MapsTook (Took eqd touching) (λ _. f) (λ _. g)) (MapsLates MarkedLate) late a b L W × own W) reply es' → IsReplyMut M call touches es mid (λ late. Through f g (λ L W. TookAs (Took eqd touching) MarkedLate late o r L W × did W)) reply es'
+part_reply f g eqd touching own did done a b {o = o} {r = r} begins ends k = resent_mut {sent = λ late L W. TookAs (MapsTook (Took eqd touching) (λ _. f) (λ _. g)) (MapsLates MarkedLate) late a b L W × own W} {sends = λ late. Through f g (λ L W. TookAs (Took eqd touching) MarkedLate late o r L W × did W)} (λ late L W is. (
+  subst (λ x. TookAs (Took eqd touching) MarkedLate late x r (mapped_pairs f g L) (map f W)) begins (subst (λ x. TookAs (Took eqd touching) MarkedLate late a.sink.now x (mapped_pairs f g L) (map f W)) (sym ends) (sent_as (λ _. f) (λ _. g) (Took eqd touching) MarkedLate late a b L W is.0)),
+  done W is.1,
+)) k
+
+-- what is known of two values: what each answers, what a write of each does, and how its calls and answers are told apart
+pub record Parts (U V X Y P Q : Type 0) : Type 1 where
   pub first_answers : U → X → P
   pub second_answers : V → Y → Q
-  pub wrote : V → Y → V → Type 0
+  pub first_wrote : U → X → U → Type 0
+  pub second_wrote : V → Y → V → Type 0
   pub first_writes : X → Bool
   pub second_writes : Y → Bool
   pub first_touches : X → X → Bool
@@ -304,122 +323,183 @@ pub record Joined (U V X Y P Q : Type 0) : Type 1 where
   pub first_respects : (u : U) → Respects first_calls first_likes (first_answers u)
   pub second_respects : (v : V) → Respects second_calls second_likes (second_answers v)
 
--- what both answer, and what a write does, as `ReadAndWrite` has it
-abbrev pub both_answers : {U V X Y P Q : Type 0} → (U → X → P) → (V → Y → Q) → ReadAndWrite U V → MultiCall X Y → MultiAnswer P Q
-both_answers m n s = part_answers (m s.first) (n s.second.now)
+-- two values that are one: where each stands in it, and what a write of it does
+pub record Joined (S U V X Y P Q : Type 0) : Type 1 where
+  pub parts : Parts U V X Y P Q
+  pub first_of : S → U
+  pub second_of : S → V
+  pub wrote : S → MultiCall X Y → S → Type 0
 
-abbrev pub WroteSecond : {U V X Y : Type 0} → (V → Y → V → Type 0) → ReadAndWrite U V → MultiCall X Y → ReadAndWrite U V → Type 0
-WroteSecond wrote s call t = OnCall (λ _. ⊥) (λ c. WroteAt wrote s.second c t.second × (t.first ≡ s.first)) call
-
--- the two with this in the place of the second
+-- the two with this in the place of the first, or of the second
 abbrev pub second_as : {U V : Type 0} → ReadAndWrite U V → V → ReadAndWrite U V
 second_as s v = record s { second = record s.second { now = v } }
 
-module _ {U V X Y P Q : Type 0} (j : Joined U V X Y P Q) where
-  abbrev Answers : ReadAndWrite U V → MultiCall X Y → MultiAnswer P Q
-  Answers = both_answers j.first_answers j.second_answers
+abbrev pub first_mut_as : {U V : Type 0} → BothMut U V → U → BothMut U V
+first_mut_as s u = record s { first = record s.first { now = u } }
 
-  abbrev Wrote : ReadAndWrite U V → MultiCall X Y → ReadAndWrite U V → Type 0
-  Wrote = WroteSecond j.wrote
+abbrev pub second_mut_as : {U V : Type 0} → BothMut U V → V → BothMut U V
+second_mut_as s v = record s { second = record s.second { now = v } }
+
+module _ {U V X Y P Q : Type 0} (p : Parts U V X Y P Q) where
+  -- as `ReadAndWrite` joins them, and as `BothMut` does
+  abbrev pub read_and_write : Joined (ReadAndWrite U V) U V X Y P Q
+  read_and_write = record {
+    parts = p;
+    first_of = λ s. s.first;
+    second_of = λ s. s.second.now;
+    wrote = λ s call t. OnCall (λ _. ⊥) (λ c. WroteAt p.second_wrote s.second c t.second × (t.first ≡ s.first)) call;
+  }
+
+  abbrev pub both_mut : Joined (BothMut U V) U V X Y P Q
+  both_mut = record {
+    parts = p;
+    first_of = λ s. s.first.now;
+    second_of = λ s. s.second.now;
+    wrote = λ s call t. OnCall (λ c. WroteAt p.first_wrote s.first c t.first × (t.second ≡ s.second)) (λ c. WroteAt p.second_wrote s.second c t.second × (t.first ≡ s.first)) call;
+  }
+
+module _ {S U V X Y P Q : Type 0} (j : Joined S U V X Y P Q) where
+  -- what both answer
+  abbrev pub Answers : S → MultiCall X Y → MultiAnswer P Q
+  Answers s = part_answers (j.parts.first_answers (j.first_of s)) (j.parts.second_answers (j.second_of s))
 
   abbrev are_writes : MultiCall X Y → Bool
-  are_writes = by_part j.first_writes j.second_writes
+  are_writes = by_part j.parts.first_writes j.parts.second_writes
 
   abbrev touch : MultiCall X Y → MultiCall X Y → Bool
-  touch = part_touches j.first_touches j.second_touches
+  touch = part_touches j.parts.first_touches j.parts.second_touches
 
-  abbrev Did : ReadAndWrite U V → ReadAndWrite U V → List (MultiCall X Y) → Type 0
-  Did = Done Wrote are_writes touch j.likes Answers
+  -- what writes of both do
+  abbrev pub Did : S → S → List (MultiCall X Y) → Type 0
+  Did = Done j.wrote are_writes touch j.parts.likes Answers
 
-  equal : IsEquivalence j.calls
-  equal = same_calls j.first_equal j.second_equal j.calls j.by_calls
+  -- what writes of each do
+  abbrev pub DidFirst : U → U → List X → Type 0
+  DidFirst = Done j.parts.first_wrote j.parts.first_writes j.parts.first_touches j.parts.first_likes j.parts.first_answers
 
-  alike : IsEquivalence j.likes
-  alike = same_answers j.first_alike j.second_alike j.likes j.by_likes
+  abbrev pub DidSecond : V → V → List Y → Type 0
+  DidSecond = Done j.parts.second_wrote j.parts.second_writes j.parts.second_touches j.parts.second_likes j.parts.second_answers
 
-  respects : (s : ReadAndWrite U V) → Respects j.calls j.likes (Answers s)
-  respects s = parts_respect j.calls j.likes j.by_calls j.by_likes (j.first_answers s.first) (j.second_answers s.second.now) (j.first_respects s.first) (j.second_respects s.second.now)
+  equal : IsEquivalence j.parts.calls
+  equal = same_calls j.parts.first_equal j.parts.second_equal j.parts.calls j.parts.by_calls
 
-  kinds : (x y : MultiCall X Y) → IsTrue (j.calls x y) → are_writes x ≡ are_writes y
-  kinds = parts_kind j.calls j.by_calls j.first_writes j.second_writes j.first_kind j.second_kind
+  alike : IsEquivalence j.parts.likes
+  alike = same_answers j.parts.first_alike j.parts.second_alike j.parts.likes j.parts.by_likes
 
-  -- what was done to the second was done to both
-  pub second_done : (s : ReadAndWrite U V) (v : V) (W : List Y) → Done j.wrote j.second_writes j.second_touches j.second_likes j.second_answers s.second.now v W → Did s (second_as s v) (map second_call W)
-  second_done s v [] d = ap (λ x. second_as s x) d
-  second_done s v (c ∷ W) d = (
-    second_as s d.0,
-    record {
-      did = ((d.1.did, refl), refl);
-      reads = second_reads j.calls j.likes j.by_calls j.by_likes j.first_writes j.second_writes j.first_touches j.second_touches j.first_alike (j.first_answers s.first) (j.second_answers s.second.now) (j.second_answers d.0) c d.1.reads;
-    },
-    second_done (second_as s d.0) v W d.2,
-  )
+  respects : (s : S) → Respects j.parts.calls j.parts.likes (Answers s)
+  respects s = parts_respect j.parts.calls j.parts.likes j.parts.by_calls j.parts.by_likes (j.parts.first_answers (j.first_of s)) (j.parts.second_answers (j.second_of s)) (j.parts.first_respects (j.first_of s)) (j.parts.second_respects (j.second_of s))
 
-  -- a reply of a function of the second, which sent its calls and writes on through a sink before a recording
-  pub second_reply : {K O N : Type 0} {M : Meaning K Y Q O} {call : Invocation K Y Q} {touches : Y → Y → Bool} {es mid es' : Entries K Y Q O} {reply : Reply O} (s : ReadAndWrite U V) (v : V) (a b : MappedSink (Recording (MultiCall X Y) (MultiAnswer P Q)) N) {p r : Recording (MultiCall X Y) (MultiAnswer P Q)} → a.sink.now ≡ p → r ≡ b.sink.now → IsReplyMut M call touches es mid (λ late L W. TookAs (MapsTook (Took j.calls touch) (λ _. second_call) (λ _. second_answer)) (MapsLates MarkedLate) late a b L W × Done j.wrote j.second_writes j.second_touches j.second_likes j.second_answers s.second.now v W) reply es' → IsReplyMut M call touches es mid (λ late. Through second_call second_answer (λ L W. TookAs (Took j.calls touch) MarkedLate late p r L W × Did s (second_as s v) W)) reply es'
-  second_reply s v a b {p = p} {r = r} begins ends k =
-      let sends : (late : Bool) (L : List (Y × Q)) (W : List Y) → TookAs (MapsTook (Took j.calls touch) (λ _. second_call) (λ _. second_answer)) (MapsLates MarkedLate) late a b L W × Done j.wrote j.second_writes j.second_touches j.second_likes j.second_answers s.second.now v W → Through second_call second_answer (λ L W. TookAs (Took j.calls touch) MarkedLate late p r L W × Did s (second_as s v) W) L W = λ late L W is. (
-        subst (λ x. TookAs (Took j.calls touch) MarkedLate late x r (mapped_pairs second_call second_answer L) (map second_call W)) begins (subst (λ x. TookAs (Took j.calls touch) MarkedLate late a.sink.now x (mapped_pairs second_call second_answer L) (map second_call W)) (sym ends) (sent_as (λ _. second_call) (λ _. second_answer) (Took j.calls touch) MarkedLate late a b L W is.0)),
-        second_done s v W is.1,
-      ) in
-      resent_mut {sent = λ late L W. TookAs (MapsTook (Took j.calls touch) (λ _. second_call) (λ _. second_answer)) (MapsLates MarkedLate) late a b L W × Done j.wrote j.second_writes j.second_touches j.second_likes j.second_answers s.second.now v W} {sends = λ late. Through second_call second_answer (λ L W. TookAs (Took j.calls touch) MarkedLate late p r L W × Did s (second_as s v) W)} sends k
+  kinds : (x y : MultiCall X Y) → IsTrue (j.parts.calls x y) → are_writes x ≡ are_writes y
+  kinds = parts_kind j.parts.calls j.parts.by_calls j.parts.first_writes j.parts.second_writes j.parts.first_kind j.parts.second_kind
 
-  pub second_reached : (s : ReadAndWrite U V) (v : V) → Reaches (Done j.wrote j.second_writes j.second_touches j.second_likes j.second_answers) s.second.now v → Reaches Did s (second_as s v)
-  second_reached s v r = (map second_call r.0, second_done s v r.0 r.1)
-
-  module _ {s t : Lent (ReadAndWrite U V) (MultiCall X Y) (MultiAnswer P Q)} (place : t.value.ghost_name ≡ s.value.ghost_name) (same_recording : t.recording.ghost_name ≡ s.recording.ghost_name) (has : HasBegun Did j.likes Answers s) where
+  module _ {s t : Lent S (MultiCall X Y) (MultiAnswer P Q)} (place : t.value.ghost_name ≡ s.value.ghost_name) (same_recording : t.recording.ghost_name ≡ s.recording.ghost_name) (has : HasBegun Did j.parts.likes Answers s) where
     -- after a read of the first
-    module _ (value : t.value.now ≡ s.value.now) (call : X) (read : j.first_writes call ≡ false) (answer : P) (k : Asks j.first_likes (j.first_answers s.value.now.first) call answer (Through first_call first_answer (Took j.calls touch s.recording.now t.recording.now))) where
-      pub asked_first_begun : HasBegun Did j.likes Answers t
-      asked_first_begun = part_asked_begun j.first_calls j.first_likes j.calls j.likes first_call first_answer j.by_calls.firsts j.by_likes.firsts Wrote are_writes touch Answers equal alike respects s t place same_recording has (j.first_answers s.value.now.first) (λ c. refl) value call read answer k
+    module _ (value : t.value.now ≡ s.value.now) (call : X) (read : j.parts.first_writes call ≡ false) (answer : P) (k : Asks j.parts.first_likes (j.parts.first_answers (j.first_of s.value.now)) call answer (Through first_call first_answer (Took j.parts.calls touch s.recording.now t.recording.now))) where
+      pub asked_first_begun : HasBegun Did j.parts.likes Answers t
+      asked_first_begun = part_asked_begun j.parts.first_calls j.parts.first_likes j.parts.calls j.parts.likes first_call first_answer j.parts.by_calls.firsts j.parts.by_likes.firsts j.wrote are_writes touch Answers equal alike respects s t place same_recording has (j.parts.first_answers (j.first_of s.value.now)) (λ c. refl) value call read answer k
 
-      pub tells_asked_first : TellsMut (Goes Did touch j.likes Answers) (Fits j.calls j.likes) s t (Ok answer) (λ a n. OnPart first_call first_answer n (λ part. IsTrue (j.first_likes (part call) a)))
-      tells_asked_first = tells_asked_part j.first_calls j.first_likes j.calls j.likes first_call first_answer j.by_calls.firsts j.by_likes.firsts Wrote are_writes touch Answers equal alike respects s t place same_recording has (j.first_answers s.value.now.first) (λ c. refl) value call read answer k
+      pub tells_asked_first : TellsMut (Goes Did touch j.parts.likes Answers) (Fits j.parts.calls j.parts.likes) s t (Ok answer) (λ a n. OnPart first_call first_answer n (λ part. IsTrue (j.parts.first_likes (part call) a)))
+      tells_asked_first = tells_asked_part j.parts.first_calls j.parts.first_likes j.parts.calls j.parts.likes first_call first_answer j.parts.by_calls.firsts j.parts.by_likes.firsts j.wrote are_writes touch Answers equal alike respects s t place same_recording has (j.parts.first_answers (j.first_of s.value.now)) (λ c. refl) value call read answer k
 
     -- after one of the second
-    module _ (value : t.value.now ≡ s.value.now) (call : Y) (read : j.second_writes call ≡ false) (answer : Q) (k : Asks j.second_likes (j.second_answers s.value.now.second.now) call answer (Through second_call second_answer (Took j.calls touch s.recording.now t.recording.now))) where
-      pub asked_second_begun : HasBegun Did j.likes Answers t
-      asked_second_begun = part_asked_begun j.second_calls j.second_likes j.calls j.likes second_call second_answer j.by_calls.seconds j.by_likes.seconds Wrote are_writes touch Answers equal alike respects s t place same_recording has (j.second_answers s.value.now.second.now) (λ c. refl) value call read answer k
+    module _ (value : t.value.now ≡ s.value.now) (call : Y) (read : j.parts.second_writes call ≡ false) (answer : Q) (k : Asks j.parts.second_likes (j.parts.second_answers (j.second_of s.value.now)) call answer (Through second_call second_answer (Took j.parts.calls touch s.recording.now t.recording.now))) where
+      pub asked_second_begun : HasBegun Did j.parts.likes Answers t
+      asked_second_begun = part_asked_begun j.parts.second_calls j.parts.second_likes j.parts.calls j.parts.likes second_call second_answer j.parts.by_calls.seconds j.parts.by_likes.seconds j.wrote are_writes touch Answers equal alike respects s t place same_recording has (j.parts.second_answers (j.second_of s.value.now)) (λ c. refl) value call read answer k
 
-      pub tells_asked_second : TellsMut (Goes Did touch j.likes Answers) (Fits j.calls j.likes) s t (Ok answer) (λ a n. OnPart second_call second_answer n (λ part. IsTrue (j.second_likes (part call) a)))
-      tells_asked_second = tells_asked_part j.second_calls j.second_likes j.calls j.likes second_call second_answer j.by_calls.seconds j.by_likes.seconds Wrote are_writes touch Answers equal alike respects s t place same_recording has (j.second_answers s.value.now.second.now) (λ c. refl) value call read answer k
+      pub tells_asked_second : TellsMut (Goes Did touch j.parts.likes Answers) (Fits j.parts.calls j.parts.likes) s t (Ok answer) (λ a n. OnPart second_call second_answer n (λ part. IsTrue (j.parts.second_likes (part call) a)))
+      tells_asked_second = tells_asked_part j.parts.second_calls j.parts.second_likes j.parts.calls j.parts.likes second_call second_answer j.parts.by_calls.seconds j.parts.by_likes.seconds j.wrote are_writes touch Answers equal alike respects s t place same_recording has (j.parts.second_answers (j.second_of s.value.now)) (λ c. refl) value call read answer k
 
     -- after a call of a function of the first, which reads
-    module _ {K O : Type 0} (eqk : K → K → Bool) (cloned : O → O → Type 0) (def : K → (X → P) → O → List X → Type 0) (naming : Naming K X P) (all : All (λ p. are_writes p.0 ≡ false) t.recording.now.pairs) (key : K) {es mid es' : Entries K X P O} (reply : Reply O) (value : t.value.now ≡ s.value.now) (reads : (o : X → P) (writes : List X) → def key o reply.output writes → writes ≡ []) (k : IsReply (record { same_call = j.first_calls; same_answer = j.first_likes; same_key = eqk; is_write = j.first_writes; is_clone = cloned; def = def; naming = naming }) (invocation key (j.first_answers s.value.now.first) true) es mid (Through first_call first_answer (Took j.calls touch s.recording.now t.recording.now)) reply es') where
-      pub called_first_begun : HasBegun Did j.likes Answers t
-      called_first_begun = part_read_begun j.first_calls j.first_likes j.calls j.likes first_call first_answer j.by_calls.firsts j.by_likes.firsts Wrote are_writes touch Answers equal alike respects s t place same_recording has (j.first_answers s.value.now.first) (λ c. refl) eqk j.first_writes cloned def naming kinds all key reply value reads k
+    module _ {K O : Type 0} (eqk : K → K → Bool) (cloned : O → O → Type 0) (def : K → (X → P) → O → List X → Type 0) (naming : Naming K X P) (all : All (λ p. are_writes p.0 ≡ false) t.recording.now.pairs) (key : K) {es mid es' : Entries K X P O} (reply : Reply O) (value : t.value.now ≡ s.value.now) (reads : (o : X → P) (writes : List X) → def key o reply.output writes → writes ≡ []) (k : IsReply (record { same_call = j.parts.first_calls; same_answer = j.parts.first_likes; same_key = eqk; is_write = j.parts.first_writes; is_clone = cloned; def = def; naming = naming }) (invocation key (j.parts.first_answers (j.first_of s.value.now)) true) es mid (Through first_call first_answer (Took j.parts.calls touch s.recording.now t.recording.now)) reply es') where
+      pub read_first_begun : HasBegun Did j.parts.likes Answers t
+      read_first_begun = part_read_begun j.parts.first_calls j.parts.first_likes j.parts.calls j.parts.likes first_call first_answer j.parts.by_calls.firsts j.parts.by_likes.firsts j.wrote are_writes touch Answers equal alike respects s t place same_recording has (j.parts.first_answers (j.first_of s.value.now)) (λ c. refl) eqk j.parts.first_writes cloned def naming kinds all key reply value reads k
 
-      pub tells_called_first : TellsMut (Goes Did touch j.likes Answers) (Fits j.calls j.likes) s t (Ok reply.output) (λ output n. OnPart first_call first_answer n (λ part. def key part output []))
-      tells_called_first = tells_read_part j.first_calls j.first_likes j.calls j.likes first_call first_answer j.by_calls.firsts j.by_likes.firsts Wrote are_writes touch Answers equal alike respects s t place same_recording has (j.first_answers s.value.now.first) (λ c. refl) eqk j.first_writes cloned def naming kinds all key reply value reads k
+      pub tells_read_first : TellsMut (Goes Did touch j.parts.likes Answers) (Fits j.parts.calls j.parts.likes) s t (Ok reply.output) (λ output n. OnPart first_call first_answer n (λ part. def key part output []))
+      tells_read_first = tells_read_part j.parts.first_calls j.parts.first_likes j.parts.calls j.parts.likes first_call first_answer j.parts.by_calls.firsts j.parts.by_likes.firsts j.wrote are_writes touch Answers equal alike respects s t place same_recording has (j.parts.first_answers (j.first_of s.value.now)) (λ c. refl) eqk j.parts.first_writes cloned def naming kinds all key reply value reads k
+
+    -- after a call of a function of the second, which reads
+    module _ {K O : Type 0} (eqk : K → K → Bool) (cloned : O → O → Type 0) (def : K → (Y → Q) → O → List Y → Type 0) (naming : Naming K Y Q) (all : All (λ p. are_writes p.0 ≡ false) t.recording.now.pairs) (key : K) {es mid es' : Entries K Y Q O} (reply : Reply O) (value : t.value.now ≡ s.value.now) (reads : (o : Y → Q) (writes : List Y) → def key o reply.output writes → writes ≡ []) (k : IsReply (record { same_call = j.parts.second_calls; same_answer = j.parts.second_likes; same_key = eqk; is_write = j.parts.second_writes; is_clone = cloned; def = def; naming = naming }) (invocation key (j.parts.second_answers (j.second_of s.value.now)) true) es mid (Through second_call second_answer (Took j.parts.calls touch s.recording.now t.recording.now)) reply es') where
+      pub read_second_begun : HasBegun Did j.parts.likes Answers t
+      read_second_begun = part_read_begun j.parts.second_calls j.parts.second_likes j.parts.calls j.parts.likes second_call second_answer j.parts.by_calls.seconds j.parts.by_likes.seconds j.wrote are_writes touch Answers equal alike respects s t place same_recording has (j.parts.second_answers (j.second_of s.value.now)) (λ c. refl) eqk j.parts.second_writes cloned def naming kinds all key reply value reads k
+
+      pub tells_read_second : TellsMut (Goes Did touch j.parts.likes Answers) (Fits j.parts.calls j.parts.likes) s t (Ok reply.output) (λ output n. OnPart second_call second_answer n (λ part. def key part output []))
+      tells_read_second = tells_read_part j.parts.second_calls j.parts.second_likes j.parts.calls j.parts.likes second_call second_answer j.parts.by_calls.seconds j.parts.by_likes.seconds j.wrote are_writes touch Answers equal alike respects s t place same_recording has (j.parts.second_answers (j.second_of s.value.now)) (λ c. refl) eqk j.parts.second_writes cloned def naming kinds all key reply value reads k
+
+    -- after a call of a function of the first, which writes
+    module _ {K O : Type 0} (eqk : K → K → Bool) (cloned : O → O → Type 0) (def : K → (X → P) → O → List X → Type 0) (naming : Naming K X P) (all : All (λ p. are_writes p.0 ≡ false) t.recording.now.pairs) (key : K) {es mid es' : Entries K X P O} (reply : Reply O) (k : IsReplyMut (record { same_call = j.parts.first_calls; same_answer = j.parts.first_likes; same_key = eqk; is_write = j.parts.first_writes; is_clone = cloned; def = def; naming = naming }) (invocation key (j.parts.first_answers (j.first_of s.value.now)) true) j.parts.first_touches es mid (λ late. Through first_call first_answer (λ L W. TookAs (Took j.parts.calls touch) MarkedLate late s.recording.now t.recording.now L W × Did s.value.now t.value.now W)) reply es') where
+      pub called_first_begun : HasBegun Did j.parts.likes Answers t
+      called_first_begun = part_any_begun j.parts.first_calls j.parts.first_likes j.parts.calls j.parts.likes first_call first_answer j.parts.by_calls.firsts j.parts.by_likes.firsts j.wrote are_writes touch Answers equal alike respects s t place same_recording has (j.parts.first_answers (j.first_of s.value.now)) (λ c. refl) eqk j.parts.first_writes cloned def naming kinds all key reply j.parts.first_touches (λ x y. refl) k
+
+      pub tells_called_first : TellsWrites (Goes Did touch j.parts.likes Answers) (Fits j.parts.calls j.parts.likes) s t (Ok reply.output) (λ output n writes. OnPartWrites first_call first_answer n writes (λ part W. def key part output W))
+      tells_called_first = tells_any_part j.parts.first_calls j.parts.first_likes j.parts.calls j.parts.likes first_call first_answer j.parts.by_calls.firsts j.parts.by_likes.firsts j.wrote are_writes touch Answers equal alike respects s t place same_recording has (j.parts.first_answers (j.first_of s.value.now)) (λ c. refl) eqk j.parts.first_writes cloned def naming kinds all key reply j.parts.first_touches (λ x y. refl) k
 
     -- after a call of a function of the second, which writes
-    module _ {K O : Type 0} (eqk : K → K → Bool) (cloned : O → O → Type 0) (def : K → (Y → Q) → O → List Y → Type 0) (naming : Naming K Y Q) (all : All (λ p. are_writes p.0 ≡ false) t.recording.now.pairs) (key : K) {es mid es' : Entries K Y Q O} (reply : Reply O) (k : IsReplyMut (record { same_call = j.second_calls; same_answer = j.second_likes; same_key = eqk; is_write = j.second_writes; is_clone = cloned; def = def; naming = naming }) (invocation key (j.second_answers s.value.now.second.now) true) j.second_touches es mid (λ late. Through second_call second_answer (λ P W. TookAs (Took j.calls touch) MarkedLate late s.recording.now t.recording.now P W × Did s.value.now t.value.now W)) reply es') where
-      pub called_second_begun : HasBegun Did j.likes Answers t
-      called_second_begun = part_any_begun j.second_calls j.second_likes j.calls j.likes second_call second_answer j.by_calls.seconds j.by_likes.seconds Wrote are_writes touch Answers equal alike respects s t place same_recording has (j.second_answers s.value.now.second.now) (λ c. refl) eqk j.second_writes cloned def naming kinds all key reply j.second_touches (λ x y. refl) k
+    module _ {K O : Type 0} (eqk : K → K → Bool) (cloned : O → O → Type 0) (def : K → (Y → Q) → O → List Y → Type 0) (naming : Naming K Y Q) (all : All (λ p. are_writes p.0 ≡ false) t.recording.now.pairs) (key : K) {es mid es' : Entries K Y Q O} (reply : Reply O) (k : IsReplyMut (record { same_call = j.parts.second_calls; same_answer = j.parts.second_likes; same_key = eqk; is_write = j.parts.second_writes; is_clone = cloned; def = def; naming = naming }) (invocation key (j.parts.second_answers (j.second_of s.value.now)) true) j.parts.second_touches es mid (λ late. Through second_call second_answer (λ P W. TookAs (Took j.parts.calls touch) MarkedLate late s.recording.now t.recording.now P W × Did s.value.now t.value.now W)) reply es') where
+      pub called_second_begun : HasBegun Did j.parts.likes Answers t
+      called_second_begun = part_any_begun j.parts.second_calls j.parts.second_likes j.parts.calls j.parts.likes second_call second_answer j.parts.by_calls.seconds j.parts.by_likes.seconds j.wrote are_writes touch Answers equal alike respects s t place same_recording has (j.parts.second_answers (j.second_of s.value.now)) (λ c. refl) eqk j.parts.second_writes cloned def naming kinds all key reply j.parts.second_touches (λ x y. refl) k
 
-      pub tells_called_second : TellsWrites (Goes Did touch j.likes Answers) (Fits j.calls j.likes) s t (Ok reply.output) (λ output n writes. OnPartWrites second_call second_answer n writes (λ part W. def key part output W))
-      tells_called_second = tells_any_part j.second_calls j.second_likes j.calls j.likes second_call second_answer j.by_calls.seconds j.by_likes.seconds Wrote are_writes touch Answers equal alike respects s t place same_recording has (j.second_answers s.value.now.second.now) (λ c. refl) eqk j.second_writes cloned def naming kinds all key reply j.second_touches (λ x y. refl) k
+      pub tells_called_second : TellsWrites (Goes Did touch j.parts.likes Answers) (Fits j.parts.calls j.parts.likes) s t (Ok reply.output) (λ output n writes. OnPartWrites second_call second_answer n writes (λ part W. def key part output W))
+      tells_called_second = tells_any_part j.parts.second_calls j.parts.second_likes j.parts.calls j.parts.likes second_call second_answer j.parts.by_calls.seconds j.parts.by_likes.seconds j.wrote are_writes touch Answers equal alike respects s t place same_recording has (j.parts.second_answers (j.second_of s.value.now)) (λ c. refl) eqk j.parts.second_writes cloned def naming kinds all key reply j.parts.second_touches (λ x y. refl) k
 
     -- after writes
-    module _ (W : List (MultiCall X Y)) (took : Took j.calls touch s.recording.now t.recording.now [] W) (did : Did s.value.now t.value.now W) where
-      pub wrote_second_begun : HasBegun Did j.likes Answers t
-      wrote_second_begun = written_begun Wrote are_writes touch j.likes Answers equal alike respects place same_recording has W took did
+    module _ (W : List (MultiCall X Y)) (took : Took j.parts.calls touch s.recording.now t.recording.now [] W) (did : Did s.value.now t.value.now W) where
+      pub wrote_part_begun : HasBegun Did j.parts.likes Answers t
+      wrote_part_begun = written_begun j.wrote are_writes touch j.parts.likes Answers equal alike respects place same_recording has W took did
 
-      pub tells_wrote_second : {Z : Type 0} (x : Z) → TellsMut (Goes Did touch j.likes Answers) (Fits j.calls j.likes) s t (Ok x) (λ _ _. ⊤)
-      tells_wrote_second x = tells_write Wrote are_writes touch j.likes Answers equal alike respects place same_recording has W took did x
+      pub tells_wrote_part : {Z : Type 0} (x : Z) → TellsMut (Goes Did touch j.parts.likes Answers) (Fits j.parts.calls j.parts.likes) s t (Ok x) (λ _ _. ⊤)
+      tells_wrote_part x = tells_write j.wrote are_writes touch j.parts.likes Answers equal alike respects place same_recording has W took did x
 
     -- after what was refused
-    module _ (value : t.value.now ≡ s.value.now) (took : Took j.calls touch s.recording.now t.recording.now [] []) where
-      pub refused_part_begun : HasBegun Did j.likes Answers t
-      refused_part_begun = refused_begun Wrote are_writes touch j.likes Answers equal alike respects place same_recording has value took
+    module _ (value : t.value.now ≡ s.value.now) (took : Took j.parts.calls touch s.recording.now t.recording.now [] []) where
+      pub refused_part_begun : HasBegun Did j.parts.likes Answers t
+      refused_part_begun = refused_begun j.wrote are_writes touch j.parts.likes Answers equal alike respects place same_recording has value took
 
-      pub tells_refused_part : {Z : Type 0} {H : Z → (MultiCall X Y → MultiAnswer P Q) → Type 0} (r : Result Z Fault) → IsErrAnd r (λ f. f ≡ fault.Memory) → TellsMut (Goes Did touch j.likes Answers) (Fits j.calls j.likes) s t r H
-      tells_refused_part r h = tells_refused Wrote are_writes touch j.likes Answers equal alike respects place same_recording has value took r h
+      pub tells_refused_part : {Z : Type 0} {H : Z → (MultiCall X Y → MultiAnswer P Q) → Type 0} (r : Result Z Fault) → IsErrAnd r (λ f. f ≡ fault.Memory) → TellsMut (Goes Did touch j.parts.likes Answers) (Fits j.parts.calls j.parts.likes) s t r H
+      tells_refused_part r h = tells_refused j.wrote are_writes touch j.parts.likes Answers equal alike respects place same_recording has value took r h
 
-  module _ {s t : Lent (ReadAndWrite U V) (MultiCall X Y) (MultiAnswer P Q)} (place : t.value.ghost_name ≡ s.value.ghost_name) (same_recording : t.recording.ghost_name ≡ s.recording.ghost_name) (reached : Reaches Did s.value.now t.value.now) (broken : t.recording.now.whole ≡ false) where
+  module _ {s t : Lent S (MultiCall X Y) (MultiAnswer P Q)} (place : t.value.ghost_name ≡ s.value.ghost_name) (same_recording : t.recording.ghost_name ≡ s.recording.ghost_name) (reached : Reaches Did s.value.now t.value.now) (broken : t.recording.now.whole ≡ false) where
     -- after a fault that made the recording incomplete
-    pub tells_failed_part : {fits : Recording (MultiCall X Y) (MultiAnswer P Q) → (MultiCall X Y → MultiAnswer P Q) → Type 0} {Z : Type 0} {H : Z → (MultiCall X Y → MultiAnswer P Q) → Type 0} (r : Result Z Fault) → IsErr r → TellsMut (Goes Did touch j.likes Answers) fits s t r H
-    tells_failed_part r h = tells_failed Wrote are_writes touch j.likes Answers place same_recording reached broken r h
+    pub tells_failed_part : {fits : Recording (MultiCall X Y) (MultiAnswer P Q) → (MultiCall X Y → MultiAnswer P Q) → Type 0} {Z : Type 0} {H : Z → (MultiCall X Y → MultiAnswer P Q) → Type 0} (r : Result Z Fault) → IsErr r → TellsMut (Goes Did touch j.parts.likes Answers) fits s t r H
+    tells_failed_part r h = tells_failed j.wrote are_writes touch j.parts.likes Answers place same_recording reached broken r h
 
-    pub writes_failed_part : {fits : Recording (MultiCall X Y) (MultiAnswer P Q) → (MultiCall X Y → MultiAnswer P Q) → Type 0} {Z : Type 0} {H : Z → (MultiCall X Y → MultiAnswer P Q) → List (MultiCall X Y) → Type 0} (r : Result Z Fault) → IsErr r → TellsWrites (Goes Did touch j.likes Answers) fits s t r H
-    writes_failed_part r h = writes_failed Wrote are_writes touch j.likes Answers place same_recording reached broken r h
+    pub writes_failed_part : {fits : Recording (MultiCall X Y) (MultiAnswer P Q) → (MultiCall X Y → MultiAnswer P Q) → Type 0} {Z : Type 0} {H : Z → (MultiCall X Y → MultiAnswer P Q) → List (MultiCall X Y) → Type 0} (r : Result Z Fault) → IsErr r → TellsWrites (Goes Did touch j.parts.likes Answers) fits s t r H
+    writes_failed_part r h = writes_failed j.wrote are_writes touch j.parts.likes Answers place same_recording reached broken r h
+
+module _ {U V X Y P Q : Type 0} (p : Parts U V X Y P Q) where
+  -- what was done to the second was done to both
+  pub second_done : (s : ReadAndWrite U V) (v : V) (W : List Y) → DidSecond (read_and_write p) s.second.now v W → Did (read_and_write p) s (second_as s v) (map second_call W)
+  second_done s v W d = part_done (second_as s) second_call (λ i k c is. record {
+    did = ((is.did, refl), refl);
+    reads = second_reads p.calls p.likes p.by_calls p.by_likes p.first_writes p.second_writes p.first_touches p.second_touches p.first_alike (p.first_answers s.first) (p.second_answers i) (p.second_answers k) c is.reads;
+  }) s.second.now v W d
+
+  pub second_reached : (s : ReadAndWrite U V) (v : V) → Reaches (DidSecond (read_and_write p)) s.second.now v → Reaches (Did (read_and_write p)) s (second_as s v)
+  second_reached s v r = (map second_call r.0, second_done s v r.0 r.1)
+
+  pub second_reply : {K O N : Type 0} {M : Meaning K Y Q O} {call : Invocation K Y Q} {touches : Y → Y → Bool} {es mid es' : Entries K Y Q O} {reply : Reply O} (s : ReadAndWrite U V) (v : V) (a b : MappedSink (Recording (MultiCall X Y) (MultiAnswer P Q)) N) {o r : Recording (MultiCall X Y) (MultiAnswer P Q)} → a.sink.now ≡ o → r ≡ b.sink.now → IsReplyMut M call touches es mid (λ late L W. TookAs (MapsTook (Took p.calls (part_touches p.first_touches p.second_touches)) (λ _. second_call) (λ _. second_answer)) (MapsLates MarkedLate) late a b L W × DidSecond (read_and_write p) s.second.now v W) reply es' → IsReplyMut M call touches es mid (λ late. Through second_call second_answer (λ L W. TookAs (Took p.calls (part_touches p.first_touches p.second_touches)) MarkedLate late o r L W × Did (read_and_write p) s (second_as s v) W)) reply es'
+  second_reply s v a b begins ends k = part_reply second_call second_answer p.calls (part_touches p.first_touches p.second_touches) (DidSecond (read_and_write p) s.second.now v) (Did (read_and_write p) s (second_as s v)) (second_done s v) a b begins ends k
+
+  -- so it is of either, where both are written
+  pub first_mut_done : (s : BothMut U V) (u : U) (W : List X) → DidFirst (both_mut p) s.first.now u W → Did (both_mut p) s (first_mut_as s u) (map first_call W)
+  first_mut_done s u W d = part_done (first_mut_as s) first_call (λ i k c is. record {
+    did = ((is.did, refl), refl);
+    reads = first_reads p.calls p.likes p.by_calls p.by_likes p.first_writes p.second_writes p.first_touches p.second_touches p.second_alike (p.first_answers i) (p.first_answers k) (p.second_answers s.second.now) c is.reads;
+  }) s.first.now u W d
+
+  pub second_mut_done : (s : BothMut U V) (v : V) (W : List Y) → DidSecond (both_mut p) s.second.now v W → Did (both_mut p) s (second_mut_as s v) (map second_call W)
+  second_mut_done s v W d = part_done (second_mut_as s) second_call (λ i k c is. record {
+    did = ((is.did, refl), refl);
+    reads = second_reads p.calls p.likes p.by_calls p.by_likes p.first_writes p.second_writes p.first_touches p.second_touches p.first_alike (p.first_answers s.first.now) (p.second_answers i) (p.second_answers k) c is.reads;
+  }) s.second.now v W d
+
+  pub first_mut_reached : (s : BothMut U V) (u : U) → Reaches (DidFirst (both_mut p)) s.first.now u → Reaches (Did (both_mut p)) s (first_mut_as s u)
+  first_mut_reached s u r = (map first_call r.0, first_mut_done s u r.0 r.1)
+
+  pub second_mut_reached : (s : BothMut U V) (v : V) → Reaches (DidSecond (both_mut p)) s.second.now v → Reaches (Did (both_mut p)) s (second_mut_as s v)
+  second_mut_reached s v r = (map second_call r.0, second_mut_done s v r.0 r.1)
+
+  pub first_mut_reply : {K O N : Type 0} {M : Meaning K X P O} {call : Invocation K X P} {touches : X → X → Bool} {es mid es' : Entries K X P O} {reply : Reply O} (s : BothMut U V) (u : U) (a b : MappedSink (Recording (MultiCall X Y) (MultiAnswer P Q)) N) {o r : Recording (MultiCall X Y) (MultiAnswer P Q)} → a.sink.now ≡ o → r ≡ b.sink.now → IsReplyMut M call touches es mid (λ late L W. TookAs (MapsTook (Took p.calls (part_touches p.first_touches p.second_touches)) (λ _. first_call) (λ _. first_answer)) (MapsLates MarkedLate) late a b L W × DidFirst (both_mut p) s.first.now u W) reply es' → IsReplyMut M call touches es mid (λ late. Through first_call first_answer (λ L W. TookAs (Took p.calls (part_touches p.first_touches p.second_touches)) MarkedLate late o r L W × Did (both_mut p) s (first_mut_as s u) W)) reply es'
+  first_mut_reply s u a b begins ends k = part_reply first_call first_answer p.calls (part_touches p.first_touches p.second_touches) (DidFirst (both_mut p) s.first.now u) (Did (both_mut p) s (first_mut_as s u)) (first_mut_done s u) a b begins ends k
+
+  pub second_mut_reply : {K O N : Type 0} {M : Meaning K Y Q O} {call : Invocation K Y Q} {touches : Y → Y → Bool} {es mid es' : Entries K Y Q O} {reply : Reply O} (s : BothMut U V) (v : V) (a b : MappedSink (Recording (MultiCall X Y) (MultiAnswer P Q)) N) {o r : Recording (MultiCall X Y) (MultiAnswer P Q)} → a.sink.now ≡ o → r ≡ b.sink.now → IsReplyMut M call touches es mid (λ late L W. TookAs (MapsTook (Took p.calls (part_touches p.first_touches p.second_touches)) (λ _. second_call) (λ _. second_answer)) (MapsLates MarkedLate) late a b L W × DidSecond (both_mut p) s.second.now v W) reply es' → IsReplyMut M call touches es mid (λ late. Through second_call second_answer (λ L W. TookAs (Took p.calls (part_touches p.first_touches p.second_touches)) MarkedLate late o r L W × Did (both_mut p) s (second_mut_as s v) W)) reply es'
+  second_mut_reply s v a b begins ends k = part_reply second_call second_answer p.calls (part_touches p.first_touches p.second_touches) (DidSecond (both_mut p) s.second.now v) (Did (both_mut p) s (second_mut_as s v)) (second_mut_done s v) a b begins ends k

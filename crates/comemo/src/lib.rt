@@ -39,6 +39,7 @@ pub mod internal;
 mod lent;
 mod parts;
 mod parts_mut;
+mod parts_of_both;
 mod pending;
 mod recursive;
 mod recursive_mut;

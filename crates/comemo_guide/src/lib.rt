@@ -26,6 +26,7 @@
 pub mod adding;
 pub mod all_equal;
 pub mod both_pass;
+pub mod both_written;
 pub mod chains;
 pub mod double;
 pub mod greetings;

@@ -4,11 +4,12 @@ use comemo::{
     BothMut, CacheData, How, MemoOf, ReadAndWrite, Top, Track, memoized_mut, memoized_mut_with,
 };
 use comemo_guide::adding::{Adds, AddsTwice};
+use comemo_guide::both_written::NotesAndAdds;
 use comemo_guide::listing::Listing;
 use comemo_guide::read_and_write::{AddsDegrees, AddsOneMore, TallyWarmth};
 use comemo_guide::tally::Tally;
 use comemo_guide::warmth::Warmth;
-use comemo_samples::{Counter, Log, Town};
+use comemo_samples::{Counter, Log, Notebook, Town};
 use std::alloc::{AllocError, Global};
 use std::test::Fail;
 
@@ -214,6 +215,42 @@ fn a_counter_is_written_by_another_function(rt: HostRuntime) -> Result<(), Fail>
         assert_eq!(rt; counter.number, sum);
         assert_eq!(rt; kept.len(), inner);
     }
+    Ok(())
+}
+
+#[test]
+fn a_counter_and_a_notebook_are_written(rt: HostRuntime) -> Result<(), Fail> {
+    let alloc = rt.alloc();
+    let mut cache: CacheData<NotesAndAdds> = CacheData::new(alloc);
+    let mut kept: CacheData<MemoOf<Adds>> = CacheData::new(alloc);
+    let mut book = Notebook::new(alloc, 7, 3);
+    // The last columns are the counter's number afterwards and the number of entries of `Adds`.
+    let calls = [
+        (10, How::Stored, 16, 1),
+        (10, How::Hit, 16, 1),
+        (20, How::Stored, 26, 1),
+    ];
+    for (number, how, sum, inner) in calls {
+        let mut counter = Counter { number };
+        let mut both = BothMut {
+            first: &mut counter,
+            second: &mut book,
+        };
+        let reply = memoized_mut_with(
+            alloc,
+            &mut cache,
+            &mut kept,
+            5,
+            &mut both,
+            &mut Top::new(),
+            true,
+        )?;
+        assert_eq!(rt; (reply.output, reply.how), (number, how));
+        drop(both);
+        assert_eq!(rt; counter.number, sum);
+        assert_eq!(rt; kept.len(), inner);
+    }
+    assert_eq!(rt; book.lines(), [10, 10, 20].as_slice());
     Ok(())
 }
 

@@ -2,16 +2,17 @@ use Rattle.std.proofs.Common.{refl, ap, ◌∙◌}
 use Rattle.comemo_track.specs.contracts.multi.MultiCallPartialEq.TheImpl as calls
 use Rattle.comemo_track.specs.contracts.multi.MultiAnswerPartialEq.TheImpl as answers
 use Rattle.comemo_track.specs.Views.{place_of}
-use Rattle.comemo.proofs.PartsMut.{Joined, second_as, asks_as, asked_second_begun, tells_asked_second, refused_part_begun, tells_refused_part}
+use Rattle.comemo.proofs.PartsMut.{Parts, read_and_write, second_as, asks_as, asked_second_begun, tells_asked_second, refused_part_begun, tells_refused_part}
 use Rattle.comemo.proofs.parts_mut.RecorderMut+ReadAndWrite+A+B.ask_second.Given as given
 use Rattle.comemo.proofs.parts_mut.RecorderMut+ReadAndWrite+A+B.ask_second.Goals as goal
 
 -- both values
-abbrev joined : (g : given.Over) → Joined g.row.A.Denot g.row.B.Denot g.row.A-Call.Denot g.row.B-Call.Denot g.row.A-Answer.Denot g.row.B-Answer.Denot
-joined g = record {
+abbrev parts : (g : given.Over) → Parts g.row.A.Denot g.row.B.Denot g.row.A-Call.Denot g.row.B-Call.Denot g.row.A-Answer.Denot g.row.B-Answer.Denot
+parts g = record {
   first_answers = g.A.Track.answers;
   second_answers = g.B.Track.answers;
-  wrote = g.B.Track.wrote;
+  first_wrote = g.A.Track.wrote;
+  second_wrote = g.B.Track.wrote;
   first_writes = g.A.Call.Call.is_write;
   second_writes = g.B.Call.Call.is_write;
   first_touches = g.A.Call.Call.touches;
@@ -35,13 +36,13 @@ joined g = record {
 }
 
 pub returns-clause-agrees : goal.returns-clause-agrees
-returns-clause-agrees g c = asked_second_begun (joined g) refl refl c.requires.agrees (ap (λ v. second_as c.args.self.now.value.now v) (ap (λ view. (place_of view).now) c.ask.ensures.same ∙ c.track_mut-view.ensures.value)) c.args.call c.requires.read c.in_ok-ask.field-0 (asks_as (λ P W took. rw c.drop-sink-2.ensures (rw c.new-sink.ensures.value at took.sent)) (rw c.track_mut-view.ensures.value at c.in_ok-ask.ensures.ok))
+returns-clause-agrees g c = asked_second_begun (read_and_write (parts g)) refl refl c.requires.agrees (ap (λ v. second_as c.args.self.now.value.now v) (ap (λ view. (place_of view).now) c.ask.ensures.same ∙ c.track_mut-view.ensures.value)) c.args.call c.requires.read c.in_ok-ask.field-0 (asks_as (λ P W took. rw c.drop-sink-2.ensures (rw c.new-sink.ensures.value at took.sent)) (rw c.track_mut-view.ensures.value at c.in_ok-ask.ensures.ok))
 
 pub returns-clause-tells : goal.returns-clause-tells
-returns-clause-tells g c = tells_asked_second (joined g) refl refl c.requires.agrees (ap (λ v. second_as c.args.self.now.value.now v) (ap (λ view. (place_of view).now) c.ask.ensures.same ∙ c.track_mut-view.ensures.value)) c.args.call c.requires.read c.in_ok-ask.field-0 (asks_as (λ P W took. rw c.drop-sink-2.ensures (rw c.new-sink.ensures.value at took.sent)) (rw c.track_mut-view.ensures.value at c.in_ok-ask.ensures.ok))
+returns-clause-tells g c = tells_asked_second (read_and_write (parts g)) refl refl c.requires.agrees (ap (λ v. second_as c.args.self.now.value.now v) (ap (λ view. (place_of view).now) c.ask.ensures.same ∙ c.track_mut-view.ensures.value)) c.args.call c.requires.read c.in_ok-ask.field-0 (asks_as (λ P W took. rw c.drop-sink-2.ensures (rw c.new-sink.ensures.value at took.sent)) (rw c.track_mut-view.ensures.value at c.in_ok-ask.ensures.ok))
 
 pub returns-in_err-ask-clause-agrees : goal.returns-in_err-ask-clause-agrees
-returns-in_err-ask-clause-agrees g c = refused_part_begun (joined g) refl refl c.requires.agrees (ap (λ v. second_as c.args.self.now.value.now v) (ap (λ view. (place_of view).now) c.ask.ensures.same ∙ c.track_mut-view.ensures.value)) (rw c.drop-sink.ensures (rw c.new-sink.ensures.value at c.in_err-ask.ensures.err.sent))
+returns-in_err-ask-clause-agrees g c = refused_part_begun (read_and_write (parts g)) refl refl c.requires.agrees (ap (λ v. second_as c.args.self.now.value.now v) (ap (λ view. (place_of view).now) c.ask.ensures.same ∙ c.track_mut-view.ensures.value)) (rw c.drop-sink.ensures (rw c.new-sink.ensures.value at c.in_err-ask.ensures.err.sent))
 
 pub returns-in_err-ask-clause-tells : goal.returns-in_err-ask-clause-tells
-returns-in_err-ask-clause-tells g c = tells_refused_part (joined g) refl refl c.requires.agrees (ap (λ v. second_as c.args.self.now.value.now v) (ap (λ view. (place_of view).now) c.ask.ensures.same ∙ c.track_mut-view.ensures.value)) (rw c.drop-sink.ensures (rw c.new-sink.ensures.value at c.in_err-ask.ensures.err.sent)) c.from_residual.result c.from_residual.ensures.1
+returns-in_err-ask-clause-tells g c = tells_refused_part (read_and_write (parts g)) refl refl c.requires.agrees (ap (λ v. second_as c.args.self.now.value.now v) (ap (λ view. (place_of view).now) c.ask.ensures.same ∙ c.track_mut-view.ensures.value)) (rw c.drop-sink.ensures (rw c.new-sink.ensures.value at c.in_err-ask.ensures.err.sent)) c.from_residual.result c.from_residual.ensures.1

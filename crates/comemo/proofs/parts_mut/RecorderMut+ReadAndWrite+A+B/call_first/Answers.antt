@@ -8,16 +8,17 @@ use Rattle.comemo_track.specs.Recording.{Took, Spoiled}
 use Rattle.comemo.proofs.Calls.{resent}
 use Rattle.comemo.proofs.RecordersMut.{spoiled_any}
 use Rattle.comemo.proofs.ThroughMaps.{broke_through}
-use Rattle.comemo.proofs.PartsMut.{Joined, both_answers, called_first_begun, tells_called_first, part_writes, tells_failed_part}
+use Rattle.comemo.proofs.PartsMut.{Parts, read_and_write, Answers, read_first_begun, tells_read_first, part_writes, tells_failed_part}
 use Rattle.comemo.proofs.parts_mut.RecorderMut+ReadAndWrite+A+B.call_first.Given as given
 use Rattle.comemo.proofs.parts_mut.RecorderMut+ReadAndWrite+A+B.call_first.Goals as goal
 
 -- both values
-abbrev joined : (g : given.Over) → Joined g.row.A.Denot g.row.B.Denot g.row.A-Call.Denot g.row.B-Call.Denot g.row.A-Answer.Denot g.row.B-Answer.Denot
-joined g = record {
+abbrev parts : (g : given.Over) → Parts g.row.A.Denot g.row.B.Denot g.row.A-Call.Denot g.row.B-Call.Denot g.row.A-Answer.Denot g.row.B-Answer.Denot
+parts g = record {
   first_answers = g.A.Track.answers;
   second_answers = g.B.Track.answers;
-  wrote = g.B.Track.wrote;
+  first_wrote = g.A.Track.wrote;
+  second_wrote = g.B.Track.wrote;
   first_writes = g.A.Call.Call.is_write;
   second_writes = g.B.Call.Call.is_write;
   first_touches = g.A.Call.Call.touches;
@@ -41,14 +42,14 @@ joined g = record {
 }
 
 pub returns-clause-agrees : goal.returns-clause-agrees
-returns-clause-agrees g c = called_first_begun (joined g) refl refl c.requires.agrees g.G.Key.PartialEq.eq g.G.Out.Clone.is_clone g.G.Memo.def g.G.Memo.naming c.has_reads_and_writes.ensures.reads c.args.key c.in_ok-reply.reply refl (λ m writes d. c.requires.reads c.args.key m c.in_ok-reply.reply.output writes d) (resent (λ P W took. rw c.drop.ensures (rw c.new-sink.ensures.value at took.sent)) (some_by (g.H.Hold.entries c.args.cache.now) (g.H.Hold.entries c.args.cache.now) (g.H.Hold.entries c.memoized_view.new.cache) _ (rw c.fork-view.ensures at c.in_ok-reply.ensures.reply)).3)
+returns-clause-agrees g c = read_first_begun (read_and_write (parts g)) refl refl c.requires.agrees g.G.Key.PartialEq.eq g.G.Out.Clone.is_clone g.G.Memo.def g.G.Memo.naming c.has_reads_and_writes.ensures.reads c.args.key c.in_ok-reply.reply refl (λ m writes d. c.requires.reads c.args.key m c.in_ok-reply.reply.output writes d) (resent (λ P W took. rw c.drop.ensures (rw c.new-sink.ensures.value at took.sent)) (some_by (g.H.Hold.entries c.args.cache.now) (g.H.Hold.entries c.args.cache.now) (g.H.Hold.entries c.memoized_view.new.cache) _ (rw c.fork-view.ensures at c.in_ok-reply.ensures.reply)).3)
 
 pub returns-clause-tells : goal.returns-clause-tells
-returns-clause-tells g c = tells_called_first (joined g) refl refl c.requires.agrees g.G.Key.PartialEq.eq g.G.Out.Clone.is_clone g.G.Memo.def g.G.Memo.naming c.has_reads_and_writes.ensures.reads c.args.key c.in_ok-reply.reply refl (λ m writes d. c.requires.reads c.args.key m c.in_ok-reply.reply.output writes d) (resent (λ P W took. rw c.drop.ensures (rw c.new-sink.ensures.value at took.sent)) (some_by (g.H.Hold.entries c.args.cache.now) (g.H.Hold.entries c.args.cache.now) (g.H.Hold.entries c.memoized_view.new.cache) _ (rw c.fork-view.ensures at c.in_ok-reply.ensures.reply)).3)
+returns-clause-tells g c = tells_read_first (read_and_write (parts g)) refl refl c.requires.agrees g.G.Key.PartialEq.eq g.G.Out.Clone.is_clone g.G.Memo.def g.G.Memo.naming c.has_reads_and_writes.ensures.reads c.args.key c.in_ok-reply.reply refl (λ m writes d. c.requires.reads c.args.key m c.in_ok-reply.reply.output writes d) (resent (λ P W took. rw c.drop.ensures (rw c.new-sink.ensures.value at took.sent)) (some_by (g.H.Hold.entries c.args.cache.now) (g.H.Hold.entries c.args.cache.now) (g.H.Hold.entries c.memoized_view.new.cache) _ (rw c.fork-view.ensures at c.in_ok-reply.ensures.reply)).3)
 
 pub returns-clause-writes : goal.returns-clause-writes
 returns-clause-writes g c =
-    let j = joined g in
+    let j = parts g in
     let s = c.args.self.now in
     part_writes first_call first_answer {eqd = j.calls} {touches = part_touches j.first_touches j.second_touches} (j.first_answers s.value.now.first) (j.first_respects s.value.now.first) s.recording.now c.drop.new.self.0 c.in_ok-reply.reply (resent (λ P W took. rw c.drop.ensures (rw c.new-sink.ensures.value at took.sent)) (some_by (g.H.Hold.entries c.args.cache.now) (g.H.Hold.entries c.args.cache.now) (g.H.Hold.entries c.memoized_view.new.cache) _ (rw c.fork-view.ensures at c.in_ok-reply.ensures.reply)).3) (λ m writes d. c.requires.reads c.args.key m c.in_ok-reply.reply.output writes d)
 
@@ -58,13 +59,13 @@ returns-clause-reply g c = (c.in_ok-reply.reply, refl, (by_map (g.H.Hold.entries
 pub returns-in_err-reply-clause-err : goal.returns-in_err-reply-clause-err
 returns-in_err-reply-clause-err g c =
     let s = c.args.self.now.value.now in
-    let j = joined g in
+    let j = parts g in
     let err = c.in_err-reply.ensures.err in
-    let broke = broke_through j.first_calls j.first_likes j.calls j.likes first_call first_answer j.by_calls.firsts j.by_likes.firsts {takes = Took j.calls (part_touches j.first_touches j.second_touches)} {breaks = Spoiled} (λ s. s.sink.now) c.new-sink.result (λ t P took. took.sent) (λ t u spoils. spoils.spoiled) (both_answers j.first_answers j.second_answers s) (j.first_answers s.first) (λ x. refl) c.memoized_view.new.sink (rw c.fork-view.ensures at err.1) in
+    let broke = broke_through j.first_calls j.first_likes j.calls j.likes first_call first_answer j.by_calls.firsts j.by_likes.firsts {takes = Took j.calls (part_touches j.first_touches j.second_touches)} {breaks = Spoiled} (λ s. s.sink.now) c.new-sink.result (λ t P took. took.sent) (λ t u spoils. spoils.spoiled) (Answers (read_and_write j) s) (j.first_answers s.first) (λ x. refl) c.memoized_view.new.sink (rw c.fork-view.ensures at err.1) in
     on_err c.from_residual.result (err.0, rw c.drop-sink.ensures (rw c.new-sink.ensures.value at broke))
 
 pub returns-in_err-reply-clause-tells : goal.returns-in_err-reply-clause-tells
-returns-in_err-reply-clause-tells g c = tells_failed_part (joined g) refl refl ([], refl) (rw c.drop-sink.ensures c.in_err-reply.ensures.err.1.is_broken.spoiled.spoiled.whole) c.from_residual.result c.from_residual.ensures.0
+returns-in_err-reply-clause-tells g c = tells_failed_part (read_and_write (parts g)) refl refl ([], refl) (rw c.drop-sink.ensures c.in_err-reply.ensures.err.1.is_broken.spoiled.spoiled.whole) c.from_residual.result c.from_residual.ensures.0
 
 pub returns-in_err-reply-clause-agrees : goal.returns-in_err-reply-clause-agrees
 returns-in_err-reply-clause-agrees g c = spoiled_any _ (rw c.drop-sink.ensures c.in_err-reply.ensures.err.1.is_broken.spoiled.spoiled.whole)

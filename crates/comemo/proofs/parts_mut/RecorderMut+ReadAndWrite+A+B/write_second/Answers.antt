@@ -2,16 +2,17 @@ use Rattle.std.proofs.Common.{[], ◌∷◌, refl, ap}
 use Rattle.comemo_track.specs.contracts.multi.MultiCallPartialEq.TheImpl as calls
 use Rattle.comemo_track.specs.contracts.multi.MultiAnswerPartialEq.TheImpl as answers
 use Rattle.comemo_track.specs.Multi.{second_call}
-use Rattle.comemo.proofs.PartsMut.{Joined, second_as, second_done, wrote_second_begun, tells_wrote_second, refused_part_begun, tells_refused_part}
+use Rattle.comemo.proofs.PartsMut.{Parts, read_and_write, second_as, second_done, wrote_part_begun, tells_wrote_part, refused_part_begun, tells_refused_part}
 use Rattle.comemo.proofs.parts_mut.RecorderMut+ReadAndWrite+A+B.write_second.Given as given
 use Rattle.comemo.proofs.parts_mut.RecorderMut+ReadAndWrite+A+B.write_second.Goals as goal
 
 -- both values
-abbrev joined : (g : given.Over) → Joined g.row.A.Denot g.row.B.Denot g.row.A-Call.Denot g.row.B-Call.Denot g.row.A-Answer.Denot g.row.B-Answer.Denot
-joined g = record {
+abbrev parts : (g : given.Over) → Parts g.row.A.Denot g.row.B.Denot g.row.A-Call.Denot g.row.B-Call.Denot g.row.A-Answer.Denot g.row.B-Answer.Denot
+parts g = record {
   first_answers = g.A.Track.answers;
   second_answers = g.B.Track.answers;
-  wrote = g.B.Track.wrote;
+  first_wrote = g.A.Track.wrote;
+  second_wrote = g.B.Track.wrote;
   first_writes = g.A.Call.Call.is_write;
   second_writes = g.B.Call.Call.is_write;
   first_touches = g.A.Call.Call.touches;
@@ -35,20 +36,20 @@ joined g = record {
 }
 
 pub returns-clause-agrees : goal.returns-clause-agrees
-returns-clause-agrees g c = wrote_second_begun (joined g) refl refl c.requires.agrees (second_call c.args.call ∷ []) (rw c.drop-sink-2.ensures (rw c.new-sink.ensures.value at c.in_ok-write.ensures.sent.sent)) (second_done (joined g) c.args.self.now.value.now c.write.new.self.value.now (c.args.call ∷ []) (rw c.track_mut-view.ensures.value at c.in_ok-write.ensures.did))
+returns-clause-agrees g c = wrote_part_begun (read_and_write (parts g)) refl refl c.requires.agrees (second_call c.args.call ∷ []) (rw c.drop-sink-2.ensures (rw c.new-sink.ensures.value at c.in_ok-write.ensures.sent.sent)) (second_done (parts g) c.args.self.now.value.now c.write.new.self.value.now (c.args.call ∷ []) (rw c.track_mut-view.ensures.value at c.in_ok-write.ensures.did))
 
 pub returns-clause-tells : goal.returns-clause-tells
-returns-clause-tells g c = tells_wrote_second (joined g) refl refl c.requires.agrees (second_call c.args.call ∷ []) (rw c.drop-sink-2.ensures (rw c.new-sink.ensures.value at c.in_ok-write.ensures.sent.sent)) (second_done (joined g) c.args.self.now.value.now c.write.new.self.value.now (c.args.call ∷ []) (rw c.track_mut-view.ensures.value at c.in_ok-write.ensures.did)) _
+returns-clause-tells g c = tells_wrote_part (read_and_write (parts g)) refl refl c.requires.agrees (second_call c.args.call ∷ []) (rw c.drop-sink-2.ensures (rw c.new-sink.ensures.value at c.in_ok-write.ensures.sent.sent)) (second_done (parts g) c.args.self.now.value.now c.write.new.self.value.now (c.args.call ∷ []) (rw c.track_mut-view.ensures.value at c.in_ok-write.ensures.did)) _
 
 pub returns-clause-did : goal.returns-clause-did
-returns-clause-did g c = second_done (joined g) c.args.self.now.value.now c.write.new.self.value.now (c.args.call ∷ []) (rw c.track_mut-view.ensures.value at c.in_ok-write.ensures.did)
+returns-clause-did g c = second_done (parts g) c.args.self.now.value.now c.write.new.self.value.now (c.args.call ∷ []) (rw c.track_mut-view.ensures.value at c.in_ok-write.ensures.did)
 
 pub returns-in_err-write-clause-agrees : goal.returns-in_err-write-clause-agrees
 returns-in_err-write-clause-agrees g c =
     let err = rw c.track_mut-view.ensures.value at c.in_err-write.ensures.err in
-    refused_part_begun (joined g) refl refl c.requires.agrees (ap (λ v. second_as c.args.self.now.value.now v) err.0) (rw c.drop-sink.ensures (rw c.new-sink.ensures.value at err.1.sent))
+    refused_part_begun (read_and_write (parts g)) refl refl c.requires.agrees (ap (λ v. second_as c.args.self.now.value.now v) err.0) (rw c.drop-sink.ensures (rw c.new-sink.ensures.value at err.1.sent))
 
 pub returns-in_err-write-clause-tells : goal.returns-in_err-write-clause-tells
 returns-in_err-write-clause-tells g c =
     let err = rw c.track_mut-view.ensures.value at c.in_err-write.ensures.err in
-    tells_refused_part (joined g) refl refl c.requires.agrees (ap (λ v. second_as c.args.self.now.value.now v) err.0) (rw c.drop-sink.ensures (rw c.new-sink.ensures.value at err.1.sent)) c.from_residual.result c.from_residual.ensures.1
+    tells_refused_part (read_and_write (parts g)) refl refl c.requires.agrees (ap (λ v. second_as c.args.self.now.value.now v) err.0) (rw c.drop-sink.ensures (rw c.new-sink.ensures.value at err.1.sent)) c.from_residual.result c.from_residual.ensures.1
