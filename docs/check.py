@@ -5,7 +5,7 @@
 - Each `Type::member` and `module::item` that they name exists in crates/*/src, and so does the function of each
   `CRATE/src/FILE.rt:FUNCTION`. The first column of docs/DIFFERENCES.md and its last section name the
   original's items, and are left out.
-- docs/ARCHITECTURE.md names each crate of crates.txt, and no crate names in its code what the table of layers there forbids.
+- docs/ARCHITECTURE.md names each crate of crates.txt, and no crate or module names in its code what the table of layers there forbids.
 - Each module of a crate has a comment at its head.
 - Each crates/NAME/must-fail/README.md lists the edits of its folder, all and no others.
 - No crate but those named `*_tests` has a test, not even in a comment: `rt` would prove it twice.
@@ -113,7 +113,7 @@ def check_item(where, code):
 
 
 def check_hop(where, code):
-    """`CRATE/src/FILE.rt:FUNCTION`."""
+    """`CRATE/src/FILE.rt:FUNCTION`, the file perhaps in a folder of src/."""
     path, _, function = code.partition(":")
     file = ROOT / "crates" / path
     hops.add(code)
@@ -164,7 +164,7 @@ def check_document(path):
     for code in re.findall(r"`([^`\n]+)`", ours):
         check_item(where, code)
     for code in re.findall(r"`([^`\n]+)`", prose):
-        if re.fullmatch(r"\w+/src/\w+\.rt:\w+", code):
+        if re.fullmatch(r"\w+/src/[\w/]+\.rt:\w+", code):
             check_hop(where, code)
         if re.fullmatch(r"[\w.-]+(/[\w.+-]+)+/?", code):
             check_path(where, code, at)
@@ -208,15 +208,16 @@ def check_crates():
 
 
 def check_layers():
-    """The rows of the table of layers: the code of these crates, but for what they hand on, has none of these words."""
+    """The rows of the table of layers: the code of these crates and modules, but for what they hand on, has none of these words."""
     where = "docs/ARCHITECTURE.md"
     table = read(ROOT / where).partition("| Crates | Never name |")[2].partition("\n\n")[0]
-    rows = [re.findall(r"`(\w+)`", cell) for row in map(cells, table.splitlines()) if len(row) > 1 for cell in row[:2]]
+    rows = [re.findall(r"`([\w/]+)`", cell) for row in map(cells, table.splitlines()) if len(row) > 1 for cell in row[:2]]
     if not rows:
         say(where, "no table of layers")
     for crates, words in zip(rows[::2], rows[1::2]):
-        for crate, file in sources():
-            if crate not in crates or file.stem in ("lib", "main"):
+        for _, file in sources():
+            module = str(file.relative_to(ROOT / "crates").with_suffix("")) + "/"
+            if not any(module.startswith(f"{it}/") for it in crates) or file.stem in ("lib", "main"):
                 continue
             code = re.sub(r"\bpub use [^;]*;", "", re.sub(r"//.*", "", read(file)))
             for word in words:

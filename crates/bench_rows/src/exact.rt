@@ -2,8 +2,8 @@
 
 use crate::broken::Broken;
 use crate::calls::{call, gives};
-use calc_commands::{Answer, Command};
-use calc_sessions::session;
+use calc_core::commands::{Answer, Command};
+use calc_core::sessions::session;
 use comemo::{CacheData, How, MemoOf};
 use comemo_guide::numbers::{DoubleFlat, Flat};
 use std::alloc::{AllocError, Global};

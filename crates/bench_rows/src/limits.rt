@@ -1,9 +1,9 @@
 //! The row of a script under changing limits.
 
 use crate::broken::Broken;
-use calc_evaluation::{Eval, EvalFault, evaluate};
-use calc_files::Files;
-use calc_scripts::Outcome;
+use calc_core::evaluation::{Eval, EvalFault, evaluate};
+use calc_core::files::Files;
+use calc_core::scripts::Outcome;
 use comemo::{CacheData, How, Reply, Top, Track};
 use std::alloc::Global;
 

@@ -1,7 +1,7 @@
 //! Rows of the program `calc`: lines in, lines out.
 
 use crate::broken::Broken;
-use calc_sessions::{run, start};
+use calc_core::sessions::{run, start};
 use std::alloc::{AllocError, Global};
 
 /// Whether a new session prints this for these lines.

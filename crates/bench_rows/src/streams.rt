@@ -2,8 +2,8 @@
 
 use crate::broken::Broken;
 use crate::tally::Tally;
+use calc_core::sessions::run;
 use calc_lines::RunFault;
-use calc_sessions::run;
 use std::alloc::{AllocError, Global};
 use std::io::{BufReader, Error, ErrorKind, Read, Result as IoResult, Write};
 

@@ -1,4 +1,5 @@
-//! The program `calc`: commands in, one on a line, and answers out. All of it but its streams is `calc_sessions::start`.
+//! The program `calc`: commands in, one on a line, and answers out. All of it but its streams is
+//! `calc_core::sessions::start`.
 #![tactic(auto)]
 
 use std::alloc::AllocError;
@@ -37,7 +38,7 @@ fn main(rt: HostRuntime) -> ExitCode {
         return ExitCode::from(1);
     };
     let mut writer = io::writer(&rt);
-    let status = calc_sessions::start(
+    let status = calc_core::sessions::start(
         alloc,
         words.as_slice(),
         &mut reader,

@@ -23,14 +23,14 @@ use Rattle.comemo.specs.Multi.{second_call, second_answer}
 use Rattle.comemo.specs.declared.pending.How.TheVariants as how
 use Rattle.comemo.specs.declared.pending.Reply.{Reply}
 use Rattle.comemo.proofs.KeyedViews.{keyed_calls, keyed_answers}
-use Rattle.calc_files.specs.declared.files.Files.{Files}
-use Rattle.calc_files.specs.declared.files.FileCall.TheVariants.{Read}
-use Rattle.calc_files.specs.Files.{JoinedCall, JoinedAnswer, text_at, answers_of, with_key}
-use Rattle.calc_files.specs.Joined.{same_answer, same_key}
-use Rattle.calc_files.specs.Size.{Sizes, sizing, SizeReply}
-use Rattle.calc_files.proofs.WhatReadsTell.{files_respect}
-use Rattle.calc_files.proofs.FileCalls.{key_bytes, key_alike}
-use Rattle.calc_files.proofs.JoinedCalls.{tests}
+use Rattle.calc_core.specs.declared.files.Files.{Files}
+use Rattle.calc_core.specs.declared.files.FileCall.TheVariants.{Read}
+use Rattle.calc_core.specs.Files.{JoinedCall, JoinedAnswer, text_at, answers_of, with_key}
+use Rattle.calc_core.specs.Joined.{same_answer, same_key}
+use Rattle.calc_core.specs.Size.{Sizes, sizing, SizeReply}
+use Rattle.calc_core.proofs.WhatReadsTell.{files_respect}
+use Rattle.calc_core.proofs.FileCalls.{key_bytes, key_alike}
+use Rattle.calc_core.proofs.JoinedCalls.{tests}
 
 module _ {C R : Type 0} {eq : C → C → Bool} {same : R → R → Bool} (calls : IsEquivalence eq) (answers : IsEquivalence same) (m : C → R) (respects : Respects eq same m) where
   -- answers that agree with a sequence agree with each pair that it has

@@ -1,6 +1,6 @@
 //! Which line asks for which command, and what each answer prints.
-use calc_commands::{Answer, Command};
-use calc_scripts::CalcFault;
+use calc_core::commands::{Answer, Command};
+use calc_core::scripts::CalcFault;
 use std::alloc::Global;
 
 /// Whether the command of a line prints so.

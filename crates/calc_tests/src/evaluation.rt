@@ -1,8 +1,8 @@
 //! Tests of `evaluate`.
 use CalcFault::{NotANumber, Overflow};
-use calc_evaluation::{Eval, EvalFault, evaluate};
-use calc_files::Files;
-use calc_scripts::{CalcFault, Outcome};
+use calc_core::evaluation::{Eval, EvalFault, evaluate};
+use calc_core::files::Files;
+use calc_core::scripts::{CalcFault, Outcome};
 use comemo::{CacheData, Constraint, How, Reply, Track};
 use std::alloc::{AllocError, Global};
 use std::test::Fail;

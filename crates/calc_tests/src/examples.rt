@@ -1,10 +1,10 @@
-//! The examples at the heads of the crates that the program is made of.
-use calc_commands::{Answer, Command};
-use calc_evaluation::evaluate;
-use calc_files::{Files, size};
+//! The examples at the heads of the crates and modules that the program is made of.
+use calc_core::commands::{Answer, Command};
+use calc_core::evaluation::evaluate;
+use calc_core::files::{Files, size};
+use calc_core::scripts::{CalcFault, Outcome, Part, Parts, Total};
+use calc_core::sessions::{run, start};
 use calc_lines::Session;
-use calc_scripts::{CalcFault, Outcome, Part, Parts, Total};
-use calc_sessions::{run, start};
 use comemo::{CacheData, How, Top, Track};
 use std::alloc::{AllocError, Global};
 use std::test::Fail;
@@ -40,7 +40,7 @@ fn of_calc_lines(rt: HostRuntime) -> Result<(), Fail> {
 }
 
 #[test]
-fn of_calc_scripts(rt: HostRuntime) {
+fn of_scripts(rt: HostRuntime) {
     let mut parts = Parts::new("-7 + eval a");
     assert_eq!(rt; parts.next(), Some(Part::Number(-7)));
     assert_eq!(rt; parts.next(), Some(Part::Eval("a")));
@@ -56,7 +56,7 @@ fn of_calc_scripts(rt: HostRuntime) {
 }
 
 #[test]
-fn of_calc_commands(rt: HostRuntime) -> Result<(), Fail> {
+fn of_commands(rt: HostRuntime) -> Result<(), Fail> {
     let alloc = rt.alloc();
     let path = String::from_str(alloc, "a")?;
     let text = String::from_str(alloc, "1 + 2")?;
@@ -74,7 +74,7 @@ fn of_calc_commands(rt: HostRuntime) -> Result<(), Fail> {
 }
 
 #[test]
-fn of_calc_files(rt: HostRuntime) -> Result<(), Fail> {
+fn of_files(rt: HostRuntime) -> Result<(), Fail> {
     let alloc = rt.alloc();
     let mut files = Files::new(alloc);
     files.write(
@@ -95,7 +95,7 @@ fn of_calc_files(rt: HostRuntime) -> Result<(), Fail> {
 }
 
 #[test]
-fn of_calc_evaluation(rt: HostRuntime) -> Result<(), Fail> {
+fn of_evaluation(rt: HostRuntime) -> Result<(), Fail> {
     let alloc = rt.alloc();
     let mut files = Files::new(alloc);
     files.write(
@@ -128,7 +128,7 @@ fn of_calc_evaluation(rt: HostRuntime) -> Result<(), Fail> {
 }
 
 #[test]
-fn of_calc_sessions(rt: HostRuntime) -> Result<(), Fail> {
+fn of_sessions(rt: HostRuntime) -> Result<(), Fail> {
     let alloc = rt.alloc();
     let lines = "write a 1 + eval b\nwrite b 2\neval eval a\nwrite c 7\neval eval a\n";
     let mut printed: Vec<u8> = Vec::new(alloc);

@@ -1,7 +1,7 @@
 //! The memoized size of a file: its length in bytes, and after which changes it is still a hit.
 ghost use Rattle.std.specs.Prelude.{◌≡◌, ◌≢◌, string_bytes, IfOk};
 
-use calc_files::{FileSize, Files, size};
+use calc_core::files::{FileSize, Files, size};
 use comemo::{CacheData, Fault, How, Reply, Top, Track};
 use std::alloc::{AllocError, Global};
 use std::test::Fail;

@@ -1,7 +1,7 @@
 //! Lines that nobody would write: random bytes, very long lines, and files that refer to each other in a circle.
 
+use calc_core::sessions::run;
 use calc_lines::RunFault;
-use calc_sessions::run;
 use std::alloc::{AllocError, Global};
 
 /// Pseudorandom numbers from a seed.

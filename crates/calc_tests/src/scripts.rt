@@ -1,7 +1,7 @@
 //! The parts of a script, and their sum.
 use CalcFault::{NotANumber, Overflow};
 use Part::{Bad, Eval, Number};
-use calc_scripts::{CalcFault, Outcome, Part, Parts, Total};
+use calc_core::scripts::{CalcFault, Outcome, Part, Parts, Total};
 
 /// Whether a script has exactly these parts.
 fn has_parts(script: &str, want: &[Part<'_>]) -> bool {

@@ -1,5 +1,5 @@
 //! The program from its words on: its status and its output.
-use calc_sessions::start;
+use calc_core::sessions::start;
 use std::alloc::Global;
 use std::slice;
 use std::test::Fail;

@@ -1,5 +1,5 @@
 //! Shared texts.
-use calc_files::Text;
+use calc_core::files::Text;
 use std::alloc::{AllocError, Global};
 use std::cmp::Ordering;
 

@@ -1,8 +1,8 @@
 //! A large input of the program `calc`: many different scripts.
 
 use crate::stopwatch::{Seen, Stopwatch};
-use calc_commands::{Answer, CommandRef};
-use calc_sessions::State;
+use calc_core::commands::{Answer, CommandRef};
+use calc_core::sessions::State;
 use comemo::Fault;
 use std::alloc::{AllocError, Global};
 use std::rt::Clock;

@@ -1,0 +1,5 @@
+use Rattle.std.proofs.Common.{refl}
+use Rattle.calc_core.proofs.scripts.part.Parts.new.Goals as goal
+
+pub returns : goal.returns
+returns c = refl

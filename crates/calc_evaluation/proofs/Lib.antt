@@ -1,4 +1,0 @@
-pub mod Evaluations
-pub mod Asking
-pub mod Calls
-pub mod TooDeep

@@ -1,2 +1,0 @@
-pub mod Evaluations
-pub mod Calls

@@ -1,4 +1,0 @@
-pub mod FileCalls
-pub mod JoinedCalls
-pub mod WhatReadsTell
-pub mod Sizes

@@ -1,4 +1,0 @@
-pub mod Refusals
-pub mod EachAnswer
-pub mod Lines
-pub mod Recalling
