@@ -103,7 +103,7 @@ fn sums_of_last(
     let mut all: u64 = 0;
     for number in 0..operations {
         cells.set(9, number);
-        all = all.wrapping_add(sum(alloc, cache, key, &cells)?);
+        all = all.wrapping_add(sum(alloc, cache, key, cells)?);
     }
     Ok(all)
 }

@@ -1,5 +1,5 @@
 use Rattle.std.proofs.Common.{◌≡◌}
-use Rattle.speed.proofs.sums.SumOfCellsFunction.run.Given as goal
+use Rattle.speed.proofs.sums.SumOfCellsRun.run.Given as goal
 
 -- the cells that are asked stay the same
 abbrev pub invariant-loop-place : goal.invariant-loop-place
