@@ -1,50 +1,65 @@
 -- What a page is rendered to, and what is wrong with it.
-use Rattle.std.specs.Prelude.{⊤, ◌≡◌, ℕ, zero, suc, List, [], ◌∷◌, ◌++◌, map, Option, None, Some, unwrap_or}
+use Rattle.std.specs.Prelude.{⊤, ◌≡◌, ℕ, zero, suc, List, [], ◌∷◌, ◌++◌, codes, map, Option, None, Some, unwrap_or}
 use Rattle.std.specs.List.{fold}
 use Rattle.comemo.specs.Function.{OnPart}
 use Rattle.comemo.specs.Multi.{first_call, first_answer, second_call}
 use Rattle.comemo.specs.declared.MultiCall.{MultiCall}
 use Rattle.comemo.specs.declared.MultiAnswer.{MultiAnswer}
-use Rattle.comemo_site.specs.Sites.{title_in, lines_in}
-use Rattle.comemo_site.specs.declared.line.Line.{Line}
-use Rattle.comemo_site.specs.declared.line.Line.TheVariants.{Words, Include, Link}
+use Rattle.comemo_site.specs.Html.{element, anchor_html, plain_html, document_html}
+use Rattle.comemo_site.specs.Sites.{title_in, blocks_in}
+use Rattle.comemo_site.specs.declared.block.Block.{Block}
+use Rattle.comemo_site.specs.declared.block.Block.TheVariants.{Plain, Include, Link, Entry}
 use Rattle.comemo_site.specs.declared.log.Warning.{Warning}
 use Rattle.comemo_site.specs.declared.log.Warning.TheVariants.{Missing, TooDeep}
 use Rattle.comemo_site.specs.declared.site.SiteCall.{SiteCall}
-use Rattle.comemo_site.specs.declared.site.SiteCall.TheVariants.{TitleOf, LinesOf}
+use Rattle.comemo_site.specs.declared.site.SiteCall.TheVariants.{TitleOf, BlocksOf}
 use Rattle.comemo_site.specs.declared.site.SiteAnswer.{SiteAnswer}
 
--- the results of the lines, concatenated in order
-abbrev pub in_turn : {X : Type 0} → (Line → List X) → List Line → List X
-in_turn each lines = fold (λ all line. all ++ each line) [] lines
+-- the results of the blocks, concatenated in order
+abbrev pub in_turn : {X : Type 0} → (Block → List X) → List Block → List X
+in_turn each blocks = fold (λ all block. all ++ each block) [] blocks
 
 -- the warning of a page of this name, if it is missing
 abbrev pub missing : {X : Type 0} → List ℕ → Option X → List Warning
 missing name None = Missing name ∷ []
 missing name (Some x) = []
 
--- the text of a line, where `inner` is the text of an included page
-abbrev pub line_text : (SiteCall → SiteAnswer) → (List ℕ → List ℕ) → Line → List ℕ
-line_text m inner (Words words) = words ++ 10 ∷ []
-line_text m inner (Include name) = inner name
-line_text m inner (Link name) = unwrap_or (title_in (m (TitleOf name))) name ++ 10 ∷ []
+-- the title of the page of a name, or the name if there is no such page
+abbrev pub title_or_name : (SiteCall → SiteAnswer) → List ℕ → List ℕ
+title_or_name m name = unwrap_or (title_in (m (TitleOf name))) name
 
--- what is wrong with a line, where `inner` is what is wrong with an included page
-abbrev pub line_warnings : (SiteCall → SiteAnswer) → (List ℕ → List Warning) → Line → List Warning
-line_warnings m inner (Words words) = []
-line_warnings m inner (Include name) = inner name
-line_warnings m inner (Link name) = missing name (title_in (m (TitleOf name)))
+-- a link to the page of a name, in an element
+abbrev pub link_html : (SiteCall → SiteAnswer) → List ℕ → List ℕ → List ℕ
+link_html m tag name = element tag (anchor_html (title_or_name m name) name)
 
--- the text of the page of a name, with the pages that it includes up to a depth of `limit`
-abbrev pub page_text : (SiteCall → SiteAnswer) → ℕ → List ℕ → List ℕ
-page_text m zero name = []
-page_text m (suc limit) name = in_turn (line_text m (page_text m limit)) (unwrap_or (lines_in (m (LinesOf name))) [])
+-- the HTML of a block, where `inner` is that of an included page
+abbrev pub block_html : (SiteCall → SiteAnswer) → (List ℕ → List ℕ) → Block → List ℕ
+block_html m inner (Plain plain) = plain_html plain
+block_html m inner (Include name) = inner name
+block_html m inner (Link name) = link_html m (codes "p") name
+block_html m inner (Entry name) = link_html m (codes "li") name
+
+-- what is wrong with a block, where `inner` is what is wrong with an included page
+abbrev pub block_warnings : (SiteCall → SiteAnswer) → (List ℕ → List Warning) → Block → List Warning
+block_warnings m inner (Plain plain) = []
+block_warnings m inner (Include name) = inner name
+block_warnings m inner (Link name) = missing name (title_in (m (TitleOf name)))
+block_warnings m inner (Entry name) = []
+
+-- the HTML of the page of a name, with the pages that it includes up to a depth of `limit`
+abbrev pub page_html : (SiteCall → SiteAnswer) → ℕ → List ℕ → List ℕ
+page_html m zero name = []
+page_html m (suc limit) name = in_turn (block_html m (page_html m limit)) (unwrap_or (blocks_in (m (BlocksOf name))) [])
 
 -- what is wrong with it: a page is missing, or included too deep
 abbrev pub page_warnings : (SiteCall → SiteAnswer) → ℕ → List ℕ → List Warning
 page_warnings m zero name = TooDeep name ∷ []
-page_warnings m (suc limit) name = missing name (lines_in (m (LinesOf name))) ++ in_turn (line_warnings m (page_warnings m limit)) (unwrap_or (lines_in (m (LinesOf name))) [])
+page_warnings m (suc limit) name = missing name (blocks_in (m (BlocksOf name))) ++ in_turn (block_warnings m (page_warnings m limit)) (unwrap_or (blocks_in (m (BlocksOf name))) [])
 
--- where a site answers, this text is right, and so are the writes of these warnings
+-- the document of the page of a name
+abbrev pub page_document : (SiteCall → SiteAnswer) → ℕ → List ℕ → List ℕ
+page_document m limit name = document_html (title_or_name m name) name (page_html m limit name)
+
+-- where a site answers, this HTML is right, and so are the writes of these warnings
 abbrev pub IsPrinted : ((SiteCall → SiteAnswer) → List ℕ) → ((SiteCall → SiteAnswer) → List Warning) → List ℕ → (MultiCall SiteCall Warning → MultiAnswer SiteAnswer ⊤) → List (MultiCall SiteCall Warning) → Type 0
-IsPrinted text warnings given m writes = OnPart first_call first_answer m (λ site. (given ≡ text site) × (writes ≡ map second_call (warnings site)))
+IsPrinted html warnings given m writes = OnPart first_call first_answer m (λ site. (given ≡ html site) × (writes ≡ map second_call (warnings site)))

@@ -1,16 +1,18 @@
-//! A page with its warnings: a function that reads one value, writes another, and calls itself and another function.
+//! A page as HTML, with its warnings: a function that reads one value, writes another, and calls itself and another
+//! function.
 ghost use Rattle.std.specs.Prelude.{◌+◌};
 ghost use Rattle.std.proofs.Common.{rules};
 ghost use Rattle.comemo.specs.FunctionMut.{lent};
 ghost use Rattle.comemo.specs.MeaningLaws.{exact_memo_laws};
-ghost use Rattle.comemo_site.specs.Pages.{IsPrinted, line_text, line_warnings, page_text, page_warnings};
+ghost use Rattle.comemo_site.specs.Pages.{IsPrinted, block_html, block_warnings, page_html, page_warnings};
 ghost use Rattle.comemo_site.specs.SiteLaws.{answer_clones};
 
-use crate::line::Line;
-use crate::link::link_line;
+use crate::block::Block;
+use crate::html::Html;
+use crate::link::{entry_built, link_built};
 use crate::log::{Log, Warning};
-use crate::render::ended;
 use crate::site::{Site, SiteAnswer, SiteCall};
+use crate::tally::Tally;
 use crate::text::Text;
 use crate::title::Title;
 use crate::warns::Warns;
@@ -20,7 +22,7 @@ use comemo::{
 };
 use std::alloc::Global;
 
-/// The text of a page, with the pages that it includes down to a limit, and the warnings about them.
+/// The HTML of a page, with the pages that it includes down to a limit, and the warnings about them.
 pub struct Build;
 
 impl Memo for Build {
@@ -30,10 +32,10 @@ impl Memo for Build {
 
     type Answer = MultiAnswer<SiteAnswer, ()>;
 
-    type Out = Text;
+    type Out = Html;
 
-    ghost def = { λ key m text writes. IsPrinted (λ site. page_text site key.1 key.0)
-        (λ site. page_warnings site key.1 key.0) text m writes };
+    ghost def = { λ key m html writes. IsPrinted (λ site. page_html site key.1 key.0)
+        (λ site. page_warnings site key.1 key.0) html m writes };
 
     ghost laws = { exact_memo_laws (λ x y h. Prim.search rules) (λ x y h. Prim.search rules)
         (λ x y h. Prim.search rules) (λ a b h. Prim.search rules)
@@ -43,92 +45,100 @@ impl Memo for Build {
 /// What building keeps: the pages and the titles.
 pub type Built = (CacheData<Build>, CacheData<MemoOf<Title>>);
 
-/// The text of the page of a name, kept, with the pages that it includes down to a limit. It warns of what is wrong.
+/// The HTML of a page, kept, with what it includes down to a limit. It warns of what is wrong.
 #[cycle(building)]
 pub fn built<'a, B: Hold<Build>, T: Hold<MemoOf<Title>>>(
     alloc: Global,
     kept: &mut (B, T),
+    tally: &mut Tally,
     name: Text,
     limit: u64,
     both: &mut RecorderMut<'_, '_, ReadAndWrite<'a, Site, Log>>,
-) -> Result<Text, Fault>
+) -> Result<Html, Fault>
     requires agrees { ⟦<ReadAndWrite<'a, Site, Log> as Warns>⟧.agrees
         (lent both.now.value both.now.recording) }
     ensures agrees { ⟦<ReadAndWrite<'a, Site, Log> as Warns>⟧.agrees
         (lent both.new.value both.new.recording) }
     ensures tells { ⟦<ReadAndWrite<'a, Site, Log> as Warns>⟧.tells
         (lent both.old.value both.old.recording) (lent both.new.value both.new.recording) result
-        (λ site. page_text site limit name) (λ site. page_warnings site limit name) }
+        (λ site. page_html site limit name) (λ site. page_warnings site limit name) }
 {
     if limit == 0 {
         both.write_second(Warning::TooDeep(name))?;
-        return Ok(Text::new(String::new(alloc)));
+        return Ok(Html::new(alloc));
     }
     let key = (name, limit);
     let run = match both.begin(&mut kept.0, &key)? {
-        Begun::Hit(text) => return Ok(text),
+        Begun::Hit(html) => {
+            tally.count_hit();
+            return Ok(html);
+        }
         Begun::Run(run) => run,
     };
-    let ran = draft(alloc, kept, &key.0, limit - 1, both);
+    tally.count_run();
+    let ran = draft(alloc, kept, tally, &key.0, limit - 1, both);
     both.finish(&mut kept.0, &key, run, ran)
 }
 
-/// The run of it: the lines of the page, with the pages that they include down to a limit.
+/// The run of it: the blocks of the page, with the pages that they include down to a limit.
 #[cycle(building)]
 fn draft<'a, B: Hold<Build>, T: Hold<MemoOf<Title>>>(
     alloc: Global,
     kept: &mut (B, T),
+    tally: &mut Tally,
     name: &Text,
     limit: u64,
     both: &mut RecorderMut<'_, '_, ReadAndWrite<'a, Site, Log>>,
-) -> Result<Text, Fault>
+) -> Result<Html, Fault>
     requires agrees { ⟦<ReadAndWrite<'a, Site, Log> as Warns>⟧.agrees
         (lent both.now.value both.now.recording) }
     ensures agrees { ⟦<ReadAndWrite<'a, Site, Log> as Warns>⟧.agrees
         (lent both.new.value both.new.recording) }
     ensures tells { ⟦<ReadAndWrite<'a, Site, Log> as Warns>⟧.tells
         (lent both.old.value both.old.recording) (lent both.new.value both.new.recording) result
-        (λ site. page_text site (limit + 1) name.now)
+        (λ site. page_html site (limit + 1) name.now)
         (λ site. page_warnings site (limit + 1) name.now) }
 {
-    let SiteAnswer::Lines(lines) = both.ask_first(SiteCall::LinesOf(name.clone()?))? else {
+    let SiteAnswer::Blocks(blocks) = both.ask_first(SiteCall::BlocksOf(name.clone()?))? else {
         both.write_second(Warning::Missing(name.clone()?))?;
-        return Ok(Text::new(String::new(alloc)));
+        return Ok(Html::new(alloc));
     };
-    let mut text = String::new(alloc);
-    for line in &lines {
-        let part = line_built(alloc, kept, line, limit, both)?;
-        text.push_str(part.as_str())?;
+    let mut html = Html::new(alloc);
+    for block in &blocks {
+        let part = block_built(alloc, kept, tally, block, limit, both)?;
+        html.push(part.as_bytes())?;
     }
-    Ok(Text::new(text))
+    Ok(html)
 }
 
-/// The text of a line, with the page that it includes down to a limit.
+/// The HTML of a block, with the page that it includes down to a limit.
 #[cycle(building)]
-fn line_built<'a, B: Hold<Build>, T: Hold<MemoOf<Title>>>(
+fn block_built<'a, B: Hold<Build>, T: Hold<MemoOf<Title>>>(
     alloc: Global,
     kept: &mut (B, T),
-    line: &Line,
+    tally: &mut Tally,
+    block: &Block,
     limit: u64,
     both: &mut RecorderMut<'_, '_, ReadAndWrite<'a, Site, Log>>,
-) -> Result<Text, Fault>
+) -> Result<Html, Fault>
     requires agrees { ⟦<ReadAndWrite<'a, Site, Log> as Warns>⟧.agrees
         (lent both.now.value both.now.recording) }
     ensures agrees { ⟦<ReadAndWrite<'a, Site, Log> as Warns>⟧.agrees
         (lent both.new.value both.new.recording) }
     ensures tells { ⟦<ReadAndWrite<'a, Site, Log> as Warns>⟧.tells
         (lent both.old.value both.old.recording) (lent both.new.value both.new.recording) result
-        (λ site. line_text site (page_text site limit) line.now)
-        (λ site. line_warnings site (page_warnings site limit) line.now) }
+        (λ site. block_html site (page_html site limit) block.now)
+        (λ site. block_warnings site (page_warnings site limit) block.now) }
 {
-    match line {
-        Line::Words(words) => Ok(ended(alloc, words)?),
-        Line::Include(name) => built(alloc, kept, name.clone()?, limit, both),
-        Line::Link(name) => link_line(&mut kept.1, name, both),
+    match block {
+        Block::Plain(plain) => Ok(Html::of_plain(alloc, plain)?),
+        Block::Include(name) => built(alloc, kept, tally, name.clone()?, limit, both),
+        Block::Link(name) => link_built(alloc, &mut kept.1, name, both),
+        Block::Entry(name) => entry_built(alloc, &mut kept.1, name, both),
     }
 }
 
-/// The text of a page, with its warnings, as a function that is called like any.
+/// The HTML of a page, with its warnings, as a function that is called like any.
 ///
 /// The run calls `built`. After a fault the log has a prefix of the warnings.
 pub struct Publish;
@@ -140,7 +150,7 @@ impl Memo for Publish {
 
     type Answer = MultiAnswer<SiteAnswer, ()>;
 
-    type Out = Text;
+    type Out = Html;
 
     ghost def = { ⟦<Build as Memo>⟧.def };
 
@@ -156,8 +166,8 @@ impl<'a> FunctionMutOf<ReadAndWrite<'a, Site, Log>> for Publish {
         key: &(Text, u64),
         both: &mut RecorderMut<'_, '_, ReadAndWrite<'a, Site, Log>>,
         needs: &mut (Global, Built),
-    ) -> Result<Text, Fault> {
+    ) -> Result<Html, Fault> {
         let (alloc, kept) = needs;
-        built(*alloc, kept, key.0.clone()?, key.1, both)
+        built(*alloc, kept, &mut Tally::new(), key.0.clone()?, key.1, both)
     }
 }

@@ -67,6 +67,13 @@ impl Log {
         self.warnings.as_slice()
     }
 
+    /// The warnings, in the order in which they were written.
+    pub fn into_warnings(self) -> Vec<Warning>
+        ensures { result.items ≡ self }
+    {
+        self.warnings
+    }
+
     /// Drops the warnings.
     pub fn clear(&mut self)
         ensures { self.new ≡ [] }

@@ -1,9 +1,9 @@
 //! A site of pages by name: a tracked value that is only read.
 ghost use Rattle.std.specs.Prelude.{◌≡◌, ℕ, List, None, Some, false, refl, bytes_eq, if◌then◌else◌, string_bytes, unwrap_or, [], IsTrue, IfOk, OnOk, OnErr};
 ghost use Rattle.std.proofs.Common.{rules};
-ghost use Rattle.comemo_site.specs.Sites.{page_of, title_answer, lines_answer, title_in, lines_in};
+ghost use Rattle.comemo_site.specs.Sites.{page_of, title_answer, blocks_answer, title_in, blocks_in};
 
-use crate::line::Line;
+use crate::block::Block;
 use crate::text::Text;
 use comemo::{Call, Track};
 use std::alloc::{AllocError, Global};
@@ -14,8 +14,8 @@ use std::collections::HashMap;
 pub enum SiteCall {
     /// The title of the page of a name.
     TitleOf(Text),
-    /// The lines of the page of a name.
-    LinesOf(Text),
+    /// The blocks of the page of a name.
+    BlocksOf(Text),
 }
 
 impl Call for SiteCall {
@@ -43,8 +43,8 @@ pub enum SiteAnswer {
     Missing,
     /// Its title.
     Title(Text),
-    /// Its lines.
-    Lines(Vec<Line>),
+    /// Its blocks.
+    Blocks(Vec<Block>),
 }
 
 impl SiteAnswer {
@@ -54,16 +54,16 @@ impl SiteAnswer {
     {
         match self {
             SiteAnswer::Title(title) => Some(title),
-            SiteAnswer::Missing | SiteAnswer::Lines(_) => None,
+            SiteAnswer::Missing | SiteAnswer::Blocks(_) => None,
         }
     }
 
-    /// The lines; empty if there is no such page.
-    pub fn lines(&self) -> &[Line]
-        ensures { result.now ≡ unwrap_or (lines_in self.now) [] }
+    /// The blocks; empty if there is no such page.
+    pub fn blocks(&self) -> &[Block]
+        ensures { result.now ≡ unwrap_or (blocks_in self.now) [] }
     {
         match self {
-            SiteAnswer::Lines(lines) => lines.as_slice(),
+            SiteAnswer::Blocks(blocks) => blocks.as_slice(),
             SiteAnswer::Missing | SiteAnswer::Title(_) => &[],
         }
     }
@@ -74,8 +74,8 @@ impl SiteAnswer {
 pub struct Page {
     /// Its title.
     pub title: Text,
-    /// Its lines.
-    pub lines: Vec<Line>,
+    /// Its blocks.
+    pub blocks: Vec<Block>,
 }
 
 /// A site: the pages by their names.
@@ -108,6 +108,15 @@ impl Site {
         }
     }
 
+    #[tactic(auto, using(std::proofs::lemmas::Map::Text::text_keys))]
+    /// Removes the page of a name, if there is one.
+    pub fn remove(&mut self, name: &str)
+        ensures { (q : List ℕ) → page_of self.new.pages q
+            ≡ (if bytes_eq q name.now then None else page_of self.old.pages q) }
+    {
+        self.pages.remove(name);
+    }
+
     /// The answer with a page's title, copied.
     fn title(&self, name: &str) -> Result<SiteAnswer, AllocError>
         ensures { IfOk result (λ answer. answer ≡ title_answer (page_of self.now.pages name.now)) }
@@ -119,16 +128,16 @@ impl Site {
         Ok(SiteAnswer::Title(title))
     }
 
-    /// The answer with a page's lines, copied.
-    fn lines(&self, name: &str) -> Result<SiteAnswer, AllocError>
+    /// The answer with a page's blocks, copied.
+    fn blocks(&self, name: &str) -> Result<SiteAnswer, AllocError>
         ensures { IfOk result (λ answer. IsTrue (⟦<SiteAnswer as PartialEq>⟧.eq
-            (lines_answer (page_of self.now.pages name.now)) answer)) }
+            (blocks_answer (page_of self.now.pages name.now)) answer)) }
     {
         let Some(page) = self.pages.get(name) else {
             return Ok(SiteAnswer::Missing);
         };
-        let lines = page.lines.clone()?;
-        Ok(SiteAnswer::Lines(lines))
+        let blocks = page.blocks.clone()?;
+        Ok(SiteAnswer::Blocks(blocks))
     }
 }
 
@@ -149,7 +158,7 @@ impl Track for Site {
     fn ask(&self, call: &SiteCall) -> Result<SiteAnswer, AllocError> {
         match call {
             SiteCall::TitleOf(name) => self.title(name.as_str()),
-            SiteCall::LinesOf(name) => self.lines(name.as_str()),
+            SiteCall::BlocksOf(name) => self.blocks(name.as_str()),
         }
     }
 }

@@ -1,0 +1,92 @@
+//! What is written and printed of a build.
+ghost use Rattle.std.specs.Prelude.{◌≡◌, ◌≢◌, ◌↔◌, IsTrue, IfOk, Some, option_copied, string_bytes};
+ghost use Rattle.comemo_site.specs.Reports.{round_text, summary_text, warning_text};
+
+use crate::html::Html;
+use crate::log::Warning;
+use crate::tally::Tally;
+use std::alloc::{AllocError, Global};
+
+/// Whether a document has to be written over what its file holds: `None` if there is no such file.
+pub fn is_changed(there: Option<&[u8]>, document: &Html) -> bool
+    ensures { IsTrue result ↔ (option_copied there.entry ≢ Some document.now) }
+{
+    match there {
+        Some(bytes) => bytes != document.as_bytes(),
+        None => true,
+    }
+}
+
+/// The line about a warning of a page.
+pub fn warning_line(alloc: Global, page: &str, warning: &Warning) -> Result<String, AllocError>
+    ensures { IfOk result (λ line. string_bytes line ≡ warning_text page.now warning.now) }
+{
+    match warning {
+        Warning::Missing(name) => {
+            let name = name.as_str();
+            format!(in alloc; "{page}: no page is named {name}")
+        }
+        Warning::TooDeep(name) => {
+            let name = name.as_str();
+            format!(in alloc; "{page}: {name} is included too deep")
+        }
+    }
+}
+
+/// What became of the pages of a build.
+#[derive(Clone, Copy, Debug, PartialEq, Eq)]
+pub struct Summary {
+    /// The pages whose documents were written.
+    pub written: u64,
+    /// The pages whose documents were there already.
+    pub unchanged: u64,
+    /// The pages that were not built or not written.
+    pub failed: u64,
+    /// The warnings.
+    pub warnings: u64,
+}
+
+impl Summary {
+    /// Of no pages.
+    pub fn new() -> Self
+        ensures { result ≡ record { written = 0; unchanged = 0; failed = 0; warnings = 0 } }
+    {
+        Summary {
+            written: 0,
+            unchanged: 0,
+            failed: 0,
+            warnings: 0,
+        }
+    }
+
+    /// The line about a build.
+    pub fn line(&self, alloc: Global) -> Result<String, AllocError>
+        ensures { IfOk result (λ line. string_bytes line ≡ summary_text self.now) }
+    {
+        let Summary {
+            written,
+            unchanged,
+            failed,
+            warnings,
+        } = *self;
+        format!(in alloc;
+            "written {written}, unchanged {unchanged}, failed {failed}, warnings {warnings}"
+        )
+    }
+}
+
+/// The line about a round: its number, the pages that changed, the calls, and how long it took.
+pub fn round_line(
+    alloc: Global,
+    round: u64,
+    changed: u64,
+    tally: Tally,
+    milliseconds: u64,
+) -> Result<String, AllocError>
+    ensures { IfOk result (λ line. string_bytes line ≡ round_text round changed tally milliseconds) }
+{
+    let Tally { runs, hits } = tally;
+    format!(in alloc;
+        "round {round}: pages changed {changed}, calls run {runs}, calls hit {hits}, {milliseconds} ms"
+    )
+}
