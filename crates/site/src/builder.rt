@@ -203,7 +203,7 @@ impl<'a> Builder<'a> {
         let names = self.names(rt)?;
         let settings = Settings {
             limit: LIMIT,
-            jobs: self.request.jobs,
+            jobs: self.request.jobs.max(1),
             explains: self.explains,
         };
         let alloc = rt.alloc();

@@ -49,7 +49,7 @@ fn with_folders<'a>(alloc: Global, command: Command<'a>) -> Result<Command<'a>, 
 }
 
 /// The whole command.
-pub fn command(alloc: Global) -> Result<Command<'static>, Error> {
+pub fn command<'a>(alloc: Global) -> Result<Command<'a>, Error> {
     let build = Command::new(alloc, "build").about("Builds all pages, and writes what changed");
     let watch = Command::new(alloc, "watch").about("Looks once a second, and builds on a change");
     let explain = Arg::new(alloc, "explain")
