@@ -5,4 +5,5 @@ pub mod Node
 pub mod Nodes
 pub mod Reached
 pub mod Shape
+pub mod Values
 pub mod Growth

@@ -4,6 +4,7 @@ ghost use Rattle.std.specs.Map.{lookup};
 ghost use Rattle.std.specs.List.{insert};
 ghost use Rattle.comemo_tree.specs.Marks.{has_node, linked, linked_option};
 
+use crate::print::Branch;
 use crate::retention::is_there;
 use crate::tree::{InnerNode, LeafNode};
 use slab::Slab;
@@ -133,6 +134,31 @@ impl<R: Ord> Children<R> {
         if self.first.is_none() {
             self.first = self.more.pop_first();
         }
+    }
+}
+
+impl<R: Ord> Children<R> {
+    /// Puts the branches of a node with these children on a stack, the least answer's on top.
+    pub(crate) fn put_branches<'a, C>(
+        &'a self,
+        above: &'a InnerNode<C, R>,
+        branches: &mut Vec<Branch<'a, C, R>>,
+    ) -> Result<(), AllocError> {
+        for (answer, child) in self.more.iter().rev() {
+            branches.push(Branch {
+                above,
+                answer,
+                child: *child,
+            })?;
+        }
+        if let Some((answer, child)) = &self.first {
+            branches.push(Branch {
+                above,
+                answer,
+                child: *child,
+            })?;
+        }
+        Ok(())
     }
 }
 

@@ -29,8 +29,11 @@ mod change;
 pub mod children;
 mod ghost_key;
 mod insertion;
+mod print;
 mod retention;
 mod shape;
 pub mod tree;
+pub mod values;
 
 pub use tree::CallTree;
+pub use values::Values;

@@ -17,13 +17,16 @@ ghost use Rattle.comemo_tree.specs.Retain.{Retains, ReturnsAtMut};
 ghost use Rattle.comemo_tree.specs.Change.{Changes, HasAnswers, LeavesAt};
 ghost use Rattle.comemo_tree.specs.Nodes.{AddsInner, AddsLeaf, Forks, IsForest, contents, first_of};
 ghost use Rattle.comemo_tree.specs.Shape.{IsShape};
+ghost use Rattle.comemo_tree.specs.Values.{values_of};
 
 use crate::change::leaf_by_answers;
 use crate::children::{Children, Node};
 use crate::ghost_key::GhostKey;
 use crate::insertion::{begin_key, insert_below, plant};
+use crate::print::print_tree;
 use crate::retention::{prune, retain_leaves, retain_starts};
 use crate::shape::shape_of;
+use crate::values::Values;
 use comemo_base::{CallSequence, InsertError};
 use slab::Slab;
 use std::alloc::{AllocError, Global};
@@ -35,7 +38,7 @@ use std::marker::Model;
 use std::snapshot::Snapshot;
 
 /// A node that asks a call.
-#[derive(Debug, Drop)]
+#[derive(Drop)]
 pub(crate) struct InnerNode<C, R: Ord> {
     /// The call.
     pub(crate) call: C,
@@ -63,21 +66,8 @@ pub(crate) struct LeafNode<K, T> {
     pub(crate) depth: usize,
 }
 
-/// Prints all but its key, of which it has no bytes.
-impl<K, T: Debug> Debug for LeafNode<K, T> {
-    ghost debug_output = { λ _. None };
-
-    fn fmt<W: fmt::Write>(&self, f: &mut fmt::Formatter<W>) -> fmt::Result {
-        f.debug_struct("LeafNode")
-            .field("value", &self.value)
-            .field("parent", &self.parent)
-            .field("depth", &self.depth)
-            .finish()
-    }
-}
-
 /// Where a key's paths begin.
-#[derive(Debug, Drop)]
+#[derive(Drop)]
 pub(crate) struct Start {
     /// The first node: it asks the first call, or is the only leaf of a key without calls.
     pub(crate) first: Node,
@@ -87,7 +77,7 @@ pub(crate) struct Start {
 ///
 /// Contracts see it as a list of entries, whose order doesn't matter. Two paths under one key diverge: after an equal
 /// prefix they have the same call with different answers. So at most one path under a key agrees with given answers.
-#[derive(Debug, Drop)]
+#[derive(Drop)]
 pub struct CallTree<K: Eq + Hash, C: Eq + Hash, R: Ord, T> {
     inner: Slab<InnerNode<C, R>>,
     leaves: Slab<LeafNode<K, T>>,
@@ -108,6 +98,23 @@ impl<K: Eq + Hash, C: Eq + Hash, R: Ord, T> Model for CallTree<K, C, R, T> {
     ghost view = { λ t. contents t.inner t.leaves };
 
     ghost invariant = { λ t. IsForest C.eq R.eq K.eq None t.inner t.leaves t.starts };
+}
+
+/// Prints each key, and under it its calls with their answers, indented by depth, and the values.
+///
+/// A line is a call with one answer, and ends in the value if the path ends there. Fails if memory runs out.
+impl<K, C, R, T> Debug for CallTree<K, C, R, T>
+where
+    K: Eq + Hash + Debug,
+    C: Eq + Hash + Debug,
+    R: Ord + Debug,
+    T: Debug,
+{
+    ghost debug_output = { λ _. None };
+
+    fn fmt<W: fmt::Write>(&self, f: &mut fmt::Formatter<W>) -> fmt::Result {
+        print_tree(f, self.alloc, &self.inner, &self.leaves, &self.starts)
+    }
 }
 
 impl<K: Eq + Hash, C: Eq + Hash, R: Ord, T> CallTree<K, C, R, T> {
@@ -135,6 +142,15 @@ impl<K: Eq + Hash, C: Eq + Hash, R: Ord, T> CallTree<K, C, R, T> {
         ensures { result ≡ length self.now }
     {
         self.leaves.len()
+    }
+
+    /// The values, one for each entry, by reference and in no particular order.
+    pub fn values(&self) -> Values<'_, K, T>
+        ensures { result ≡ values_of self.now }
+    {
+        Values {
+            leaves: self.leaves.iter(),
+        }
     }
 
     /// Looks up the value under a key whose path has the oracle's answers.

@@ -7,6 +7,8 @@ mod examples;
 #[cfg(test)]
 mod plain;
 #[cfg(test)]
+mod printed;
+#[cfg(test)]
 mod steps;
 #[cfg(test)]
 mod wide;
