@@ -11,3 +11,4 @@ pub mod Stepping
 pub mod Named
 pub mod Peeking
 pub mod Tallying
+pub mod Sums

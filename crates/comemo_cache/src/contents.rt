@@ -1,5 +1,5 @@
 //! What a cache holds, in numbers.
-ghost use Rattle.std.specs.Prelude.{◌≡◌, ◌<◌, ◌==◌, ◌+◌, ◌-◌, ◌^◌, min, count_by, length, slice_index};
+ghost use Rattle.std.specs.Prelude.{◌≡◌, ◌<◌, ◌≤◌, ◌==◌, ◌+◌, ◌-◌, ◌^◌, min, sum, count_by, length, slice_index};
 ghost use Rattle.comemo_cache.specs.Contents.{count_at, HasKeys};
 
 use crate::cache::{CacheData, KeptRun, Memo};
@@ -28,6 +28,8 @@ impl<M: Memo> CacheData<M> {
         ensures keys { HasKeys self.now M.Key.eq result.keys }
         ensures ages { (place : _) → place < 8
             → slice_index result.ages place ≡ count_at self.now place }
+        ensures sum { sum result.ages ≡ result.entries }
+        ensures few { result.keys ≤ result.entries }
     {
         let entries = self.tree.len();
         let (_, _, _, keys) = self.tree.shape();
@@ -44,7 +46,7 @@ impl Contents {
     pub(crate) fn nothing() -> Contents
         ensures entries { result.entries ≡ 0 }
         ensures keys { result.keys ≡ 0 }
-        ensures ages { (place : _) → place < 8 → slice_index result.ages place ≡ 0 }
+        ensures ages { sum result.ages ≡ 0 }
     {
         Contents {
             entries: 0,

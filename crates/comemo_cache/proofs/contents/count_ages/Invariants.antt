@@ -1,4 +1,4 @@
-use Rattle.std.proofs.Common.{◌≡◌, ◌+◌, ◌<◌, ◌==◌, ◌≤◌, ℕ, length, min, count_by, slice_index}
+use Rattle.std.proofs.Common.{◌≡◌, ◌+◌, ◌<◌, ◌==◌, ℕ, length, min, count_by, slice_index}
 use Rattle.comemo_cache.proofs.contents.count_ages.Given as goal
 
 -- the counts so far and those of the runs that are left are the counts of all
