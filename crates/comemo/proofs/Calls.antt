@@ -1,11 +1,13 @@
 -- For authors of memoized functions: from the contracts of `begin` and `finish`, what a caller wants to know.
 use Rattle.std.specs.Prelude.{⊤}
-use Rattle.std.proofs.Common.{◌≡◌, Bool, true, false, List, [], ◌∷◌, ◌++◌, inl, inr, Result, Ok, Err, IfErr, OnErr, IsErrAnd, refl, sym, subst, ◌∙◌}
+use Rattle.std.proofs.Common.{◌≡◌, Bool, true, false, List, [], ◌∷◌, ◌++◌, inl, inr, Result, Ok, Err, IfOk, IfErr, OnErr, IsErrAnd, refl, sym, subst, ◌∙◌}
 use Rattle.std.specs.Cmp.{IsEquivalence}
 use Rattle.comemo_base.specs.Answers.{Respects, Agrees}
 use Rattle.comemo_track.specs.Recording.{Recording}
 use Rattle.comemo.specs.Begin.{PendingRun, came_to, HasToRun, IsHit, IsRun, IsBrokenOff, IsStopped}
-use Rattle.comemo.specs.Begun.{OnFault}
+use Rattle.comemo.specs.Begun.{OnBegun, OnFault}
+use Rattle.comemo.specs.declared.pending.Begun.{Begun}
+use Rattle.comemo.specs.declared.pending.Begun.TheVariants.{Hit, Run as Begins}
 use Rattle.comemo_track.specs.Sending.{TookAs}
 use Rattle.std.proofs.lemmas.Bool.{cases_Bool}
 use Rattle.comemo_cache.specs.Meaning.{Meaning, Invocation, invocation, Run, run}
@@ -27,6 +29,13 @@ recorded begun t = record { key = begun.key; enabled = begun.enabled; recording 
 some_write : {C : Type 0} (front : List C) (next : C) (rest : List C) → front ++ next ∷ rest ≡ [] → ⊥
 some_write [] next rest e = cc
 some_write (c ∷ front) next rest e = cc
+
+-- what a clause says of a call that began as a hit, or as a run
+pub of_hit : {O I : Type 0} (r : Result (Begun O I) Fault) (b : Begun O I) (output : O) (P : O → Type 0) (Q : I → Type 0) → r ≡ Ok b → b ≡ Hit output → IfOk r (λ x. OnBegun x P Q) → P output
+of_hit r b output P Q ok hit is = let k : IfOk {E = Fault} (Ok b) (λ x. OnBegun x P Q) = subst (λ x. IfOk x (λ y. OnBegun y P Q)) ok is in subst (λ x. OnBegun x P Q) hit k
+
+pub of_run : {O I : Type 0} (r : Result (Begun O I) Fault) (b : Begun O I) (run : I) (P : O → Type 0) (Q : I → Type 0) → r ≡ Ok b → b ≡ Begins run → IfOk r (λ x. OnBegun x P Q) → Q run
+of_run r b run P Q ok begins is = let k : IfOk {E = Fault} (Ok b) (λ x. OnBegun x P Q) = subst (λ x. IfOk x (λ y. OnBegun y P Q)) ok is in subst (λ x. OnBegun x P Q) begins k
 
 -- why a call did not begin
 pub on_fault : (f : Fault) {P Q X : Type 0} → OnFault f P Q → (P → X) → (Q → X) → X

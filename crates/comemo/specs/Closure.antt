@@ -11,6 +11,10 @@ use Rattle.comemo.specs.declared.pending.Fault.TheVariants as fault
 use Rattle.comemo.specs.declared.pending.How.{How}
 use Rattle.comemo.specs.declared.pending.How.TheVariants as how
 
+-- what a closure does to an input and a recording, from before to after, and what it returns
+abbrev pub Deed : Type 0 → Type 0 → Type 0 → Type 1
+Deed I P O = MutBor I → MutBor P → Result O Fault → MutBor I → MutBor P → Type 0
+
 module _ {K C R O : Type 0} (M : Meaning K C R O) (es : Entries K C R O) (call : Invocation K C R) where
   module _ {I P : Type 0} (did : I → I → List C → Type 0) (recorded : P → Recording C R) where
     -- what a run gets if no entry has the key and agrees: the input, unchanged, and an empty recording that is complete

@@ -1,14 +1,13 @@
 //! A call of a memoized function whose run is a closure.
-ghost use Rattle.std.specs.Prelude.{◌≡◌, [], true, false, IfOk, IfErr, OnErr, Ok};
+ghost use Rattle.std.specs.Prelude.{◌≡◌, [], Bool, true, false, IfOk, IfErr, OnErr, Ok};
 ghost use Rattle.std.specs.Borrow.{MutBor};
-ghost use Rattle.comemo.specs.Begin.{IsHit};
 ghost use Rattle.comemo_track.specs.Recording.{Recording};
 ghost use Rattle.comemo_cache.specs.Meaning.{IsNamedRun, run};
-ghost use Rattle.comemo_cache.specs.Cache.{Stands, Touches};
+ghost use Rattle.comemo_cache.specs.Cache.{Stands};
 ghost use Rattle.comemo_cache.specs.Held.{Held, Leads, LeadsBy};
 ghost use Rattle.comemo.specs.Closure.{Starts, Ran, RanTo, Ended, IsFault, IsBroken};
 
-use crate::pending::{Begun, Fault, How, Invoked, Reply, begin};
+use crate::pending::{Begun, Calling, Fault, How, Invoked, Reply, begin};
 use comemo_cache::cache::{Meant, Memo};
 use comemo_cache::hold::Hold;
 use comemo_track::constraint::Constraint;
@@ -57,19 +56,88 @@ impl<C: Call, R: Clone + Ord> Record for Constraint<C, R> {
     }
 }
 
+/// How a call whose run is a closure goes, for contracts, as `⟦<M as Does<H, In, S, P>>⟧.ran`: by the closure's
+/// precondition or postcondition. There is nothing to implement.
+pub trait Does<H, In, S, P>: Memo
+where
+    H: Hold<Self>,
+    In: Input<Call = Self::Call, Key = Self::Key, Answer = Self::Answer>,
+    S: Sink<Call = Self::Call, Answer = Self::Answer>,
+    P: Record<Call = Self::Call, Answer = Self::Answer>,
+{
+    ghost use Rattle.comemo.specs.Closure.{Deed};
+    ghost use Rattle.comemo.specs.declared.pending.Fault.{Fault};
+    ghost use Rattle.comemo.specs.declared.pending.Reply.{Reply};
+
+    // the closure may be called with the input and an empty recording, unless an entry has the key and agrees
+    ghost calls: { (MutBor In → MutBor P → Type 0) → H → In → Bool → Type 0 };
+
+    // unless its recording is incomplete or late, its output is right for all answers that agree with it
+    ghost right: { Deed In P Self.Out → H → In → Bool → Type 0 };
+
+    // if the asked calls are named, the recording is a run of them
+    ghost named: { Deed In P Self.Out → H → In → Bool → Type 0 };
+
+    // it ran, and the call had this reply
+    ghost ran: { Deed In P Self.Out → Bool → H → H → In → In → S → S
+        → Reply Self.Out → Type 0 };
+
+    // why the call failed
+    ghost fails: { Deed In P Self.Out → Bool → H → In → In → Fault → Type 0 };
+
+    // what the failed call did to sink and entries
+    ghost breaks: { Deed In P Self.Out → Bool → H → H → In → In → S → S → Type 0 };
+}
+
+impl<M: Memo, H, In, S, P> Does<H, In, S, P> for M
+where
+    H: Hold<M>,
+    In: Input<Call = M::Call, Key = M::Key, Answer = M::Answer>,
+    S: Sink<Call = M::Call, Answer = M::Answer>,
+    P: Record<Call = M::Call, Answer = M::Answer>,
+{
+    ghost calls = { λ pre h input enabled. (i : MutBor In) (p : MutBor P)
+        → Held (H.entries h) (λ es. Starts ⟦<M as Meant>⟧.meaning es
+        (⟦<In as Invoked>⟧.invoked input enabled) In.did P.recorded input i p)
+        → pre i p };
+
+    ghost right = { λ post h input enabled. (output : M.Out) (t : Recording M.Call M.Answer)
+        → Held (H.entries h) (λ es. Ran ⟦<M as Meant>⟧.meaning es
+        (⟦<In as Invoked>⟧.invoked input enabled)
+        In.did P.recorded post input (Ok output) t)
+        → t.whole ≡ true → t.late ≡ false
+        → Stands ⟦<M as Meant>⟧.meaning (run (In.key_of input) t.pairs output t.writes) };
+
+    ghost named = { λ post h input enabled. (output : M.Out) (t : Recording M.Call M.Answer)
+        → Held (H.entries h) (λ es. Ran ⟦<M as Meant>⟧.meaning es
+        (⟦<In as Invoked>⟧.invoked input enabled)
+        In.did P.recorded post input (Ok output) t)
+        → t.whole ≡ true → t.late ≡ false
+        → IsNamedRun ⟦<M as Meant>⟧.meaning (In.key_of input) t.pairs };
+
+    ghost ran = { λ post enabled h h' i j s t reply.
+        LeadsBy (H.entries h) (H.entries h) (H.entries h') (λ es mid es'.
+        Ended ⟦<M as Meant>⟧.meaning mid (⟦<In as Invoked>⟧.invoked i enabled)
+        (RanTo ⟦<M as Meant>⟧.meaning es (⟦<In as Invoked>⟧.invoked i enabled)
+        In.did P.recorded post i j)
+        (λ late. ⟦<S as Breaking>⟧.took_as late s t) reply.output reply.how es') };
+
+    ghost fails = { λ post enabled h i j fault. Held (H.entries h) (λ es.
+        IsFault ⟦<M as Meant>⟧.meaning es (⟦<In as Invoked>⟧.invoked i enabled)
+        In.did P.recorded post i j fault) };
+
+    ghost breaks = { λ post enabled h h' i j s t. Leads (H.entries h) (H.entries h') (λ es es'.
+        IsBroken ⟦<M as Meant>⟧.meaning es (⟦<In as Invoked>⟧.invoked i enabled)
+        In.did P.recorded post i j (⟦<S as Breaking>⟧.breaks_off s t)
+        (⟦<S as Breaking>⟧.spoiled_after s t) es') };
+}
+
 /// Calls a memoized function whose run is a closure: returns the output of an entry that agrees, or calls the closure
 /// and stores the run.
 ///
 /// All that the closure asks must go to its recording. Unless that is late, the output must be right for all answers
 /// that agree with it. With `enabled` false there is no look-up, and nothing is stored.
-pub fn memoize<
-    M: Memo,
-    H: Hold<M>,
-    In: Input<Call = M::Call, Key = M::Key, Answer = M::Answer>,
-    S: Sink<Call = M::Call, Answer = M::Answer>,
-    P: Record<Call = M::Call, Answer = M::Answer>,
-    F: FnOnce(&mut In, &mut P) -> Result<M::Out, Fault>,
->(
+pub fn memoize<M: Memo, H: Hold<M>, In, S, P, F>(
     alloc: Global,
     cache: &mut H,
     input: &mut In,
@@ -77,43 +145,22 @@ pub fn memoize<
     enabled: bool,
     func: F,
 ) -> Result<Reply<M::Out>, Fault>
-    requires callable { (i : MutBor In) (p : MutBor P)
-        → Held (H.entries cache.now) (λ es. Starts ⟦<M as Meant>⟧.meaning es
-        (⟦<In as Invoked>⟧.invoked input.now enabled) In.did P.recorded input.now i p)
-        → F.pre func i p }
-    requires right { (output : M.Out) (t : Recording M.Call M.Answer)
-        → Held (H.entries cache.now) (λ es. Ran ⟦<M as Meant>⟧.meaning es
-        (⟦<In as Invoked>⟧.invoked input.now enabled)
-        In.did P.recorded (F.post func) input.now (Ok output) t)
-        → t.whole ≡ true → t.late ≡ false
-        → Stands ⟦<M as Meant>⟧.meaning (run (In.key_of input.now) t.pairs output t.writes) }
-    requires settled { (output : M.Out) (t : Recording M.Call M.Answer)
-        → Held (H.entries cache.now) (λ es. Ran ⟦<M as Meant>⟧.meaning es
-        (⟦<In as Invoked>⟧.invoked input.now enabled)
-        In.did P.recorded (F.post func) input.now (Ok output) t)
-        → t.whole ≡ true → t.late ≡ false
-        → IsNamedRun ⟦<M as Meant>⟧.meaning (In.key_of input.now) t.pairs }
-    ensures hit { IfOk result (λ reply. reply.how ≡ How.Hit
-        → Leads (H.entries cache.old) (H.entries cache.new) (λ es es'.
-        IsHit ⟦<M as Meant>⟧.meaning es (⟦<In as Invoked>⟧.invoked input.old enabled)
-        (In.did input.old input.new) (S.took sink.old sink.new) reply.output
-        × Touches ⟦<M as Meant>⟧.meaning es
-        (⟦<In as Invoked>⟧.invoked input.old enabled) es')) }
-    ensures run { IfOk result (λ reply. (reply.how ≡ How.Hit → ⊥)
-        → LeadsBy (H.entries cache.old) (H.entries cache.old) (H.entries cache.new) (λ es mid es'.
-        Ended ⟦<M as Meant>⟧.meaning mid (⟦<In as Invoked>⟧.invoked input.old enabled)
-        (RanTo ⟦<M as Meant>⟧.meaning es (⟦<In as Invoked>⟧.invoked input.old enabled)
-        In.did P.recorded (F.post func) input.old input.new)
-        (λ late. ⟦<S as Breaking>⟧.took_as late sink.old sink.new)
-        reply.output reply.how es')) }
-    ensures fault { IfErr result (λ fault. Held (H.entries cache.old) (λ es.
-        IsFault ⟦<M as Meant>⟧.meaning es (⟦<In as Invoked>⟧.invoked input.old enabled)
-        In.did P.recorded (F.post func) input.old input.new fault)) }
-    ensures err { OnErr result (Leads (H.entries cache.old) (H.entries cache.new) (λ es es'.
-        IsBroken ⟦<M as Meant>⟧.meaning es (⟦<In as Invoked>⟧.invoked input.old enabled)
-        In.did P.recorded (F.post func) input.old input.new
-        (⟦<S as Breaking>⟧.breaks_off sink.old sink.new)
-        (⟦<S as Breaking>⟧.spoiled_after sink.old sink.new) es')) }
+where
+    In: Input<Call = M::Call, Key = M::Key, Answer = M::Answer>,
+    S: Sink<Call = M::Call, Answer = M::Answer>,
+    P: Record<Call = M::Call, Answer = M::Answer>,
+    F: FnOnce(&mut In, &mut P) -> Result<M::Out, Fault>,
+    requires callable { ⟦<M as Does<H, In, S, P>>⟧.calls (F.pre func) cache.now input.now enabled }
+    requires right { ⟦<M as Does<H, In, S, P>>⟧.right (F.post func) cache.now input.now enabled }
+    requires settled { ⟦<M as Does<H, In, S, P>>⟧.named (F.post func) cache.now input.now enabled }
+    ensures hit { IfOk result (λ reply. reply.how ≡ How.Hit → ⟦<M as Calling<H, In, S>>⟧.hits
+        enabled cache.old cache.new input.old input.new sink.old sink.new reply.output) }
+    ensures run { IfOk result (λ reply. (reply.how ≡ How.Hit → ⊥) → ⟦<M as Does<H, In, S, P>>⟧.ran
+        (F.post func) enabled cache.old cache.new input.old input.new sink.old sink.new reply) }
+    ensures fault { IfErr result (⟦<M as Does<H, In, S, P>>⟧.fails (F.post func)
+        enabled cache.old input.old input.new) }
+    ensures err { OnErr result (⟦<M as Does<H, In, S, P>>⟧.breaks (F.post func)
+        enabled cache.old cache.new input.old input.new sink.old sink.new) }
 {
     match begin(alloc, cache, input, sink, enabled) {
         Ok(Begun::Hit(output)) => {

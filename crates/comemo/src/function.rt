@@ -1,6 +1,6 @@
 //! What a memoized function of a key and a tracked value means, and the run and the calls of one that only reads. A hit
 //! costs what `begin` costs; any other call costs what `begin`, the run and `Pending::finish` cost.
-ghost use Rattle.std.specs.Prelude.{◌≡◌, ◌⊎◌, [], List, true, false, IsTrue, IfOk, IfErr, OnOk, OnErr, ⊤};
+ghost use Rattle.std.specs.Prelude.{◌≡◌, ◌⊎◌, [], List, Bool, true, false, IsTrue, IfOk, IfErr, OnOk, OnErr, ⊤};
 ghost use Rattle.comemo_cache.specs.Meaning.{Naming, unnamed, invocation};
 ghost use Rattle.comemo.specs.FunctionMut.{LawsMut};
 ghost use Rattle.comemo.specs.Called.{RanAs, IsOfRun, HeldReply};
@@ -95,8 +95,8 @@ pub trait Run: Function {
             → ⟦<Self::Of as Told>⟧.fits of.new.recording m → Self.means key.now m output) }
         ensures none { (m : Self.Of.Call → Self.Of.Answer) (output : Self.Out)
             → Self.writes key.now m output [] }
-        ensures settled { SettlesRun Self.Key.eq Self.Of.Call.eq Self.Of.Answer.eq Self.naming key.now
-            of.old.recording of.new.recording result }
+        ensures settled { SettlesRun Self.Key.eq Self.Of.Call.eq Self.Of.Answer.eq
+            Self.naming key.now of.old.recording of.new.recording result }
         ensures fault { IfErr result
             (λ fault. fault ≡ Fault.Incomplete → of.new.recording.whole ≡ false) };
 }
@@ -269,16 +269,45 @@ impl<F: Run> FunctionOf<F::Of> for MemoOf<F> {
     }
 }
 
+/// How a call goes that takes a holder and a sink from these to those, for contracts, as
+/// `⟦<M as Answering<H, T, S>>⟧.replies`. There is nothing to implement.
+pub trait Answering<H, T, S>: Memo<Call = T::Call, Answer = T::Answer>
+where
+    H: Hold<Self>,
+    T: Track,
+    S: Sink<Call = T::Call, Answer = T::Answer>,
+{
+    ghost use Rattle.comemo.specs.declared.pending.Fault.{Fault};
+    ghost use Rattle.comemo.specs.declared.pending.Reply.{Reply};
+
+    // the reply, at this key and this value
+    ghost replies: { Bool → Self.Key → T → H → H → S → S → Reply Self.Out → Type 0 };
+
+    // it failed with this fault: out of memory, or that of its run
+    ghost fails: { Bool → Self.Key → T → H → S → S → Fault → Type 0 };
+}
+
+impl<M: Memo<Call = T::Call, Answer = T::Answer>, H, T, S> Answering<H, T, S> for M
+where
+    H: Hold<M>,
+    T: Track,
+    S: Sink<Call = T::Call, Answer = T::Answer>,
+{
+    ghost use Rattle.comemo.specs.declared.pending.Fault.TheVariants.{Memory};
+
+    ghost replies = { λ enabled key of h h' s t reply. HeldReply ⟦<M as Meant>⟧.meaning
+        (invocation key (T.answers of) enabled) (H.entries h) (S.took s t) reply (H.entries h') };
+
+    ghost fails = { λ enabled key of h s t fault. (fault ≡ Memory)
+        ⊎ Held (H.entries h) (λ es. IsOfRun ⟦<M as Meant>⟧.meaning
+        (invocation key (T.answers of) enabled) es (S.spoils s t)) };
+}
+
 /// Calls a memoized function: returns the output of an entry that agrees, or runs the function and stores the run.
 ///
 /// The sink takes what was asked: it is the recording of the outer run, or `Top`. With `enabled` false there is no
 /// look-up, and nothing is stored.
-pub fn memoized_with<
-    M: FunctionOf<T>,
-    H: Hold<M>,
-    T: Track,
-    S: Sink<Call = T::Call, Answer = T::Answer>,
->(
+pub fn memoized_with<M: FunctionOf<T>, H: Hold<M>, T: Track, S>(
     alloc: Global,
     cache: &mut H,
     needs: &mut M::Needs,
@@ -287,15 +316,14 @@ pub fn memoized_with<
     sink: &mut S,
     enabled: bool,
 ) -> Result<Reply<M::Out>, Fault>
+where
+    S: Sink<Call = T::Call, Answer = T::Answer>,
     requires { ReadsAlone M.def }
     ensures right { IfOk result (λ reply. M.def key (T.answers of.now) reply.output []) }
-    ensures reply { IfOk result (λ reply. HeldReply ⟦<M as Meant>⟧.meaning
-        (invocation key (T.answers of.now) enabled) (H.entries cache.old)
-        (S.took sink.old sink.new) reply (H.entries cache.new)) }
-    ensures fault { IfErr result
-        (λ fault. (fault ≡ Fault.Memory) ⊎ Held (H.entries cache.old) (λ es.
-        IsOfRun ⟦<M as Meant>⟧.meaning (invocation key (T.answers of.now) enabled) es
-        (S.spoils sink.old sink.new))) }
+    ensures reply { IfOk result (⟦<M as Answering<H, T, S>>⟧.replies
+        enabled key of.now cache.old cache.new sink.old sink.new) }
+    ensures fault { IfErr result (⟦<M as Answering<H, T, S>>⟧.fails
+        enabled key of.now cache.old sink.old sink.new) }
     ensures err { OnErr result (Stays (H.entries cache.old) (H.entries cache.new)
         × BrokeOff T.Answer.eq (T.answers of.now)
         (⟦<S as Breaking>⟧.breaks_off sink.old sink.new)) }
@@ -304,12 +332,7 @@ pub fn memoized_with<
 }
 
 /// As `memoized_with`, for a view of the value.
-pub(crate) fn memoized_view<
-    M: FunctionOf<T>,
-    H: Hold<M>,
-    T: Track,
-    S: Sink<Call = T::Call, Answer = T::Answer>,
->(
+pub(crate) fn memoized_view<M: FunctionOf<T>, H: Hold<M>, T: Track, S>(
     alloc: Global,
     cache: &mut H,
     needs: &mut M::Needs,
@@ -318,15 +341,14 @@ pub(crate) fn memoized_view<
     sink: &mut S,
     enabled: bool,
 ) -> Result<Reply<M::Out>, Fault>
+where
+    S: Sink<Call = T::Call, Answer = T::Answer>,
     requires { ReadsAlone M.def }
     ensures right { IfOk result (λ reply. M.def key (T.answers of.now) reply.output []) }
-    ensures reply { IfOk result (λ reply. HeldReply ⟦<M as Meant>⟧.meaning
-        (invocation key (T.answers of.now) enabled) (H.entries cache.old)
-        (S.took sink.old sink.new) reply (H.entries cache.new)) }
-    ensures fault { IfErr result
-        (λ fault. (fault ≡ Fault.Memory) ⊎ Held (H.entries cache.old) (λ es.
-        IsOfRun ⟦<M as Meant>⟧.meaning (invocation key (T.answers of.now) enabled) es
-        (S.spoils sink.old sink.new))) }
+    ensures reply { IfOk result (⟦<M as Answering<H, T, S>>⟧.replies
+        enabled key of.now cache.old cache.new sink.old sink.new) }
+    ensures fault { IfErr result (⟦<M as Answering<H, T, S>>⟧.fails
+        enabled key of.now cache.old sink.old sink.new) }
     ensures err { OnErr result (Stays (H.entries cache.old) (H.entries cache.new)
         × BrokeOff T.Answer.eq (T.answers of.now)
         (⟦<S as Breaking>⟧.breaks_off sink.old sink.new)) }

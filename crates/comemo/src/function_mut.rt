@@ -1,12 +1,14 @@
 //! Memoized functions that write: a function of a key and a tracked value that its run reads and writes. A hit costs
 //! what `begin` costs; any other call costs what `begin`, the run and `Pending::finish` cost.
-ghost use Rattle.std.specs.Prelude.{◌≡◌, [], ◌∷◌, ◌++◌, ◌⊎◌, List, true, false, IsTrue, IfOk, IfErr, OnOk, OnErr, ⊤};
+ghost use Rattle.std.specs.Prelude.{◌≡◌, Result, [], ◌∷◌, ◌++◌, ◌⊎◌, List, Bool, true, false, IsTrue, IfOk, IfErr, OnOk, OnErr, ⊤};
 ghost use Rattle.comemo.specs.Called.{HeldReply, HeldReplyMut};
 ghost use Rattle.comemo_cache.specs.Meaning.{invocation};
 ghost use Rattle.comemo_cache.specs.Held.{Leads, Stays};
 ghost use Rattle.comemo.specs.Begin.{Reaches};
 ghost use Rattle.comemo.specs.Finish.{BrokeOff};
 ghost use Rattle.comemo.specs.Function.{ReadsAlone, SettlesAs, SettlesRun, writing};
+ghost use Rattle.std.specs.Borrow.{MutBor};
+ghost use Rattle.comemo.specs.RecursiveMut.{Within};
 ghost use Rattle.comemo.specs.FunctionMut.{Lent, lent, HasBegun, NoneTouches, Goes, TellsMut, TellsWrites, WasStopped, IsFailed, FailsBy};
 ghost use Rattle.comemo_base.specs.Answers.{Agrees};
 ghost use Rattle.comemo_track.specs.Recording.{Recording, Took, Spoiled, MarkedLate};
@@ -69,10 +71,141 @@ pub trait RunMut: Function {
         ensures right { IfOk result (λ output. (m : Self.Of.Call → Self.Of.Answer)
             → ⟦<Self::Of as Told>⟧.fits of.new.recording.now m
             → writing Self.means Self.writes key.now m output of.new.recording.now.writes) }
-        ensures settled { SettlesRun Self.Key.eq Self.Of.Call.eq Self.Of.Answer.eq Self.naming key.now
-            of.old.recording.now of.new.recording.now result }
+        ensures settled { SettlesRun Self.Key.eq Self.Of.Call.eq Self.Of.Answer.eq
+            Self.naming key.now of.old.recording.now of.new.recording.now result }
         ensures fault { IfErr result
             (λ fault. fault ≡ Fault.Incomplete → of.new.recording.now.whole ≡ false) };
+}
+
+/// What a recorder that writes knows, and what it does from one state to another, for contracts, as
+/// `⟦<Self as Records>⟧.agrees`. There is nothing to implement.
+pub trait Records {
+    /// The value.
+    type Of;
+
+    /// What it is asked, and what is written to it.
+    type Call: Call;
+
+    /// The answer to a read: one type for all calls.
+    type Answer: Clone + Ord;
+
+    ghost use Rattle.comemo.specs.declared.pending.Fault.{Fault};
+
+    // its value
+    ghost value: { Self → MutBor Self.Of };
+
+    // its value's answers
+    ghost answers: { Self → Self.Call → Self.Answer };
+
+    // its recording
+    ghost recording: { Self → Recording Self.Call Self.Answer };
+
+    // while its recording is complete, it agrees with what the value was, as `ToldMut::agrees` says
+    ghost agrees: { Self → Type 0 };
+
+    // its recording took these pairs and these writes
+    ghost took: { Self → Self → List (Self.Call × Self.Answer) → List Self.Call → Type 0 };
+
+    // these writes were done on its value
+    ghost did: { Self → Self → List Self.Call → Type 0 };
+
+    // both, and its recording is then late if this says so
+    ghost sent: { Bool → Self → Self
+        → List (Self.Call × Self.Answer) → List Self.Call → Type 0 };
+
+    // its recording took a prefix of these pairs, and became incomplete
+    ghost breaks_off: { Self → Self → List (Self.Call × Self.Answer) → Type 0 };
+
+    // it took a prefix of pairs that the value's answers agree with, and became incomplete
+    ghost broke_off: { Self → Self → Type 0 };
+
+    // it took these pairs and these writes, and became incomplete
+    ghost spoiled_after: { Self → Self
+        → List (Self.Call × Self.Answer) → List Self.Call → Type 0 };
+
+    // a run was begun from this state, by a recorder whose recording was set aside
+    ghost within: { Lent Self.Of Self.Call Self.Answer → Self
+        → Recording Self.Call Self.Answer → Type 0 };
+
+    // wherever such a run was begun, this holds
+    ghost began: { Self → Recording Self.Call Self.Answer
+        → (Lent Self.Of Self.Call Self.Answer → Type 0) → Type 0 };
+
+    // what a run learns from a question, a write or a call, which had this result
+    ghost tells: { {X : Type 0} → Self → Self → Result X Fault
+        → (X → (Self.Call → Self.Answer) → Type 0) → Type 0 };
+}
+
+impl<'a, 'b, T: Track> Records for RecorderMut<'a, 'b, T> {
+    type Of = T;
+
+    type Call = T::Call;
+
+    type Answer = T::Answer;
+
+    ghost value = { λ s. s.value };
+
+    ghost answers = { λ s. T.answers s.value.now };
+
+    ghost recording = { λ s. s.recording.now };
+
+    ghost agrees = { λ s. ⟦<T as ToldMut>⟧.agrees (lent s.value s.recording) };
+
+    ghost took = { λ s t. ⟦<T as ToldMut>⟧.took s.recording.now t.recording.now };
+
+    ghost did = { λ s t. ⟦<T as Written>⟧.did s.value.now t.value.now };
+
+    ghost sent = { λ late s t P W. TookAs ⟦<T as ToldMut>⟧.took MarkedLate late
+        s.recording.now t.recording.now P W × ⟦<T as Written>⟧.did s.value.now t.value.now W };
+
+    ghost breaks_off = { λ s t. BreaksOff ⟦<T as ToldMut>⟧.took Spoiled
+        s.recording.now t.recording.now };
+
+    ghost broke_off = { λ s t. BrokeOff T.Answer.eq (T.answers s.value.now)
+        (BreaksOff ⟦<T as ToldMut>⟧.took Spoiled s.recording.now t.recording.now) };
+
+    ghost spoiled_after = { λ s t. SpoiledAfter ⟦<T as ToldMut>⟧.took Spoiled
+        s.recording.now t.recording.now };
+
+    ghost within = { λ s t around. Within ⟦<T as Written>⟧.did T.Call.touches T.Answer.eq
+        T.answers s (lent t.value t.recording) around };
+
+    ghost began = { λ t around P. (s : Lent T T.Call T.Answer)
+        → Within ⟦<T as Written>⟧.did T.Call.touches T.Answer.eq T.answers
+        s (lent t.value t.recording) around → P s };
+
+    ghost tells = { λ s t r P. TellsMut ⟦<T as ToldMut>⟧.goes ⟦<T as Told>⟧.fits
+        (lent s.value s.recording) (lent t.value t.recording) r P };
+}
+
+/// What a recorder that writes learns from a call of a function that writes, for contracts, as
+/// `⟦<Self as Writes>⟧.tells`. There is nothing to implement.
+pub trait Writes {
+    /// The value.
+    type Of;
+
+    /// What it is asked, and what is written to it.
+    type Call: Call;
+
+    /// The answer to a read: one type for all calls.
+    type Answer: Clone + Ord;
+
+    ghost use Rattle.comemo.specs.declared.pending.Fault.{Fault};
+
+    // of all that fits the recording, and of the writes that were recorded since
+    ghost tells: { {X : Type 0} → Lent Self.Of Self.Call Self.Answer → Self → Result X Fault
+        → (X → (Self.Call → Self.Answer) → List Self.Call → Type 0) → Type 0 };
+}
+
+impl<'a, 'b, T: Track> Writes for RecorderMut<'a, 'b, T> {
+    type Of = T;
+
+    type Call = T::Call;
+
+    type Answer = T::Answer;
+
+    ghost tells = { λ s t r P. TellsWrites ⟦<T as ToldMut>⟧.goes ⟦<T as Told>⟧.fits
+        s (lent t.value t.recording) r P };
 }
 
 /// A tracked value that is lent to a run, and the recording of what the run asks and writes. A run gets one.
@@ -108,19 +241,18 @@ impl<'a, 'b, T: Track> RecorderMut<'a, 'b, T> {
 
     /// Asks the value a read, and records the call with its answer, as `Recorder::ask`.
     pub fn ask(&mut self, call: T::Call) -> Result<T::Answer, Fault>
-        requires agrees { ⟦<T as ToldMut>⟧.agrees (lent self.old.value self.old.recording) }
+        requires agrees { ⟦<Self as Records>⟧.agrees self.old }
         requires read { T.Call.is_write call ≡ false }
-        ensures agrees { ⟦<T as ToldMut>⟧.agrees (lent self.new.value self.new.recording) }
-        ensures tells { TellsMut ⟦<T as ToldMut>⟧.goes ⟦<T as Told>⟧.fits
-            (lent self.old.value self.old.recording) (lent self.new.value self.new.recording) result
+        ensures agrees { ⟦<Self as Records>⟧.agrees self.new }
+        ensures tells { ⟦<Self as Records>⟧.tells self.old self.new result
             (λ answer m. IsTrue (T.Answer.eq (m call) answer)) }
         ensures asks { IfOk result
             (λ answer. Asks T.Answer.eq (T.answers self.old.value.now) call answer
-            (Took T.Call.eq T.Call.touches self.old.recording.now self.new.recording.now)) }
+            (⟦<Self as Records>⟧.took self.old self.new)) }
         ensures writes { self.new.recording.now.writes ≡ self.old.recording.now.writes }
         ensures value { self.new.value ≡ self.old.value }
         ensures err { IfErr result (λ fault. (fault ≡ Fault.Memory)
-            × Took T.Call.eq T.Call.touches self.old.recording.now self.new.recording.now [] []) }
+            × ⟦<Self as Records>⟧.took self.old self.new [] []) }
     {
         let mut view = self.value.track(self.alloc);
         Ok(view.ask(call, self.recording)?)
@@ -128,19 +260,17 @@ impl<'a, 'b, T: Track> RecorderMut<'a, 'b, T> {
 
     /// Does a write on the value, and records it. Fails with `Memory` also if the value refuses the write.
     pub fn write(&mut self, call: T::Call) -> Result<(), Fault>
-        requires agrees { ⟦<T as ToldMut>⟧.agrees (lent self.old.value self.old.recording) }
+        requires agrees { ⟦<Self as Records>⟧.agrees self.old }
         requires write { T.Call.is_write call ≡ true }
-        ensures agrees { ⟦<T as ToldMut>⟧.agrees (lent self.new.value self.new.recording) }
-        ensures tells { TellsMut ⟦<T as ToldMut>⟧.goes ⟦<T as Told>⟧.fits
-            (lent self.old.value self.old.recording) (lent self.new.value self.new.recording) result
+        ensures agrees { ⟦<Self as Records>⟧.agrees self.new }
+        ensures tells { ⟦<Self as Records>⟧.tells self.old self.new result
             (λ _ _. ⊤) }
         ensures sent { OnOk result
-            (Took T.Call.eq T.Call.touches self.old.recording.now self.new.recording.now [] (call ∷ [])) }
-        ensures did { OnOk result (⟦<T as Written>⟧.did
-            self.old.value.now self.new.value.now (call ∷ [])) }
+            (⟦<Self as Records>⟧.took self.old self.new [] (call ∷ [])) }
+        ensures did { OnOk result (⟦<Self as Records>⟧.did self.old self.new (call ∷ [])) }
         ensures kept { OnErr result (self.new.value.now ≡ self.old.value.now) }
         ensures err { IfErr result (λ fault. (fault ≡ Fault.Memory)
-            × Took T.Call.eq T.Call.touches self.old.recording.now self.new.recording.now [] []) }
+            × ⟦<Self as Records>⟧.took self.old self.new [] []) }
     {
         let mut view = self.value.track_mut(self.alloc);
         view.write(call, self.recording)?;
@@ -156,10 +286,9 @@ impl<'a, 'b, T: Track> RecorderMut<'a, 'b, T> {
         key: G::Key,
     ) -> Result<G::Out, Fault>
         requires reads { ReadsAlone G.def }
-        requires agrees { ⟦<T as ToldMut>⟧.agrees (lent self.old.value self.old.recording) }
-        ensures agrees { ⟦<T as ToldMut>⟧.agrees (lent self.new.value self.new.recording) }
-        ensures tells { TellsMut ⟦<T as ToldMut>⟧.goes ⟦<T as Told>⟧.fits
-            (lent self.old.value self.old.recording) (lent self.new.value self.new.recording) result
+        requires agrees { ⟦<Self as Records>⟧.agrees self.old }
+        ensures agrees { ⟦<Self as Records>⟧.agrees self.new }
+        ensures tells { ⟦<Self as Records>⟧.tells self.old self.new result
             (λ output m. G.def key m output []) }
         ensures writes { OnOk result
             (self.new.recording.now.writes ≡ self.old.recording.now.writes) }
@@ -167,11 +296,10 @@ impl<'a, 'b, T: Track> RecorderMut<'a, 'b, T> {
         ensures reply { IfOk result (λ output. (reply : Reply G.Out) × (reply.output ≡ output)
             × HeldReply ⟦<G as Meant>⟧.meaning (invocation key (T.answers self.old.value.now) true)
             (H.entries cache.old)
-            (Took T.Call.eq T.Call.touches self.old.recording.now self.new.recording.now)
+            (⟦<Self as Records>⟧.took self.old self.new)
             reply (H.entries cache.new)) }
         ensures err { OnErr result (Stays (H.entries cache.old) (H.entries cache.new)
-            × BrokeOff T.Answer.eq (T.answers self.old.value.now)
-            (BreaksOff (Took T.Call.eq T.Call.touches) Spoiled self.old.recording.now self.new.recording.now)) }
+            × ⟦<Self as Records>⟧.broke_off self.old self.new) }
     {
         let view = self.value.track(self.alloc);
         let reply = memoized_view(self.alloc, cache, needs, key, &view, self.recording, true)?;
@@ -188,26 +316,19 @@ impl<'a, 'b, T: Track> RecorderMut<'a, 'b, T> {
         needs: &mut G::Needs,
         key: G::Key,
     ) -> Result<G::Out, Fault>
-        requires agrees { ⟦<T as ToldMut>⟧.agrees (lent self.old.value self.old.recording) }
-        ensures agrees { ⟦<T as ToldMut>⟧.agrees (lent self.new.value self.new.recording) }
-        ensures tells { TellsWrites ⟦<T as ToldMut>⟧.goes ⟦<T as Told>⟧.fits
-            (lent self.old.value self.old.recording) (lent self.new.value self.new.recording) result
+        requires agrees { ⟦<Self as Records>⟧.agrees self.old }
+        ensures agrees { ⟦<Self as Records>⟧.agrees self.new }
+        ensures tells { ⟦<Self as Writes>⟧.tells
+            (lent self.old.value self.old.recording) self.new result
             (λ output m writes. G.def key m output writes) }
         ensures reply { IfOk result (λ output. (reply : Reply G.Out) × (reply.output ≡ output)
-            × HeldReplyMut ⟦<G as Meant>⟧.meaning T.Call.touches
-            (invocation key (T.answers self.old.value.now) true)
-            (H.entries cache.old)
-            (λ late P W. TookAs (Took T.Call.eq T.Call.touches) MarkedLate late
-            self.old.recording.now self.new.recording.now P W
-            × ⟦<T as Written>⟧.did self.old.value.now self.new.value.now W)
-            reply (H.entries cache.new)) }
-        ensures err { OnErr result (Leads (H.entries cache.old) (H.entries cache.new) (λ es es'.
-            IsFailed ⟦<G as Meant>⟧.meaning T.Call.touches es
-            (invocation key (T.answers self.old.value.now) true)
-            (⟦<T as Written>⟧.did self.old.value.now self.new.value.now)
-            (BreaksOff (Took T.Call.eq T.Call.touches) Spoiled self.old.recording.now self.new.recording.now)
-            (SpoiledAfter (Took T.Call.eq T.Call.touches) Spoiled self.old.recording.now self.new.recording.now)
-            es')) }
+            × ⟦<G as AnsweringMut<H, T, Constraint<T::Call, T::Answer>>>⟧.replies true key
+            self.old.value.now self.new.value.now cache.old cache.new
+            self.old.recording.now self.new.recording.now reply) }
+        ensures err { OnErr result
+            (⟦<G as AnsweringMut<H, T, Constraint<T::Call, T::Answer>>>⟧.breaks true key
+            self.old.value.now self.new.value.now cache.old cache.new
+            self.old.recording.now self.new.recording.now) }
     {
         let reply = memoized_mut_with(
             self.alloc,
@@ -296,14 +417,52 @@ fn run_recorded<M: FunctionMutOf<T>, T: Track>(
     (ran, recording)
 }
 
-/// Calls a memoized function that writes: does the writes of an entry that agrees and returns its output, or runs the
-/// function and stores the run. Sink and `enabled` are as in `memoized_with`.
-pub fn memoized_mut_with<
-    M: FunctionMutOf<T>,
+/// How a call of a function that writes goes, from these states to those, for contracts, as
+/// `⟦<M as AnsweringMut<H, T, S>>⟧.replies`. There is nothing to implement.
+pub trait AnsweringMut<H, T, S>: Memo<Call = T::Call, Answer = T::Answer>
+where
+    H: Hold<Self>,
+    T: Track,
+    S: Sink<Call = T::Call, Answer = T::Answer>,
+{
+    ghost use Rattle.comemo.specs.declared.pending.Fault.{Fault};
+    ghost use Rattle.comemo.specs.declared.pending.Reply.{Reply};
+
+    // the reply, at this key
+    ghost replies: { Bool → Self.Key → T → T → H → H → S → S → Reply Self.Out → Type 0 };
+
+    // it failed with this fault: out of memory, or that of its run; or a hit stopped at a write
+    ghost fails: { Bool → Self.Key → T → T → H → H → S → S → Fault → Type 0 };
+
+    // what it did to value, holder and sink, if it failed
+    ghost breaks: { Bool → Self.Key → T → T → H → H → S → S → Type 0 };
+}
+
+impl<M: Memo<Call = T::Call, Answer = T::Answer>, H, T, S> AnsweringMut<H, T, S> for M
+where
     H: Hold<M>,
     T: Track,
     S: Sink<Call = T::Call, Answer = T::Answer>,
->(
+{
+    ghost replies = { λ enabled key v w h h' s t reply. HeldReplyMut ⟦<M as Meant>⟧.meaning
+        T.Call.touches (invocation key (T.answers v) enabled) (H.entries h)
+        (λ late P W. ⟦<S as Breaking>⟧.took_as late s t P W × ⟦<T as Written>⟧.did v w W)
+        reply (H.entries h') };
+
+    ghost fails = { λ enabled key v w h h' s t fault.
+        Leads (H.entries h) (H.entries h') (λ es es'. FailsBy ⟦<M as Meant>⟧.meaning es
+        (invocation key (T.answers v) enabled) (⟦<T as Written>⟧.did v w)
+        (S.spoils s t) (⟦<S as Breaking>⟧.spoiled_after s t) fault es') };
+
+    ghost breaks = { λ enabled key v w h h' s t.
+        Leads (H.entries h) (H.entries h') (λ es es'. IsFailed ⟦<M as Meant>⟧.meaning
+        T.Call.touches es (invocation key (T.answers v) enabled) (⟦<T as Written>⟧.did v w)
+        (⟦<S as Breaking>⟧.breaks_off s t) (⟦<S as Breaking>⟧.spoiled_after s t) es') };
+}
+
+/// Calls a memoized function that writes: does the writes of an entry that agrees and returns its output, or runs the
+/// function and stores the run. Sink and `enabled` are as in `memoized_with`.
+pub fn memoized_mut_with<M: FunctionMutOf<T>, H: Hold<M>, T: Track, S>(
     alloc: Global,
     cache: &mut H,
     needs: &mut M::Needs,
@@ -312,29 +471,19 @@ pub fn memoized_mut_with<
     sink: &mut S,
     enabled: bool,
 ) -> Result<Reply<M::Out>, Fault>
+where
+    S: Sink<Call = T::Call, Answer = T::Answer>,
     ensures right { IfOk result (λ reply. (reply.how ≡ How.Late → ⊥)
         → (writes : List T.Call) × M.def key (T.answers of.old) reply.output writes
         × ⟦<T as Written>⟧.did of.old of.new writes) }
-    ensures reply { IfOk result (λ reply. HeldReplyMut ⟦<M as Meant>⟧.meaning T.Call.touches
-        (invocation key (T.answers of.old) enabled) (H.entries cache.old)
-        (λ late P W. ⟦<S as Breaking>⟧.took_as late sink.old sink.new P W
-        × ⟦<T as Written>⟧.did of.old of.new W)
-        reply (H.entries cache.new)) }
+    ensures reply { IfOk result (⟦<M as AnsweringMut<H, T, S>>⟧.replies
+        enabled key of.old of.new cache.old cache.new sink.old sink.new) }
     ensures early { IfOk result (λ reply. NoneTouches T.Call.touches → reply.how ≡ How.Late → ⊥) }
     ensures reached { Reaches ⟦<T as Written>⟧.did of.old of.new }
-    ensures fault { IfErr result (λ fault.
-        Leads (H.entries cache.old) (H.entries cache.new) (λ es es'.
-        FailsBy ⟦<M as Meant>⟧.meaning es
-        (invocation key (T.answers of.old) enabled)
-        (⟦<T as Written>⟧.did of.old of.new)
-        (S.spoils sink.old sink.new)
-        (⟦<S as Breaking>⟧.spoiled_after sink.old sink.new) fault es')) }
-    ensures err { OnErr result (Leads (H.entries cache.old) (H.entries cache.new) (λ es es'.
-        IsFailed ⟦<M as Meant>⟧.meaning T.Call.touches es
-        (invocation key (T.answers of.old) enabled)
-        (⟦<T as Written>⟧.did of.old of.new)
-        (⟦<S as Breaking>⟧.breaks_off sink.old sink.new)
-        (⟦<S as Breaking>⟧.spoiled_after sink.old sink.new) es')) }
+    ensures fault { IfErr result (⟦<M as AnsweringMut<H, T, S>>⟧.fails
+        enabled key of.old of.new cache.old cache.new sink.old sink.new) }
+    ensures err { OnErr result (⟦<M as AnsweringMut<H, T, S>>⟧.breaks
+        enabled key of.old of.new cache.old cache.new sink.old sink.new) }
 {
     let mut input = LentKeyMut {
         key: &key,

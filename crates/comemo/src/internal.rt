@@ -1,11 +1,11 @@
 //! What the calls are built on, and what contracts cite. Few users name any of it.
 
-pub use crate::closure::Record;
-pub use crate::function::Told;
-pub use crate::function_mut::ToldMut;
-pub use crate::pending::{Invoked, Pending};
+pub use crate::closure::{Does, Record};
+pub use crate::function::{Answering, Told};
+pub use crate::function_mut::{AnsweringMut, Records, ToldMut, Writes};
+pub use crate::pending::{Calling, Invoked, Pending};
 pub use crate::recursive::{Inner, MeansAndWrites};
-pub use crate::recursive_mut::InnerMut;
+pub use crate::recursive_mut::{InnerMut, Nesting};
 pub use comemo_base::{CallSequence, InsertError, SipHasher13, Tagged, hash_any};
 pub use comemo_cache::{
     Evict, Evictor, Found, Meant, Peeked, Reads, Shared, Step, StepReply, evictors,

@@ -18,13 +18,7 @@ use comemo_track::track::{Track, Tracked};
 
 impl<'a, T: Track> Recorder<'a, T> {
     /// As `call`, for a function of a part of the value: what it asked is recorded, renamed by a map.
-    fn call_through<
-        A: Track,
-        G: FunctionOf<A>,
-        H: Hold<G>,
-        P: CallMap<From = A::Call, FromAnswer = A::Answer, To = T::Call, ToAnswer = T::Answer>
-            + Drop,
-    >(
+    fn call_through<A: Track, G: FunctionOf<A>, H: Hold<G>, P>(
         &mut self,
         cache: &mut H,
         needs: &mut G::Needs,
@@ -32,6 +26,9 @@ impl<'a, T: Track> Recorder<'a, T> {
         of: &Tracked<'_, A>,
         map: P,
     ) -> Result<G::Out, Fault>
+    where
+        P: CallMap<From = A::Call, FromAnswer = A::Answer, To = T::Call, ToAnswer = T::Answer>
+            + Drop,
         requires reads { ReadsAlone G.def }
         requires through { (c : A.Call)
             → T.answers self.old.value (P.maps map c) ≡ P.maps_answer map (A.answers of.now c) }

@@ -4,20 +4,19 @@ ghost use Rattle.comemo.specs.Called.{HeldReply, HeldReplyMut};
 ghost use Rattle.comemo_cache.specs.Meaning.{invocation};
 ghost use Rattle.comemo_cache.specs.Held.{Leads, Stays};
 ghost use Rattle.comemo.specs.Function.{OnPart, ReadsAlone};
-ghost use Rattle.comemo.specs.FunctionMut.{lent, TellsMut, TellsWrites, OnPartWrites, IsFailed};
+ghost use Rattle.comemo.specs.FunctionMut.{lent, OnPartWrites, IsFailed};
 ghost use Rattle.comemo_track.specs.Mapped.{Through, mapped_pairs};
-ghost use Rattle.comemo_track.specs.Recording.{Spoiled, MarkedLate};
-ghost use Rattle.comemo_track.specs.Sending.{Asks, BreaksOff, SpoiledAfter, TookAs};
+ghost use Rattle.comemo_track.specs.Sending.{Asks};
 
-use crate::function::{FunctionOf, Told, memoized_view};
-use crate::function_mut::{FunctionMutOf, RecorderMut, ToldMut, memoized_mut_with};
+use crate::function::{FunctionOf, memoized_view};
+use crate::function_mut::{FunctionMutOf, RecorderMut, Records, Writes, memoized_mut_with};
 use crate::pending::{Fault, Reply};
 use comemo_cache::cache::Meant;
 use comemo_cache::hold::Hold;
 use comemo_track::mapped::MappedSink;
 use comemo_track::multi::{First, Second};
 use comemo_track::read_and_write::ReadAndWrite;
-use comemo_track::track::{Track, Written};
+use comemo_track::track::Track;
 
 /// The calls of each part, and the writes of the second part. Each call is recorded as a call of the whole.
 impl<'a, 'b, 'c, A: Track, B: Track> RecorderMut<'a, 'b, ReadAndWrite<'c, A, B>> {
@@ -25,25 +24,19 @@ impl<'a, 'b, 'c, A: Track, B: Track> RecorderMut<'a, 'b, ReadAndWrite<'c, A, B>>
 
     /// Asks the first value a read, and records it, as `RecorderMut::ask`.
     pub fn ask_first(&mut self, call: A::Call) -> Result<A::Answer, Fault>
-        requires agrees { ⟦<ReadAndWrite<'c, A, B> as ToldMut>⟧.agrees
-            (lent self.old.value self.old.recording) }
+        requires agrees { ⟦<Self as Records>⟧.agrees self.old }
         requires read { A.Call.is_write call ≡ false }
-        ensures agrees { ⟦<ReadAndWrite<'c, A, B> as ToldMut>⟧.agrees
-            (lent self.new.value self.new.recording) }
-        ensures tells { TellsMut ⟦<ReadAndWrite<'c, A, B> as ToldMut>⟧.goes
-            ⟦<ReadAndWrite<'c, A, B> as Told>⟧.fits
-            (lent self.old.value self.old.recording) (lent self.new.value self.new.recording) result
+        ensures agrees { ⟦<Self as Records>⟧.agrees self.new }
+        ensures tells { ⟦<Self as Records>⟧.tells self.old self.new result
             (λ answer m. OnPart first_call first_answer m
             (λ part. IsTrue (A.Answer.eq (part call) answer))) }
         ensures asks { IfOk result
             (λ answer. Asks A.Answer.eq (A.answers self.old.value.now.first) call answer
-            (Through first_call first_answer (⟦<ReadAndWrite<'c, A, B> as ToldMut>⟧.took
-            self.old.recording.now self.new.recording.now))) }
+            (Through first_call first_answer (⟦<Self as Records>⟧.took self.old self.new))) }
         ensures writes { self.new.recording.now.writes ≡ self.old.recording.now.writes }
         ensures value { self.new.value ≡ self.old.value }
         ensures err { IfErr result (λ fault. (fault ≡ Fault.Memory)
-            × ⟦<ReadAndWrite<'c, A, B> as ToldMut>⟧.took
-            self.old.recording.now self.new.recording.now [] []) }
+            × ⟦<Self as Records>⟧.took self.old self.new [] []) }
     {
         let mut view = self.value.first.fork(self.alloc);
         Ok(view.ask_through(call, First::new(), self.recording)?)
@@ -51,25 +44,19 @@ impl<'a, 'b, 'c, A: Track, B: Track> RecorderMut<'a, 'b, ReadAndWrite<'c, A, B>>
 
     /// Asks the second value a read, and records it, as `RecorderMut::ask`.
     pub fn ask_second(&mut self, call: B::Call) -> Result<B::Answer, Fault>
-        requires agrees { ⟦<ReadAndWrite<'c, A, B> as ToldMut>⟧.agrees
-            (lent self.old.value self.old.recording) }
+        requires agrees { ⟦<Self as Records>⟧.agrees self.old }
         requires read { B.Call.is_write call ≡ false }
-        ensures agrees { ⟦<ReadAndWrite<'c, A, B> as ToldMut>⟧.agrees
-            (lent self.new.value self.new.recording) }
-        ensures tells { TellsMut ⟦<ReadAndWrite<'c, A, B> as ToldMut>⟧.goes
-            ⟦<ReadAndWrite<'c, A, B> as Told>⟧.fits
-            (lent self.old.value self.old.recording) (lent self.new.value self.new.recording) result
+        ensures agrees { ⟦<Self as Records>⟧.agrees self.new }
+        ensures tells { ⟦<Self as Records>⟧.tells self.old self.new result
             (λ answer m. OnPart second_call second_answer m
             (λ part. IsTrue (B.Answer.eq (part call) answer))) }
         ensures asks { IfOk result
             (λ answer. Asks B.Answer.eq (B.answers self.old.value.now.second.now) call answer
-            (Through second_call second_answer (⟦<ReadAndWrite<'c, A, B> as ToldMut>⟧.took
-            self.old.recording.now self.new.recording.now))) }
+            (Through second_call second_answer (⟦<Self as Records>⟧.took self.old self.new))) }
         ensures writes { self.new.recording.now.writes ≡ self.old.recording.now.writes }
         ensures value { self.new.value ≡ self.old.value }
         ensures err { IfErr result (λ fault. (fault ≡ Fault.Memory)
-            × ⟦<ReadAndWrite<'c, A, B> as ToldMut>⟧.took
-            self.old.recording.now self.new.recording.now [] []) }
+            × ⟦<Self as Records>⟧.took self.old self.new [] []) }
     {
         let value = &mut *self.value;
         let mut view = value.second.track_mut(self.alloc);
@@ -79,23 +66,18 @@ impl<'a, 'b, 'c, A: Track, B: Track> RecorderMut<'a, 'b, ReadAndWrite<'c, A, B>>
 
     /// Does a write on the second value, and records it, as `RecorderMut::write`.
     pub fn write_second(&mut self, call: B::Call) -> Result<(), Fault>
-        requires agrees { ⟦<ReadAndWrite<'c, A, B> as ToldMut>⟧.agrees
-            (lent self.old.value self.old.recording) }
+        requires agrees { ⟦<Self as Records>⟧.agrees self.old }
         requires write { B.Call.is_write call ≡ true }
-        ensures agrees { ⟦<ReadAndWrite<'c, A, B> as ToldMut>⟧.agrees
-            (lent self.new.value self.new.recording) }
-        ensures tells { TellsMut ⟦<ReadAndWrite<'c, A, B> as ToldMut>⟧.goes
-            ⟦<ReadAndWrite<'c, A, B> as Told>⟧.fits
-            (lent self.old.value self.old.recording) (lent self.new.value self.new.recording) result
+        ensures agrees { ⟦<Self as Records>⟧.agrees self.new }
+        ensures tells { ⟦<Self as Records>⟧.tells self.old self.new result
             (λ _ _. ⊤) }
-        ensures sent { OnOk result (⟦<ReadAndWrite<'c, A, B> as ToldMut>⟧.took
-            self.old.recording.now self.new.recording.now [] (second_call call ∷ [])) }
-        ensures did { OnOk result (⟦<ReadAndWrite<'c, A, B> as Written>⟧.did
-            self.old.value.now self.new.value.now (second_call call ∷ [])) }
+        ensures sent { OnOk result
+            (⟦<Self as Records>⟧.took self.old self.new [] (second_call call ∷ [])) }
+        ensures did { OnOk result
+            (⟦<Self as Records>⟧.did self.old self.new (second_call call ∷ [])) }
         ensures kept { OnErr result (self.new.value.now ≡ self.old.value.now) }
         ensures err { IfErr result (λ fault. (fault ≡ Fault.Memory)
-            × ⟦<ReadAndWrite<'c, A, B> as ToldMut>⟧.took
-            self.old.recording.now self.new.recording.now [] []) }
+            × ⟦<Self as Records>⟧.took self.old self.new [] []) }
     {
         let value = &mut *self.value;
         let mut view = value.second.track_mut(self.alloc);
@@ -112,27 +94,20 @@ impl<'a, 'b, 'c, A: Track, B: Track> RecorderMut<'a, 'b, ReadAndWrite<'c, A, B>>
         key: G::Key,
     ) -> Result<G::Out, Fault>
         requires reads { ReadsAlone G.def }
-        requires agrees { ⟦<ReadAndWrite<'c, A, B> as ToldMut>⟧.agrees
-            (lent self.old.value self.old.recording) }
-        ensures agrees { ⟦<ReadAndWrite<'c, A, B> as ToldMut>⟧.agrees
-            (lent self.new.value self.new.recording) }
-        ensures tells { TellsMut ⟦<ReadAndWrite<'c, A, B> as ToldMut>⟧.goes
-            ⟦<ReadAndWrite<'c, A, B> as Told>⟧.fits
-            (lent self.old.value self.old.recording) (lent self.new.value self.new.recording) result
+        requires agrees { ⟦<Self as Records>⟧.agrees self.old }
+        ensures agrees { ⟦<Self as Records>⟧.agrees self.new }
+        ensures tells { ⟦<Self as Records>⟧.tells self.old self.new result
             (λ output m. OnPart first_call first_answer m (λ part. G.def key part output [])) }
         ensures writes { OnOk result
             (self.new.recording.now.writes ≡ self.old.recording.now.writes) }
         ensures value { self.new.value ≡ self.old.value }
         ensures reply { IfOk result (λ output. (reply : Reply G.Out) × (reply.output ≡ output)
             × HeldReply ⟦<G as Meant>⟧.meaning
-            (invocation key (A.answers self.old.value.now.first) true)
-            (H.entries cache.old)
-            (Through first_call first_answer (⟦<ReadAndWrite<'c, A, B> as ToldMut>⟧.took
-            self.old.recording.now self.new.recording.now)) reply (H.entries cache.new)) }
+            (invocation key (A.answers self.old.value.now.first) true) (H.entries cache.old)
+            (Through first_call first_answer (⟦<Self as Records>⟧.took self.old self.new))
+            reply (H.entries cache.new)) }
         ensures err { OnErr result (Stays (H.entries cache.old) (H.entries cache.new)
-            × ⟦<ReadAndWrite<'c, A, B> as Told>⟧.broke_off
-            (record { value = self.old.value.now; recording = self.old.recording.now })
-            (record { value = self.new.value.now; recording = self.new.recording.now })) }
+            × ⟦<Self as Records>⟧.broke_off self.old self.new) }
     {
         let view = self.value.first.fork(self.alloc);
         let mut sink = MappedSink::new(&mut *self.recording, First::new());
@@ -151,36 +126,25 @@ impl<'a, 'b, 'c, A: Track, B: Track> RecorderMut<'a, 'b, ReadAndWrite<'c, A, B>>
         needs: &mut G::Needs,
         key: G::Key,
     ) -> Result<G::Out, Fault>
-        requires agrees { ⟦<ReadAndWrite<'c, A, B> as ToldMut>⟧.agrees
-            (lent self.old.value self.old.recording) }
-        ensures agrees { ⟦<ReadAndWrite<'c, A, B> as ToldMut>⟧.agrees
-            (lent self.new.value self.new.recording) }
-        ensures tells { TellsWrites ⟦<ReadAndWrite<'c, A, B> as ToldMut>⟧.goes
-            ⟦<ReadAndWrite<'c, A, B> as Told>⟧.fits
-            (lent self.old.value self.old.recording) (lent self.new.value self.new.recording) result
+        requires agrees { ⟦<Self as Records>⟧.agrees self.old }
+        ensures agrees { ⟦<Self as Records>⟧.agrees self.new }
+        ensures tells { ⟦<Self as Writes>⟧.tells
+            (lent self.old.value self.old.recording) self.new result
             (λ output m writes. OnPartWrites second_call second_answer m writes
             (λ part own. G.def key part output own)) }
         ensures reply { IfOk result (λ output. (reply : Reply G.Out) × (reply.output ≡ output)
             × HeldReplyMut ⟦<G as Meant>⟧.meaning B.Call.touches
-            (invocation key (B.answers self.old.value.now.second.now) true)
-            (H.entries cache.old)
-            (λ late. Through second_call second_answer (λ P W.
-            TookAs ⟦<ReadAndWrite<'c, A, B> as ToldMut>⟧.took MarkedLate late
-            self.old.recording.now self.new.recording.now P W
-            × ⟦<ReadAndWrite<'c, A, B> as Written>⟧.did self.old.value.now self.new.value.now W))
-            reply (H.entries cache.new)) }
+            (invocation key (B.answers self.old.value.now.second.now) true) (H.entries cache.old)
+            (λ late. Through second_call second_answer
+            (⟦<Self as Records>⟧.sent late self.old self.new)) reply (H.entries cache.new)) }
         ensures err { OnErr result (Leads (H.entries cache.old) (H.entries cache.new) (λ es es'.
             IsFailed ⟦<G as Meant>⟧.meaning B.Call.touches es
             (invocation key (B.answers self.old.value.now.second.now) true)
-            (λ W. ⟦<ReadAndWrite<'c, A, B> as Written>⟧.did self.old.value.now self.new.value.now
-            (map second_call W))
-            (λ P. BreaksOff ⟦<ReadAndWrite<'c, A, B> as ToldMut>⟧.took Spoiled
-            self.old.recording.now self.new.recording.now
+            (λ W. ⟦<Self as Records>⟧.did self.old self.new (map second_call W))
+            (λ P. ⟦<Self as Records>⟧.breaks_off self.old self.new
             (mapped_pairs second_call second_answer P))
             (Through second_call second_answer
-            (SpoiledAfter ⟦<ReadAndWrite<'c, A, B> as ToldMut>⟧.took Spoiled
-            self.old.recording.now self.new.recording.now))
-            es')) }
+            (⟦<Self as Records>⟧.spoiled_after self.old self.new)) es')) }
     {
         let value = &mut *self.value;
         let mut sink = MappedSink::new(&mut *self.recording, Second::new());

@@ -96,6 +96,62 @@ impl<In: Input> Invoked for In {
     ghost invoked = { λ s enabled. invocation (In.key_of s) (In.answers s) enabled };
 }
 
+/// How a call goes that takes a holder, an input and a sink from these to those, for contracts, as
+/// `⟦<M as Calling<H, In, S>>⟧.hits`. There is nothing to implement.
+pub trait Calling<H, In, S>: Memo
+where
+    H: Hold<Self>,
+    In: Input<Call = Self::Call, Key = Self::Key, Answer = Self::Answer>,
+    S: Sink<Call = Self::Call, Answer = Self::Answer>,
+{
+    ghost use Rattle.comemo.specs.Begin.{PendingRun};
+    ghost use Rattle.comemo.specs.declared.pending.Fault.{Fault};
+
+    // a hit returned this output and touched its entry
+    ghost hits: { Bool → H → H → In → In → S → S → Self.Out → Type 0 };
+
+    // nothing was done, and this run began
+    ghost begins: { Bool → H → H → In → In → S → S
+        → PendingRun Self.Key Self.Call Self.Answer → Type 0 };
+
+    // nothing was done, and a run is to be done under this key
+    ghost has_to_run: { Bool → H → H → In → In → S → S → Self.Key → Type 0 };
+
+    // nothing was done: no entry has the key and agrees
+    ghost finds_none: { Bool → H → H → In → In → S → S → Type 0 };
+
+    // it failed with this fault: it did not begin, or a hit stopped at a write
+    ghost fails: { Bool → H → H → In → In → S → S → Fault → Type 0 };
+}
+
+impl<M: Memo, H, In, S> Calling<H, In, S> for M
+where
+    H: Hold<M>,
+    In: Input<Call = M::Call, Key = M::Key, Answer = M::Answer>,
+    S: Sink<Call = M::Call, Answer = M::Answer>,
+{
+    ghost hits = { λ enabled h h' i j s t output. BeganByHit ⟦<M as Meant>⟧.meaning
+        (⟦<In as Invoked>⟧.invoked i enabled) (H.entries h) (In.did i j) (S.took s t)
+        output (H.entries h') };
+
+    ghost begins = { λ enabled h h' i j s t pending. Held (H.entries h) (λ es.
+        IsRun ⟦<M as Meant>⟧.meaning es (⟦<In as Invoked>⟧.invoked i enabled) pending)
+        × In.did i j [] × (t ≡ s) × Stays (H.entries h) (H.entries h') };
+
+    ghost has_to_run = { λ enabled h h' i j s t own. Held (H.entries h) (λ es.
+        HasToRun ⟦<M as Meant>⟧.meaning es (⟦<In as Invoked>⟧.invoked i enabled) own)
+        × In.did i j [] × (t ≡ s) × Stays (H.entries h) (H.entries h') };
+
+    ghost finds_none = { λ enabled h h' i j s t. Held (H.entries h) (λ es.
+        HasNone ⟦<M as Meant>⟧.meaning es (⟦<In as Invoked>⟧.invoked i enabled))
+        × In.did i j [] × (t ≡ s) × Stays (H.entries h) (H.entries h') };
+
+    ghost fails = { λ enabled h h' i j s t fault. FailedToBegin ⟦<M as Meant>⟧.meaning
+        (⟦<In as Invoked>⟧.invoked i enabled) (H.entries h) (In.did i j)
+        (⟦<S as Breaking>⟧.breaks_off s t) (⟦<S as Breaking>⟧.spoiled_after s t)
+        fault (H.entries h') };
+}
+
 /// A run of a memoized function that began. It must be finished or given up, and can't be dropped. It holds no part of
 /// the cache.
 pub struct Pending<M: Memo> {
@@ -448,10 +504,8 @@ fn end_run<M: Memo, H: Hold<M>, S: Sink<Call = M::Call, Answer = M::Answer>>(
     requires stands { Stands ⟦<M as Meant>⟧.meaning
         (run key reads.pairs output.now writes.items) }
     requires settled { IsNamedRun ⟦<M as Meant>⟧.meaning key reads.pairs }
-    ensures ends { IfOk result (λ how.
-        Leads (H.entries cache.old) (H.entries cache.new) (λ es es'.
-        Ends ⟦<M as Meant>⟧.meaning es
-        (run key reads.pairs output.now writes.items) how es')) }
+    ensures ends { IfOk result (λ how. Leads (H.entries cache.old) (H.entries cache.new) (λ es es'.
+        Ends ⟦<M as Meant>⟧.meaning es (run key reads.pairs output.now writes.items) how es')) }
     ensures enabled { IfOk result (λ how. how ≡ How.Disabled → ⊥) }
     ensures early { IfOk result (λ how. how ≡ How.Late → ⊥) }
     ensures gives { OnOk result
@@ -529,12 +583,7 @@ fn answers_of_aged<M: Memo>(alloc: Global, found: &Found<M>) -> Result<Vec<M::An
 }
 
 /// Sends the path that a look-up found, does and sends its writes, and returns its output.
-fn give_found<
-    M: Memo,
-    H: Hold<M>,
-    In: Input<Call = M::Call, Key = M::Key, Answer = M::Answer>,
-    S: Sink<Call = M::Call, Answer = M::Answer>,
->(
+fn give_found<M: Memo, H: Hold<M>, In, S>(
     alloc: Global,
     cache: &mut H,
     key: &M::Key,
@@ -542,13 +591,15 @@ fn give_found<
     input: &mut In,
     sink: &mut S,
 ) -> Result<M::Out, Fault>
+where
+    In: Input<Call = M::Call, Key = M::Key, Answer = M::Answer>,
+    S: Sink<Call = M::Call, Answer = M::Answer>,
     requires reads { All (λ p. M.Call.is_write p.0 ≡ false) found.pairs.items }
     requires written { All (λ c. M.Call.is_write c ≡ true) found.writes.items }
     ensures output { IfOk result (λ output. output ≡ found.output) }
     ensures done { OnOk result (In.did input.old input.new found.writes.items) }
     ensures sent { OnOk result (S.took sink.old sink.new found.pairs.items found.writes.items) }
-    ensures touched { OnOk result
-        (Leads (H.entries cache.old) (H.entries cache.new)
+    ensures touched { OnOk result (Leads (H.entries cache.old) (H.entries cache.new)
         (TouchesFound M.Answer.eq M.Key.eq key.now found.pairs.items found.age)) }
     ensures err { IfErr result (λ fault. OnFault fault
         (Stays (H.entries cache.old) (H.entries cache.new) × In.did input.old input.new []
@@ -556,8 +607,7 @@ fn give_found<
         ((front : List M.Call) × (next : M.Call) × (rest : List M.Call)
         × (found.writes.items ≡ front ++ next ∷ rest) × In.did input.old input.new front
         × ⟦<S as Breaking>⟧.spoiled_after sink.old sink.new found.pairs.items front
-        × (M.Call.is_write next ≡ true)
-        × Leads (H.entries cache.old) (H.entries cache.new)
+        × (M.Call.is_write next ≡ true) × Leads (H.entries cache.old) (H.entries cache.new)
         (TouchesFound M.Answer.eq M.Key.eq key.now found.pairs.items found.age))) }
 {
     let Ok(answers) = answers_of_aged(alloc, &found) else {
@@ -584,11 +634,14 @@ fn give_found<
 }
 
 /// As `give_found`, for what a peek found: no path is sent.
-fn give_peeked<
-    M: Memo,
+fn give_peeked<M: Memo, In, S>(
+    peeked: Peeked<M>,
+    input: &mut In,
+    sink: &mut S,
+) -> Result<M::Out, Fault>
+where
     In: Input<Call = M::Call, Key = M::Key, Answer = M::Answer>,
     S: Sink<Call = M::Call, Answer = M::Answer>,
->(peeked: Peeked<M>, input: &mut In, sink: &mut S) -> Result<M::Out, Fault>
     requires { All (λ c. M.Call.is_write c ≡ true) peeked.writes.items }
     ensures output { IfOk result (λ output. output ≡ peeked.output) }
     ensures done { OnOk result (In.did input.old input.new peeked.writes.items) }
@@ -615,33 +668,25 @@ fn give_peeked<
 
 /// Looks for an entry that agrees, with its path, and returns its output. The contract holds from each earlier state
 /// since which nothing was written: a caller may have peeked.
-fn look_hit<
-    M: Memo,
-    H: Hold<M>,
-    In: Input<Call = M::Call, Key = M::Key, Answer = M::Answer>,
-    S: Sink<Call = M::Call, Answer = M::Answer>,
->(
+fn look_hit<M: Memo, H: Hold<M>, In, S>(
     alloc: Global,
     cache: &mut H,
     key: &M::Key,
     input: &mut In,
     sink: &mut S,
 ) -> Result<Option<M::Out>, Fault>
+where
+    In: Input<Call = M::Call, Key = M::Key, Answer = M::Answer>,
+    S: Sink<Call = M::Call, Answer = M::Answer>,
     requires { IsTrue (M.Key.eq (In.key_of input.now) key.now) }
-    ensures hit { IfOk result (λ found. IfSome found (λ output.
-        (s : In) → In.did s input.old []
-        → BeganByHit ⟦<M as Meant>⟧.meaning (⟦<In as Invoked>⟧.invoked s true)
-        (H.entries cache.old) (In.did s input.new) (S.took sink.old sink.new)
-        output (H.entries cache.new))) }
-    ensures none { IfOk result (λ found. IfNone found (Held (H.entries cache.old) (λ es.
-        HasNone ⟦<M as Meant>⟧.meaning es (⟦<In as Invoked>⟧.invoked input.old true))
-        × In.did input.old input.new [] × (sink.new ≡ sink.old)
-        × Stays (H.entries cache.old) (H.entries cache.new))) }
+    ensures hit { IfOk result (λ found. IfSome found (λ output. (s : In) → In.did s input.old []
+        → ⟦<M as Calling<H, In, S>>⟧.hits
+        true cache.old cache.new s input.new sink.old sink.new output)) }
+    ensures none { IfOk result (λ found. IfNone found (⟦<M as Calling<H, In, S>>⟧.finds_none
+        true cache.old cache.new input.old input.new sink.old sink.new)) }
     ensures err { IfErr result (λ fault. (s : In) → In.did s input.old []
-        → FailedToBegin ⟦<M as Meant>⟧.meaning
-        (⟦<In as Invoked>⟧.invoked s true) (H.entries cache.old) (In.did s input.new)
-        (⟦<S as Breaking>⟧.breaks_off sink.old sink.new)
-        (⟦<S as Breaking>⟧.spoiled_after sink.old sink.new) fault (H.entries cache.new)) }
+        → ⟦<M as Calling<H, In, S>>⟧.fails
+        true cache.old cache.new s input.new sink.old sink.new fault) }
 {
     match cache.look(key, input) {
         Ok(Some(found)) => {
@@ -657,32 +702,23 @@ fn look_hit<
 }
 
 /// Looks for an entry that agrees, and returns its output. If the sink ignores all, it peeks first, to clone no path.
-fn find_hit<
-    M: Memo,
-    H: Hold<M>,
-    In: Input<Call = M::Call, Key = M::Key, Answer = M::Answer>,
-    S: Sink<Call = M::Call, Answer = M::Answer>,
->(
+fn find_hit<M: Memo, H: Hold<M>, In, S>(
     alloc: Global,
     cache: &mut H,
     key: &M::Key,
     input: &mut In,
     sink: &mut S,
 ) -> Result<Option<M::Out>, Fault>
+where
+    In: Input<Call = M::Call, Key = M::Key, Answer = M::Answer>,
+    S: Sink<Call = M::Call, Answer = M::Answer>,
     requires { IsTrue (M.Key.eq (In.key_of input.now) key.now) }
-    ensures hit { IfOk result (λ found. IfSome found (λ output.
-        BeganByHit ⟦<M as Meant>⟧.meaning (⟦<In as Invoked>⟧.invoked input.old true)
-        (H.entries cache.old) (In.did input.old input.new) (S.took sink.old sink.new)
-        output (H.entries cache.new))) }
-    ensures none { IfOk result (λ found. IfNone found (Held (H.entries cache.old) (λ es.
-        HasNone ⟦<M as Meant>⟧.meaning es (⟦<In as Invoked>⟧.invoked input.old true))
-        × In.did input.old input.new [] × (sink.new ≡ sink.old)
-        × Stays (H.entries cache.old) (H.entries cache.new))) }
-    ensures err { IfErr result (λ fault. FailedToBegin ⟦<M as Meant>⟧.meaning
-        (⟦<In as Invoked>⟧.invoked input.old true) (H.entries cache.old)
-        (In.did input.old input.new)
-        (⟦<S as Breaking>⟧.breaks_off sink.old sink.new)
-        (⟦<S as Breaking>⟧.spoiled_after sink.old sink.new) fault (H.entries cache.new)) }
+    ensures hit { IfOk result (λ found. IfSome found (⟦<M as Calling<H, In, S>>⟧.hits
+        true cache.old cache.new input.old input.new sink.old sink.new)) }
+    ensures none { IfOk result (λ found. IfNone found (⟦<M as Calling<H, In, S>>⟧.finds_none
+        true cache.old cache.new input.old input.new sink.old sink.new)) }
+    ensures err { IfErr result (⟦<M as Calling<H, In, S>>⟧.fails
+        true cache.old cache.new input.old input.new sink.old sink.new) }
 {
     if !sink.keeps_nothing() {
         return look_hit(alloc, cache, key, input, sink);
@@ -704,34 +740,23 @@ fn find_hit<
 }
 
 /// As `begin`, but returns a run's key, so that a hit makes no room for a recording.
-pub(crate) fn look_up<
-    M: Memo,
-    H: Hold<M>,
-    In: Input<Call = M::Call, Key = M::Key, Answer = M::Answer>,
-    S: Sink<Call = M::Call, Answer = M::Answer>,
->(
+pub(crate) fn look_up<M: Memo, H: Hold<M>, In, S>(
     alloc: Global,
     cache: &mut H,
     input: &mut In,
     sink: &mut S,
     enabled: bool,
 ) -> Result<Begun<M::Out, M::Key>, Fault>
-    ensures hit { IfOk result (λ b. OnBegun b
-        (λ output. BeganByHit ⟦<M as Meant>⟧.meaning (⟦<In as Invoked>⟧.invoked input.old enabled)
-        (H.entries cache.old) (In.did input.old input.new) (S.took sink.old sink.new)
-        output (H.entries cache.new))
-        (λ _. ⊤)) }
-    ensures run { IfOk result (λ b. OnBegun b (λ _. ⊤)
-        (λ own. Held (H.entries cache.old) (λ es.
-        HasToRun ⟦<M as Meant>⟧.meaning es (⟦<In as Invoked>⟧.invoked input.old enabled) own)
-        × In.did input.old input.new [] × (sink.new ≡ sink.old)
-        × Stays (H.entries cache.old) (H.entries cache.new))) }
+where
+    In: Input<Call = M::Call, Key = M::Key, Answer = M::Answer>,
+    S: Sink<Call = M::Call, Answer = M::Answer>,
+    ensures hit { IfOk result (λ b. OnBegun b (⟦<M as Calling<H, In, S>>⟧.hits
+        enabled cache.old cache.new input.old input.new sink.old sink.new) (λ _. ⊤)) }
+    ensures run { IfOk result (λ b. OnBegun b (λ _. ⊤) (⟦<M as Calling<H, In, S>>⟧.has_to_run
+        enabled cache.old cache.new input.old input.new sink.old sink.new)) }
     ensures reached { Reaches In.did input.old input.new }
-    ensures err { IfErr result (λ fault. FailedToBegin ⟦<M as Meant>⟧.meaning
-        (⟦<In as Invoked>⟧.invoked input.old enabled) (H.entries cache.old)
-        (In.did input.old input.new)
-        (⟦<S as Breaking>⟧.breaks_off sink.old sink.new)
-        (⟦<S as Breaking>⟧.spoiled_after sink.old sink.new) fault (H.entries cache.new)) }
+    ensures err { IfErr result (⟦<M as Calling<H, In, S>>⟧.fails
+        enabled cache.old cache.new input.old input.new sink.old sink.new) }
 {
     let Ok(key) = input.key() else {
         sink.spoil();
@@ -752,34 +777,23 @@ pub(crate) fn look_up<
 /// With `enabled` false there is no look-up, and the run won't be stored. On a hit the sink takes the entry's path;
 /// then each write is done on the input and sent. A look-up asks each call of one path once, or twice for an entry with
 /// an age and a sink that ignores all.
-pub fn begin<
-    M: Memo,
-    H: Hold<M>,
-    In: Input<Call = M::Call, Key = M::Key, Answer = M::Answer>,
-    S: Sink<Call = M::Call, Answer = M::Answer>,
->(
+pub fn begin<M: Memo, H: Hold<M>, In, S>(
     alloc: Global,
     cache: &mut H,
     input: &mut In,
     sink: &mut S,
     enabled: bool,
 ) -> Result<Begun<M::Out, Pending<M>>, Fault>
-    ensures hit { IfOk result (λ b. OnBegun b
-        (λ output. BeganByHit ⟦<M as Meant>⟧.meaning (⟦<In as Invoked>⟧.invoked input.old enabled)
-        (H.entries cache.old) (In.did input.old input.new) (S.took sink.old sink.new)
-        output (H.entries cache.new))
-        (λ _. ⊤)) }
-    ensures run { IfOk result (λ b. OnBegun b (λ _. ⊤)
-        (λ run. Held (H.entries cache.old) (λ es.
-        IsRun ⟦<M as Meant>⟧.meaning es (⟦<In as Invoked>⟧.invoked input.old enabled) run)
-        × In.did input.old input.new [] × (sink.new ≡ sink.old)
-        × Stays (H.entries cache.old) (H.entries cache.new))) }
+where
+    In: Input<Call = M::Call, Key = M::Key, Answer = M::Answer>,
+    S: Sink<Call = M::Call, Answer = M::Answer>,
+    ensures hit { IfOk result (λ b. OnBegun b (⟦<M as Calling<H, In, S>>⟧.hits
+        enabled cache.old cache.new input.old input.new sink.old sink.new) (λ _. ⊤)) }
+    ensures run { IfOk result (λ b. OnBegun b (λ _. ⊤) (⟦<M as Calling<H, In, S>>⟧.begins
+        enabled cache.old cache.new input.old input.new sink.old sink.new)) }
     ensures reached { Reaches In.did input.old input.new }
-    ensures err { IfErr result (λ fault. FailedToBegin ⟦<M as Meant>⟧.meaning
-        (⟦<In as Invoked>⟧.invoked input.old enabled) (H.entries cache.old)
-        (In.did input.old input.new)
-        (⟦<S as Breaking>⟧.breaks_off sink.old sink.new)
-        (⟦<S as Breaking>⟧.spoiled_after sink.old sink.new) fault (H.entries cache.new)) }
+    ensures err { IfErr result (⟦<M as Calling<H, In, S>>⟧.fails
+        enabled cache.old cache.new input.old input.new sink.old sink.new) }
 {
     // A hit returns at once: as the value of the match it would be moved with the room of a `Pending`.
     match look_up(alloc, cache, input, sink, enabled) {

@@ -3,23 +3,23 @@
 ghost use Rattle.std.specs.Prelude.{◌≡◌, ◌↔◌, [], true, false, List, IsTrue, refl, IfOk, IfErr, OnErr, ⊤};
 ghost use Rattle.comemo.specs.Called.{HeldReply};
 ghost use Rattle.comemo.specs.Begun.{OnFault};
-ghost use Rattle.comemo.specs.Finish.{BreaksOffRun, BrokeOff};
-ghost use Rattle.comemo.specs.FunctionMut.{Lent, TellsWrites, WasStopped, lent};
+ghost use Rattle.comemo.specs.Finish.{BreaksOffRun};
+ghost use Rattle.comemo.specs.Function.{Fits};
+ghost use Rattle.comemo.specs.FunctionMut.{WasStopped, lent};
 ghost use Rattle.comemo.specs.Recursive.{OnCallBegun, FinishedAs};
-ghost use Rattle.comemo.specs.RecursiveMut.{IsEmpty, Within, StartsMut};
+ghost use Rattle.comemo.specs.RecursiveMut.{IsEmpty, StartsMut};
 ghost use Rattle.comemo_cache.specs.Meaning.{IsNamedRun, invocation, run};
 ghost use Rattle.comemo_cache.specs.Held.{Held, Leads, Stays};
-ghost use Rattle.comemo_track.specs.Recording.{Took, Spoiled, MarkedLate};
-ghost use Rattle.comemo_track.specs.Sending.{BreaksOff, SpoiledAfter, TookAs};
+ghost use Rattle.comemo_track.specs.Recording.{Recording, Took, Spoiled, MarkedLate};
+ghost use Rattle.comemo_track.specs.Sending.{BreaksOff, TookAs};
 
-use crate::function::Told;
-use crate::function_mut::{RecorderMut, ToldMut};
+use crate::function_mut::{RecorderMut, Records, Writes};
 use crate::lent::LentKeyMut;
 use crate::pending::{Begun, Fault, How, Pending, Reply, look_up};
 use comemo_cache::cache::{Meant, Memo};
 use comemo_cache::hold::Hold;
 use comemo_track::constraint::Constraint;
-use comemo_track::track::{Call, Track, Written};
+use comemo_track::track::{Call, Track};
 use std::mem;
 
 /// A nested run of a function that writes: what is set aside until it is finished. It can't be dropped: a run that
@@ -29,6 +29,81 @@ pub struct InnerMut<K, T: Track> {
     pub own: K,
     /// The recording of the run around this one.
     pub around: Constraint<T::Call, T::Answer>,
+}
+
+/// How a nested call of a function that writes goes, for contracts, as `⟦<G as Nesting<H, Self>>⟧.begins`. There is
+/// nothing to implement.
+pub trait Nesting<H, R>: Memo
+where
+    H: Hold<Self>,
+    R: Records<Call = Self::Call, Answer = Self::Answer>,
+{
+    ghost use Rattle.comemo.specs.declared.pending.Fault.{Fault};
+    ghost use Rattle.comemo.specs.declared.pending.How.{How};
+
+    // a hit returned this output, and its path and writes went to the recorder
+    ghost hits: { Self.Key → H → H → R → R → Self.Out → Type 0 };
+
+    // nothing was written, and a run is to be done under this key
+    ghost begins: { Self.Key → H → H → R → R → Self.Key → Type 0 };
+
+    // it failed with this fault: it did not begin, or a hit stopped at a write
+    ghost fails: { Self.Key → H → H → R → R → Fault → Type 0 };
+
+    // this output, and what the recorder wrote, are right for all answers that fit its recording
+    ghost right: { Self.Key → R → Self.Out → Type 0 };
+
+    // if the asked calls are named, its recording is a run of them, unless it is incomplete or late
+    ghost named: { Self.Key → R → Type 0 };
+
+    // the run under this key was finished with this output: the recording that was set aside took the recorder's own
+    ghost ends: { H → H → Self.Key → Recording Self.Call Self.Answer → R → R
+        → Self.Out → How → Type 0 };
+
+    // it was not finished: that recording took a prefix of the recorder's own
+    ghost breaks: { H → H → Recording Self.Call Self.Answer → R → R → Type 0 };
+}
+
+impl<M: Memo, H, R> Nesting<H, R> for M
+where
+    H: Hold<M>,
+    R: Records<Call = M::Call, Answer = M::Answer>,
+{
+    ghost use Rattle.comemo.specs.declared.pending.How.TheVariants.{Hit};
+    ghost use Rattle.comemo.specs.declared.pending.Reply.{Reply};
+
+    ghost hits = { λ key h h' s t output. (reply : Reply M.Out) × (reply.output ≡ output)
+        × (reply.how ≡ Hit) × HeldReply ⟦<M as Meant>⟧.meaning
+        (invocation key (R.answers s) true) (H.entries h) (R.sent false s t)
+        reply (H.entries h') };
+
+    ghost begins = { λ key h h' s t own. Held (H.entries h) (λ es.
+        StartsMut ⟦<M as Meant>⟧.meaning es (invocation key (R.answers s) true) own)
+        × (R.value t ≡ R.value s) × Stays (H.entries h) (H.entries h') };
+
+    ghost fails = { λ key h h' s t fault. OnFault fault
+        ((R.value t ≡ R.value s) × Stays (H.entries h) (H.entries h') × R.broke_off s t)
+        (Leads (H.entries h) (H.entries h') (λ es es'. WasStopped ⟦<M as Meant>⟧.meaning es
+        (invocation key (R.answers s) true) (R.did s t) (R.spoiled_after s t) es')) };
+
+    ghost right = { λ key s output. (m : M.Call → M.Answer)
+        → Fits M.Call.eq M.Answer.eq (R.recording s) m
+        → M.def key m output (R.recording s).writes };
+
+    ghost named = { λ key s. (R.recording s).whole ≡ true → (R.recording s).late ≡ false
+        → IsNamedRun ⟦<M as Meant>⟧.meaning key (R.recording s).pairs };
+
+    ghost ends = { λ h h' own around s t output became.
+        Leads (H.entries h) (H.entries h') (λ es es'.
+        FinishedAs ⟦<M as Meant>⟧.meaning es (R.recording s).late
+        (TookAs (Took M.Call.eq M.Call.touches) MarkedLate (R.recording s).late
+        around (R.recording t))
+        (run own (R.recording s).pairs output (R.recording s).writes) became es') };
+
+    ghost breaks = { λ h h' around s t. Stays (H.entries h) (H.entries h')
+        × BreaksOffRun ⟦<M as Meant>⟧.meaning
+        (BreaksOff (Took M.Call.eq M.Call.touches) Spoiled around (R.recording t))
+        (R.recording s).pairs };
 }
 
 impl<'a, 'b, T: Track> RecorderMut<'a, 'b, T> {
@@ -42,40 +117,19 @@ impl<'a, 'b, T: Track> RecorderMut<'a, 'b, T> {
         cache: &mut H,
         key: &G::Key,
     ) -> Result<Begun<G::Out, InnerMut<G::Key, T>>, Fault>
-        requires agrees { ⟦<T as ToldMut>⟧.agrees (lent self.old.value self.old.recording) }
-        ensures agrees { ⟦<T as ToldMut>⟧.agrees (lent self.new.value self.new.recording) }
-        ensures tells { OnCallBegun result (λ reply.
-            TellsWrites ⟦<T as ToldMut>⟧.goes ⟦<T as Told>⟧.fits
-            (lent self.old.value self.old.recording) (lent self.new.value self.new.recording) reply
-            (λ output m writes. G.def key.now m output writes))
-            (λ inner. Within ⟦<T as Written>⟧.did T.Call.touches T.Answer.eq T.answers
-            (lent self.old.value self.old.recording) (lent self.new.value self.new.recording)
-            inner.around) }
-        ensures hit { OnCallBegun result (λ told. IfOk told (λ output.
-            (reply : Reply G.Out) × (reply.output ≡ output) × (reply.how ≡ How.Hit)
-            × HeldReply ⟦<G as Meant>⟧.meaning
-            (invocation key.now (T.answers self.old.value.now) true)
-            (H.entries cache.old)
-            (λ P W. Took T.Call.eq T.Call.touches self.old.recording.now self.new.recording.now P W
-            × ⟦<T as Written>⟧.did self.old.value.now self.new.value.now W)
-            reply (H.entries cache.new))) (λ _. ⊤) }
+        requires agrees { ⟦<Self as Records>⟧.agrees self.old }
+        ensures agrees { ⟦<Self as Records>⟧.agrees self.new }
+        ensures tells { OnCallBegun result (λ reply. ⟦<Self as Writes>⟧.tells
+            (lent self.old.value self.old.recording) self.new reply
+            (λ output m writes. G.def key.now m output writes)) (λ inner. ⟦<Self as Records>⟧.within
+            (lent self.old.value self.old.recording) self.new inner.around) }
+        ensures hit { OnCallBegun result (λ told. IfOk told (⟦<G as Nesting<H, Self>>⟧.hits
+            key.now cache.old cache.new self.old self.new)) (λ _. ⊤) }
         ensures begins { OnCallBegun result (λ _. ⊤) (λ _. IsEmpty self.new.recording.now) }
-        ensures run { OnCallBegun result (λ _. ⊤)
-            (λ inner. Held (H.entries cache.old) (λ es. StartsMut ⟦<G as Meant>⟧.meaning es
-            (invocation key.now (T.answers self.old.value.now) true) inner.own)
-            × (self.new.value ≡ self.old.value)
-            × Stays (H.entries cache.old) (H.entries cache.new)) }
-        ensures err { IfErr result (λ fault. OnFault fault
-            ((self.new.value ≡ self.old.value)
-            × Stays (H.entries cache.old) (H.entries cache.new)
-            × BrokeOff T.Answer.eq (T.answers self.old.value.now)
-            (BreaksOff (Took T.Call.eq T.Call.touches) Spoiled self.old.recording.now self.new.recording.now))
-            (Leads (H.entries cache.old) (H.entries cache.new) (λ es es'.
-            WasStopped ⟦<G as Meant>⟧.meaning es
-            (invocation key.now (T.answers self.old.value.now) true)
-            (⟦<T as Written>⟧.did self.old.value.now self.new.value.now)
-            (SpoiledAfter (Took T.Call.eq T.Call.touches) Spoiled self.old.recording.now self.new.recording.now)
-            es'))) }
+        ensures run { OnCallBegun result (λ _. ⊤) (λ inner. ⟦<G as Nesting<H, Self>>⟧.begins
+            key.now cache.old cache.new self.old self.new inner.own) }
+        ensures err { IfErr result (⟦<G as Nesting<H, Self>>⟧.fails
+            key.now cache.old cache.new self.old self.new) }
     {
         let alloc = self.alloc;
         let mut input = LentKeyMut {
@@ -105,39 +159,23 @@ impl<'a, 'b, T: Track> RecorderMut<'a, 'b, T> {
         ran: Result<G::Out, Fault>,
     ) -> Result<G::Out, Fault>
         requires own { IsTrue (G.Key.eq key.now inner.own) }
-        requires agrees { ⟦<T as ToldMut>⟧.agrees (lent self.old.value self.old.recording) }
-        requires right { IfOk ran (λ output. (m : T.Call → T.Answer)
-            → ⟦<T as Told>⟧.fits self.old.recording.now m
-            → G.def key.now m output self.old.recording.now.writes) }
-        requires settled { IfOk ran (λ _. self.old.recording.now.whole ≡ true
-            → self.old.recording.now.late ≡ false
-            → IsNamedRun ⟦<G as Meant>⟧.meaning key.now self.old.recording.now.pairs) }
-        ensures agrees { (s : Lent T T.Call T.Answer)
-            → Within ⟦<T as Written>⟧.did T.Call.touches T.Answer.eq T.answers
-            s (lent self.old.value self.old.recording) inner.around
-            → ⟦<T as ToldMut>⟧.agrees (lent self.new.value self.new.recording) }
-        ensures tells { (s : Lent T T.Call T.Answer)
-            → Within ⟦<T as Written>⟧.did T.Call.touches T.Answer.eq T.answers
-            s (lent self.old.value self.old.recording) inner.around
-            → TellsWrites ⟦<T as ToldMut>⟧.goes ⟦<T as Told>⟧.fits
-            s (lent self.new.value self.new.recording) result
-            (λ output m writes. G.def key.now m output writes) }
+        requires agrees { ⟦<Self as Records>⟧.agrees self.old }
+        requires right { IfOk ran (⟦<G as Nesting<H, Self>>⟧.right key.now self.old) }
+        requires settled { IfOk ran (λ _. ⟦<G as Nesting<H, Self>>⟧.named key.now self.old) }
+        ensures agrees { ⟦<Self as Records>⟧.began self.old inner.around
+            (λ _. ⟦<Self as Records>⟧.agrees self.new) }
+        ensures tells { ⟦<Self as Records>⟧.began self.old inner.around (λ s.
+            ⟦<Self as Writes>⟧.tells s self.new result (λ out m W. G.def key.now m out W)) }
         ensures finished { IfOk result (λ output. (ran ≡ Ok output) × (became : How)
-            × Leads (H.entries cache.old) (H.entries cache.new) (λ es es'.
-            FinishedAs ⟦<G as Meant>⟧.meaning es self.old.recording.now.late
-            (TookAs (Took T.Call.eq T.Call.touches) MarkedLate self.old.recording.now.late
-            inner.around self.new.recording.now)
-            (run inner.own self.old.recording.now.pairs output self.old.recording.now.writes)
-            became es')) }
+            × ⟦<G as Nesting<H, Self>>⟧.ends cache.old cache.new inner.own inner.around
+            self.old self.new output became) }
         ensures value { self.new.value ≡ self.old.value }
         ensures incomplete { IfOk ran
             (λ _. (result ≡ Err Fault.Incomplete) ↔ (self.old.recording.now.whole ≡ false)) }
         ensures write { IfOk ran (λ _. IfErr result (λ fault. fault ≡ Fault.Write → ⊥)) }
         ensures fault { IfErr ran (λ fault. result ≡ Err fault) }
-        ensures err { OnErr result (Stays (H.entries cache.old) (H.entries cache.new)
-            × BreaksOffRun ⟦<G as Meant>⟧.meaning
-            (BreaksOff (Took T.Call.eq T.Call.touches) Spoiled inner.around self.new.recording.now)
-            self.old.recording.now.pairs) }
+        ensures err { OnErr result (⟦<G as Nesting<H, Self>>⟧.breaks
+            cache.old cache.new inner.around self.old self.new) }
     {
         let reply = self.finish_reply(cache, key, inner, ran)?;
         Ok(reply.output)
@@ -152,39 +190,22 @@ impl<'a, 'b, T: Track> RecorderMut<'a, 'b, T> {
         ran: Result<G::Out, Fault>,
     ) -> Result<Reply<G::Out>, Fault>
         requires own { IsTrue (G.Key.eq key.now inner.own) }
-        requires agrees { ⟦<T as ToldMut>⟧.agrees (lent self.old.value self.old.recording) }
-        requires right { IfOk ran (λ output. (m : T.Call → T.Answer)
-            → ⟦<T as Told>⟧.fits self.old.recording.now m
-            → G.def key.now m output self.old.recording.now.writes) }
-        requires settled { IfOk ran (λ _. self.old.recording.now.whole ≡ true
-            → self.old.recording.now.late ≡ false
-            → IsNamedRun ⟦<G as Meant>⟧.meaning key.now self.old.recording.now.pairs) }
-        ensures agrees { (s : Lent T T.Call T.Answer)
-            → Within ⟦<T as Written>⟧.did T.Call.touches T.Answer.eq T.answers
-            s (lent self.old.value self.old.recording) inner.around
-            → ⟦<T as ToldMut>⟧.agrees (lent self.new.value self.new.recording) }
-        ensures tells { (s : Lent T T.Call T.Answer)
-            → Within ⟦<T as Written>⟧.did T.Call.touches T.Answer.eq T.answers
-            s (lent self.old.value self.old.recording) inner.around
-            → TellsWrites ⟦<T as ToldMut>⟧.goes ⟦<T as Told>⟧.fits
-            s (lent self.new.value self.new.recording) result
-            (λ reply m writes. G.def key.now m reply.output writes) }
-        ensures finished { IfOk result (λ reply. (ran ≡ Ok reply.output)
-            × Leads (H.entries cache.old) (H.entries cache.new) (λ es es'.
-            FinishedAs ⟦<G as Meant>⟧.meaning es self.old.recording.now.late
-            (TookAs (Took T.Call.eq T.Call.touches) MarkedLate self.old.recording.now.late
-            inner.around self.new.recording.now)
-            (run inner.own self.old.recording.now.pairs reply.output
-            self.old.recording.now.writes) reply.how es')) }
+        requires agrees { ⟦<Self as Records>⟧.agrees self.old }
+        requires right { IfOk ran (⟦<G as Nesting<H, Self>>⟧.right key.now self.old) }
+        requires settled { IfOk ran (λ _. ⟦<G as Nesting<H, Self>>⟧.named key.now self.old) }
+        ensures agrees { ⟦<Self as Records>⟧.began self.old inner.around
+            (λ _. ⟦<Self as Records>⟧.agrees self.new) }
+        ensures tells { ⟦<Self as Records>⟧.began self.old inner.around (λ s.
+            ⟦<Self as Writes>⟧.tells s self.new result (λ r m W. G.def key.now m r.output W)) }
+        ensures finished { IfOk result (λ r. (ran ≡ Ok r.output) × ⟦<G as Nesting<H, Self>>⟧.ends
+            cache.old cache.new inner.own inner.around self.old self.new r.output r.how) }
         ensures value { self.new.value ≡ self.old.value }
         ensures incomplete { IfOk ran
             (λ _. (result ≡ Err Fault.Incomplete) ↔ (self.old.recording.now.whole ≡ false)) }
         ensures write { IfOk ran (λ _. IfErr result (λ fault. fault ≡ Fault.Write → ⊥)) }
         ensures fault { IfErr ran (λ fault. result ≡ Err fault) }
-        ensures err { OnErr result (Stays (H.entries cache.old) (H.entries cache.new)
-            × BreaksOffRun ⟦<G as Meant>⟧.meaning
-            (BreaksOff (Took T.Call.eq T.Call.touches) Spoiled inner.around self.new.recording.now)
-            self.old.recording.now.pairs) }
+        ensures err { OnErr result (⟦<G as Nesting<H, Self>>⟧.breaks
+            cache.old cache.new inner.around self.old self.new) }
     {
         let InnerMut { own, around } = inner;
         // For the proof: its pairs are reads, and its writes are writes.

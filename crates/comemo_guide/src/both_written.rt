@@ -25,8 +25,8 @@ impl Memo for NotesAndAdds {
     ghost use Rattle.comemo_samples.specs.declared.counter.CounterCall.TheVariants.{Get, Add};
     ghost use Rattle.comemo_samples.specs.declared.notebook.NotebookCall.TheVariants.{Note};
 
-    ghost def = { λ n m out writes. OnParts m (λ counter _. (out ≡ counter Get)
-        × (writes ≡ second_call (Note (counter Get)) ∷ first_call (Add n) ∷ first_call (Add 1) ∷ [])) };
+    ghost def = { λ n m out writes. OnParts m (λ counter _. (out ≡ counter Get) × (writes
+        ≡ second_call (Note (counter Get)) ∷ first_call (Add n) ∷ first_call (Add 1) ∷ [])) };
 
     ghost laws = { exact_memo_laws (λ x y h. Prim.search rules) (λ x y h. Prim.search rules)
         (λ x y h. Prim.search rules) (λ a b h. Prim.search rules) (λ x y h. Prim.search rules) };

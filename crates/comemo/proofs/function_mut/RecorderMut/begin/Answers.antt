@@ -2,26 +2,26 @@ use Rattle.std.proofs.Common.{rules, refl, [], Err, ◌∙◌}
 use Rattle.comemo_track.specs.Writing.{Done}
 use Rattle.comemo.specs.declared.pending.How.TheVariants as how
 use Rattle.comemo_cache.proofs.Holding.{some_held, some_led, led_from, leads_map, held_map}
-use Rattle.comemo.proofs.Calls.{reply_by_done_hit, stopped_as, broke_at_begin, on_fault, fault_as}
+use Rattle.comemo.proofs.Calls.{of_hit, of_run, reply_by_done_hit, stopped_as, broke_at_begin, on_fault, fault_as}
 use Rattle.comemo.proofs.RecordersMut.{tells_called, writes_failed, called_begun}
 use Rattle.comemo.proofs.function_mut.RecorderMut.begin.Goals as goal
 
 pub returns-in-Ok-Hit-clause-agrees : goal.returns-in-Ok-Hit-clause-agrees
 returns-in-Ok-Hit-clause-agrees g c =
     let s = c.args.self.now in
-    let hit = some_led (g.H.Hold.entries c.args.cache.now) (g.H.Hold.entries c.look_up.new.cache) _ (rw (c.in-Ok-Hit.is, c.in-Ok-Hit.field-0-is) at c.look_up.ensures.hit) in
+    let hit = some_led (g.H.Hold.entries c.args.cache.now) (g.H.Hold.entries c.look_up.new.cache) _ (of_hit c.look_up.result _ c.in-Ok-Hit.output _ _ c.in-Ok-Hit.is c.in-Ok-Hit.field-0-is c.look_up.ensures.hit) in
     called_begun (record { same_call = g.T.Call.PartialEq.eq; same_answer = g.T.Answer.PartialEq.eq; same_key = g.G.Key.PartialEq.eq; is_write = g.T.Call.Call.is_write; is_clone = g.G.Out.Clone.is_clone; def = g.G.Memo.def; naming = g.G.Memo.naming }) g.T.Track.wrote g.T.Call.Call.is_write g.T.Call.Call.touches g.T.Track.answers g.met.T.Call.Eq.laws g.met.T.Answer.Eq.laws g.met.T.Call.Call.same_kind g.met.T.Track.alike _ _ refl refl c.requires.agrees c.has_reads_and_writes.ensures.reads (record { output = c.in-Ok-Hit.output; how = how.Hit }) (reply_by_done_hit g.met.T.Call.Eq.laws g.met.T.Answer.Eq.laws hit.0 hit.1 hit.2.0 hit.2.1 (Done g.T.Track.wrote g.T.Call.Call.is_write g.T.Call.Call.touches g.T.Answer.PartialEq.eq g.T.Track.answers) s.value.now c.look_up.new.input.value.now c.look_up.new.input.value.now refl hit.2.0.are_done.0)
 
 pub returns-in-Ok-Hit-clause-tells : goal.returns-in-Ok-Hit-clause-tells
 returns-in-Ok-Hit-clause-tells g c =
     let s = c.args.self.now in
-    let hit = some_led (g.H.Hold.entries c.args.cache.now) (g.H.Hold.entries c.look_up.new.cache) _ (rw (c.in-Ok-Hit.is, c.in-Ok-Hit.field-0-is) at c.look_up.ensures.hit) in
+    let hit = some_led (g.H.Hold.entries c.args.cache.now) (g.H.Hold.entries c.look_up.new.cache) _ (of_hit c.look_up.result _ c.in-Ok-Hit.output _ _ c.in-Ok-Hit.is c.in-Ok-Hit.field-0-is c.look_up.ensures.hit) in
     tells_called (record { same_call = g.T.Call.PartialEq.eq; same_answer = g.T.Answer.PartialEq.eq; same_key = g.G.Key.PartialEq.eq; is_write = g.T.Call.Call.is_write; is_clone = g.G.Out.Clone.is_clone; def = g.G.Memo.def; naming = g.G.Memo.naming }) g.T.Track.wrote g.T.Call.Call.is_write g.T.Call.Call.touches g.T.Track.answers g.met.T.Call.Eq.laws g.met.T.Answer.Eq.laws g.met.T.Call.Call.same_kind g.met.T.Track.alike _ _ refl refl c.requires.agrees c.has_reads_and_writes.ensures.reads (record { output = c.in-Ok-Hit.output; how = how.Hit }) (reply_by_done_hit g.met.T.Call.Eq.laws g.met.T.Answer.Eq.laws hit.0 hit.1 hit.2.0 hit.2.1 (Done g.T.Track.wrote g.T.Call.Call.is_write g.T.Call.Call.touches g.T.Answer.PartialEq.eq g.T.Track.answers) s.value.now c.look_up.new.input.value.now c.look_up.new.input.value.now refl hit.2.0.are_done.0)
 
 pub returns-in-Ok-Hit-clause-hit : goal.returns-in-Ok-Hit-clause-hit
 returns-in-Ok-Hit-clause-hit g c =
     let s = c.args.self.now in
-    (_, refl, refl, led_from (g.H.Hold.entries c.args.cache.now) (g.H.Hold.entries c.look_up.new.cache) _ _ (λ es es' found. reply_by_done_hit g.met.T.Call.Eq.laws g.met.T.Answer.Eq.laws es es' found.0 found.1 (Done g.T.Track.wrote g.T.Call.Call.is_write g.T.Call.Call.touches g.T.Answer.PartialEq.eq g.T.Track.answers) s.value.now c.look_up.new.input.value.now c.look_up.new.input.value.now refl found.0.are_done.0) (rw (c.in-Ok-Hit.is, c.in-Ok-Hit.field-0-is) at c.look_up.ensures.hit))
+    (_, refl, refl, led_from (g.H.Hold.entries c.args.cache.now) (g.H.Hold.entries c.look_up.new.cache) _ _ (λ es es' found. reply_by_done_hit g.met.T.Call.Eq.laws g.met.T.Answer.Eq.laws es es' found.0 found.1 (Done g.T.Track.wrote g.T.Call.Call.is_write g.T.Call.Call.touches g.T.Answer.PartialEq.eq g.T.Track.answers) s.value.now c.look_up.new.input.value.now c.look_up.new.input.value.now refl found.0.are_done.0) (of_hit c.look_up.result _ c.in-Ok-Hit.output _ _ c.in-Ok-Hit.is c.in-Ok-Hit.field-0-is c.look_up.ensures.hit))
 
 pub returns-in-Err-clause-tells : goal.returns-in-Err-clause-tells
 returns-in-Err-clause-tells g c =
@@ -35,7 +35,7 @@ returns-in-Err-clause-err g c = fault_as c.in-Err.fault _ _ _ _ (rw c.in-Err.is 
 
 pub returns-clause-tells : goal.returns-clause-tells
 returns-clause-tells g c =
-    let run = rw (c.in-Ok-Run.is, c.in-Ok-Run.field-0-is) at c.look_up.ensures.run in
+    let run = of_run c.look_up.result _ c.in-Ok-Run.own _ _ c.in-Ok-Run.is c.in-Ok-Run.field-0-is c.look_up.ensures.run in
     record {
       kept = c.replace-around.ensures.value ∙ run.2;
       agreed = c.requires.agrees;
@@ -48,12 +48,12 @@ returns-clause-tells g c =
 
 pub returns-clause-begins : goal.returns-clause-begins
 returns-clause-begins g c =
-    let run = rw (c.in-Ok-Run.is, c.in-Ok-Run.field-0-is) at c.look_up.ensures.run in
+    let run = of_run c.look_up.result _ c.in-Ok-Run.own _ _ c.in-Ok-Run.is c.in-Ok-Run.field-0-is c.look_up.ensures.run in
     rw c.replace-around.ensures.after (record { pairs = c.new.ensures.pairs; writes = c.new.ensures.writes; whole = c.new.ensures.whole; early = c.new.ensures.late })
 
 pub returns-clause-run : goal.returns-clause-run
 returns-clause-run g c =
-    let run = rw (c.in-Ok-Run.is, c.in-Ok-Run.field-0-is) at c.look_up.ensures.run in (
+    let run = of_run c.look_up.result _ c.in-Ok-Run.own _ _ c.in-Ok-Run.is c.in-Ok-Run.field-0-is c.look_up.ensures.run in (
       held_map (g.H.Hold.entries c.args.cache.now) _ _ (λ es is.
           record { has_key = is.has_key; none = is.none refl }) run.0,
       search (rules, run.1.0),
@@ -62,5 +62,5 @@ returns-clause-run g c =
 
 pub returns-clause-agrees : goal.returns-clause-agrees
 returns-clause-agrees g c =
-    let run = rw (c.in-Ok-Run.is, c.in-Ok-Run.field-0-is) at c.look_up.ensures.run in
+    let run = of_run c.look_up.result _ c.in-Ok-Run.own _ _ c.in-Ok-Run.is c.in-Ok-Run.field-0-is c.look_up.ensures.run in
     rw c.replace-around.ensures.after (λ whole. (c.args.self.now.value.now, record { done = rw c.new.ensures.writes run.1.0; agrees = λ l. rw c.new.ensures.pairs tt }))
