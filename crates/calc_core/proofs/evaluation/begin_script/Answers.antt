@@ -1,4 +1,4 @@
-use Rattle.std.proofs.Common.{rules, arith, inl, inr, sym, subst, ◌<◌}
+use Rattle.std.proofs.Common.{arith, inl, inr, sym, subst, ◌<◌}
 use Rattle.comemo.proofs.Calls.{reply_by_hit, broke_at_begin, of_memory, never_stops}
 use Rattle.comemo.proofs.KeyedViews.{keyed_calls, keyed_answers}
 use Rattle.calc_core.specs.Meaning.{Deep, no_room}
@@ -47,7 +47,7 @@ returns-then-outcome-limit-clause-deep g c = λ _.
 pub returns-in-Ok-Hit-clause-begun : goal.returns-in-Ok-Hit-clause-begun
 returns-in-Ok-Hit-clause-begun g c =
     let (hit, touched) = rw (c.in-Ok-Hit.is, c.in-Ok-Hit.field-0-is, c.fork.ensures, c.in-Ok.ensures.cases) at c.begin.ensures.hit in
-    (search rules, reply_by_hit (keyed_calls tests) (keyed_answers tests) c.args.cache.now _ hit touched)
+    (omega (arith, c.if-outcome-limit.false), reply_by_hit (keyed_calls tests) (keyed_answers tests) c.args.cache.now _ hit touched)
 
 pub returns-in-Ok-Run-clause-begun : goal.returns-in-Ok-Run-clause-begun
 returns-in-Ok-Run-clause-begun g c =
