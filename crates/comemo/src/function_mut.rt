@@ -304,7 +304,7 @@ impl<'a, 'b, T: Track> RecorderMut<'a, 'b, T> {
         let view = self.value.track(self.alloc);
         let reply = memoized_view(self.alloc, cache, needs, key, &view, self.recording, true)?;
         // For the proof: its pairs are reads, and its writes are writes.
-        self.recording.has_reads_and_writes();
+        self.recording.reveal_reads_and_writes();
         Ok(reply.output)
     }
 
@@ -340,7 +340,7 @@ impl<'a, 'b, T: Track> RecorderMut<'a, 'b, T> {
             true,
         )?;
         // For the proof: its pairs are reads, and its writes are writes.
-        self.recording.has_reads_and_writes();
+        self.recording.reveal_reads_and_writes();
         Ok(reply.output)
     }
 }

@@ -114,7 +114,7 @@ impl<'a, 'b, 'c, A: Track, B: Track> RecorderMut<'a, 'b, ReadAndWrite<'c, A, B>>
         let reply = memoized_view(self.alloc, cache, needs, key, &view, &mut sink, true)?;
         drop(sink);
         // For the proof: its pairs are reads, and its writes are writes.
-        self.recording.has_reads_and_writes();
+        self.recording.reveal_reads_and_writes();
         Ok(reply.output)
     }
 
@@ -159,7 +159,7 @@ impl<'a, 'b, 'c, A: Track, B: Track> RecorderMut<'a, 'b, ReadAndWrite<'c, A, B>>
         )?;
         drop(sink);
         // For the proof: its pairs are reads, and its writes are writes.
-        self.recording.has_reads_and_writes();
+        self.recording.reveal_reads_and_writes();
         Ok(reply.output)
     }
 }

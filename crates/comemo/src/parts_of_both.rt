@@ -140,7 +140,7 @@ impl<'a, 'b, 'c, A: Track, B: Track> RecorderMut<'a, 'b, BothMut<'c, A, B>> {
         let reply = memoized_part(self.alloc, cache, needs, key, &mut *value.first, &mut sink)?;
         drop(sink);
         // For the proof: its pairs are reads, and its writes are writes.
-        self.recording.has_reads_and_writes();
+        self.recording.reveal_reads_and_writes();
         Ok(reply.output)
     }
 
@@ -172,7 +172,7 @@ impl<'a, 'b, 'c, A: Track, B: Track> RecorderMut<'a, 'b, BothMut<'c, A, B>> {
         let reply = memoized_part(self.alloc, cache, needs, key, &mut *value.second, &mut sink)?;
         drop(sink);
         // For the proof: its pairs are reads, and its writes are writes.
-        self.recording.has_reads_and_writes();
+        self.recording.reveal_reads_and_writes();
         Ok(reply.output)
     }
 
@@ -217,7 +217,7 @@ impl<'a, 'b, 'c, A: Track, B: Track> RecorderMut<'a, 'b, BothMut<'c, A, B>> {
         )?;
         drop(sink);
         // For the proof: its pairs are reads, and its writes are writes.
-        self.recording.has_reads_and_writes();
+        self.recording.reveal_reads_and_writes();
         Ok(reply.output)
     }
 
@@ -262,7 +262,7 @@ impl<'a, 'b, 'c, A: Track, B: Track> RecorderMut<'a, 'b, BothMut<'c, A, B>> {
         )?;
         drop(sink);
         // For the proof: its pairs are reads, and its writes are writes.
-        self.recording.has_reads_and_writes();
+        self.recording.reveal_reads_and_writes();
         Ok(reply.output)
     }
 }

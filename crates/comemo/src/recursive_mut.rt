@@ -139,7 +139,7 @@ impl<'a, 'b, T: Track> RecorderMut<'a, 'b, T> {
         let own = match look_up(alloc, cache, &mut input, self.recording, true) {
             Ok(Begun::Hit(output)) => {
                 // For the proof: its pairs are reads, and its writes are writes.
-                self.recording.has_reads_and_writes();
+                self.recording.reveal_reads_and_writes();
                 return Ok(Begun::Hit(output));
             }
             Ok(Begun::Run(own)) => own,
@@ -209,7 +209,7 @@ impl<'a, 'b, T: Track> RecorderMut<'a, 'b, T> {
     {
         let InnerMut { own, around } = inner;
         // For the proof: its pairs are reads, and its writes are writes.
-        self.recording.has_reads_and_writes();
+        self.recording.reveal_reads_and_writes();
         let recording = mem::replace(self.recording, around);
         let pending: Pending<G> = Pending {
             alloc: self.alloc,
@@ -220,7 +220,7 @@ impl<'a, 'b, T: Track> RecorderMut<'a, 'b, T> {
         match pending.end(cache, self.recording, ran) {
             Ok(reply) => {
                 // For the proof: its pairs are reads, and its writes are writes.
-                self.recording.has_reads_and_writes();
+                self.recording.reveal_reads_and_writes();
                 Ok(reply)
             }
             Err(fault) => Err(fault),

@@ -165,7 +165,7 @@ impl<K: Eq + Hash, C: Eq + Hash, R: Ord, T> PlainTree<K, C, R, T> {
     }
 
     /// Makes the tree's invariant known to a proof. Does nothing at run time.
-    pub fn is_parted(&self)
+    pub fn reveal_tree(&self)
         ensures { IsTree C.eq R.eq K.eq self.now }
     {
         let _ = &self.entries;
@@ -278,7 +278,8 @@ fn walk<K: Eq + Hash, C: Clone + Eq + Hash, R: Ord + Drop, T>(
         (IsReason C.eq R.eq (under K.eq entries.now key.now) sequence.old.pairs) }
 {
     let mut path = Vec::new(alloc);
-    sequence.has_distinct_calls();
+    // For the proof: the sequence has each call once.
+    sequence.reveal_distinct_calls();
     let Some(first) = find_first(entries, key) else {
         return Ok(path);
     };

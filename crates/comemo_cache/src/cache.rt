@@ -166,7 +166,8 @@ fn find_agreeing<'a, K: Clone + Eq + Hash, In: Input, T>(
         ⊎ Any (λ e. Agrees In.Answer.eq (In.answers input.old) e.path)
         (under K.eq tree.now key.now)) }
 {
-    tree.is_parted();
+    // For the proof: at most one stored path agrees.
+    tree.reveal_tree();
     tree.find(
         key,
         &mut |call: &In::Call| -> Result<In::Answer, AllocError>
@@ -197,7 +198,8 @@ fn get_agreeing<'a, K: Clone + Eq + Hash, In: Input, T>(
         × Agrees In.Answer.eq (In.answers input.old) asked
         × IsRefused In.Call.eq In.Answer.eq (under K.eq tree.now key.now) asked next) }
 {
-    tree.is_parted();
+    // For the proof: at most one stored path agrees.
+    tree.reveal_tree();
     tree.get(
         key,
         &mut |read: &In::Call| -> Result<In::Answer, AllocError>
@@ -336,7 +338,8 @@ impl<M: Memo> CacheData<M> {
             → ¬ IsNamed ⟦<M as Meant>⟧.meaning) }
         ensures err { OnErr result (self.new ≡ self.old) }
     {
-        sequence.has_distinct_calls();
+        // For the proof: the sequence has each call once.
+        sequence.reveal_distinct_calls();
         let kept = KeptRun {
             output,
             writes,
@@ -382,16 +385,18 @@ impl<M: Memo> CacheData<M> {
 
     /// Makes known to a proof that paths are causal and complete, if the function names its calls. Does nothing at run
     /// time.
-    pub fn is_settled(&self)
+    pub fn reveal_runs(&self)
         ensures { All (λ e. IsNamedRun ⟦<M as Meant>⟧.meaning e.key e.path) self.now }
     {
-        self.tree.is_parted();
+        // For the proof: at most one stored path agrees.
+        self.tree.reveal_tree();
     }
 
     /// Makes the tree's invariant known to a proof.
-    pub(crate) fn is_tree(&self)
+    pub(crate) fn reveal_tree(&self)
         ensures { IsTree M.Call.eq M.Answer.eq M.Key.eq self.now }
     {
-        self.tree.is_parted();
+        // For the proof: at most one stored path agrees.
+        self.tree.reveal_tree();
     }
 }

@@ -56,7 +56,8 @@ fn note_agreeing<'a, K: Clone + Eq + Hash, In: Input, T>(
         × Agrees In.Answer.eq (In.answers input.old) asked
         × IsRefused In.Call.eq In.Answer.eq (under K.eq tree.now key.now) asked next) }
 {
-    tree.is_parted();
+    // For the proof: at most one stored path agrees.
+    tree.reveal_tree();
     tree.get(
         key,
         &mut |call: &In::Call| -> Result<In::Answer, AllocError>

@@ -149,7 +149,8 @@ impl<M: Memo> Hold<M> for CacheData<M> {
         key: &M::Key,
         input: &mut In,
     ) -> Result<Option<Found<M>>, AllocError> {
-        self.is_tree();
+        // For the proof: at most one stored path agrees.
+        self.reveal_tree();
         CacheData::look(self, key, input)
     }
 
@@ -158,7 +159,8 @@ impl<M: Memo> Hold<M> for CacheData<M> {
         key: &M::Key,
         input: &mut In,
     ) -> Result<Option<Peeked<M>>, AllocError> {
-        self.is_tree();
+        // For the proof: at most one stored path agrees.
+        self.reveal_tree();
         CacheData::peek(self, key, input)
     }
 

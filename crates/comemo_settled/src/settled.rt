@@ -75,11 +75,12 @@ impl<A: Asks, T> Settled<A, T> {
     }
 
     /// Makes the tree's invariant known to a proof. Does nothing at run time.
-    pub fn is_settled(&self)
+    pub fn reveal_runs(&self)
         ensures settled { IsSettled A.Call.eq A.Answer.eq A.asks self.now }
         ensures once { HasEachSetOnce A.Call.eq A.Answer.eq A.Key.eq self.now }
     {
-        self.tree.is_parted();
+        // For the proof: at most one stored path agrees.
+        self.tree.reveal_tree();
     }
 
     /// As [`CallTree::get`]. A set of pairs is found whichever order its path has.
@@ -112,7 +113,8 @@ impl<A: Asks, T> Settled<A, T> {
             FindsSet A.Call.eq A.Answer.eq (under A.Key.eq self.now key.now) pairs
             (option_copied found)) }
     {
-        self.tree.is_parted();
+        // For the proof: at most one stored path agrees.
+        self.tree.reveal_tree();
         self.tree.get(key, oracle)
     }
 
@@ -147,7 +149,8 @@ impl<A: Asks, T: Drop> Settled<A, T> {
             (HasSet A.Call.eq A.Answer.eq (under A.Key.eq self.old key) sequence.pairs)) }
         ensures err { OnErr result (self.new ≡ self.old) }
     {
-        sequence.has_distinct_calls();
+        // For the proof: the sequence has each call once.
+        sequence.reveal_distinct_calls();
         self.tree.insert(key, sequence, value)
     }
 
@@ -205,7 +208,8 @@ impl<A: Asks, T: Drop> Settled<A, T> {
             ops.items replies.items self.old self.new) }
         ensures err { OnErr result (self.new ≡ self.old) }
     {
-        self.is_settled();
+        // For the proof: each stored path is a run.
+        self.reveal_runs();
         let mut replies = Vec::with_capacity(alloc, ops.len())?;
         for op in ops {
             let reply = self.step(op);

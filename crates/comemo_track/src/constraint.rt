@@ -75,7 +75,7 @@ impl<C: Call, R> Constraint<C, R> {
     }
 
     /// Makes the recording's invariant known to a proof. Does nothing at run time.
-    pub fn has_reads_and_writes(&self)
+    pub fn reveal_reads_and_writes(&self)
         ensures reads { All (λ p. C.is_write p.0 ≡ false) self.now.pairs }
         ensures writes { All (λ c. C.is_write c ≡ true) self.now.writes }
     {
@@ -139,7 +139,8 @@ impl<C: Call, R: Drop> Constraint<C, R> {
         ensures ok { OnOk result (Took C.eq C.touches self.old self.new reads.pairs writes.items) }
         ensures err { OnErr result (Took C.eq C.touches self.old self.new [] []) }
     {
-        reads.has_distinct_calls();
+        // For the proof: the sequence has each call once.
+        reads.reveal_distinct_calls();
         let late = self.late || touch_some(&self.writes, &reads);
         self.writes.reserve(writes.len())?;
         self.reads.absorb(reads)?;

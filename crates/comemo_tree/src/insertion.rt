@@ -203,7 +203,8 @@ where
 {
     // Only the contract uses it.
     let _ = before;
-    sequence.has_distinct_calls();
+    // For the proof: the sequence has each call once.
+    sequence.reveal_distinct_calls();
     let Some((call, answer)) = sequence.next() else {
         leaves.insert_reserved(LeafNode {
             key,

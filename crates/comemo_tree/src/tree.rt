@@ -131,7 +131,7 @@ impl<K: Eq + Hash, C: Eq + Hash, R: Ord, T> CallTree<K, C, R, T> {
     }
 
     /// Makes the tree's invariant known to a proof. Does nothing at run time.
-    pub fn is_parted(&self)
+    pub fn reveal_tree(&self)
         ensures { IsTree C.eq R.eq K.eq self.now }
     {
         let _ = &self.starts;
@@ -495,7 +495,8 @@ fn walk<K: Eq + Hash, C: Eq + Hash + Drop, R: Ord + Drop, T>(
         (IsReason C.eq R.eq (under K.eq (contents inner.now leaves.now) key.now.value)
         sequence.old.pairs) }
 {
-    sequence.has_distinct_calls();
+    // For the proof: the sequence has each call once.
+    sequence.reveal_distinct_calls();
     let mut at = first;
     'walk: loop {
         let id = match at {

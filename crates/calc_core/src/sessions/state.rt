@@ -96,7 +96,8 @@ impl State {
             × Knows (remembered_of past (texts_in self.old) script.now result)
             self.new.evaluated }
     {
-        self.evaluated.is_settled();
+        // For the proof: each stored path is a run.
+        self.evaluated.reveal_runs();
         let view = self.files.track(self.alloc);
         let cache = &mut self.evaluated;
         match evaluate(

@@ -10,7 +10,7 @@ walk-init g c = record {
   bound = c.in-Some.ensures.some.0;
   walked = λ d. rw c.new-path.ensures.items (record { under = c.in-Some.ensures.some.1 d; deep = omega arith; front = tt; among = tt });
   left = rw c.new-path.ensures.items (sym (outside-nothing g.C.PartialEq.eq c.args.sequence.now.pairs));
-  distinct = rw c.new-path.ensures.items c.has_distinct_calls.ensures.distinct;
+  distinct = rw c.new-path.ensures.items c.reveal_distinct_calls.ensures.distinct;
 }
 
 pub returns-in_default-clause-ok : goal.returns-in_default-clause-ok
@@ -72,7 +72,7 @@ walk-preserved g c =
     record {
       bound = c.in-Some-next.ensures.some.0;
       walked = λ d. rw c.in_ok-push.ensures.items (Walked-more g.met.C.Eq.laws g.met.R.Eq.laws g.met.K.Eq.laws es c.requires.tree c.args.key.now s c.walk.at n e asked ps i.bound c.index-entries-at.is i.walked own len deep p is c.walk.sequence.pairs i.left c.in-Some-extract.answer c.in_ok-copy.copy some alike c.in-Some-next.next c.in-Some-next.ensures.some.0 c.in-Some-next.ensures.some.1 d);
-      left = rw c.in_ok-push.ensures.items (c.extract.ensures.pairs ∙ left_more g.met.C.Eq.laws g.met.R.Eq.laws g.met.K.Eq.laws es c.requires.tree c.args.key.now s c.walk.at n e asked ps i.bound c.index-entries-at.is i.walked own len deep p is c.walk.sequence.pairs i.left c.in-Some-extract.answer c.in_ok-copy.copy some alike c.has_distinct_calls.ensures.distinct);
+      left = rw c.in_ok-push.ensures.items (c.extract.ensures.pairs ∙ left_more g.met.C.Eq.laws g.met.R.Eq.laws g.met.K.Eq.laws es c.requires.tree c.args.key.now s c.walk.at n e asked ps i.bound c.index-entries-at.is i.walked own len deep p is c.walk.sequence.pairs i.left c.in-Some-extract.answer c.in_ok-copy.copy some alike c.reveal_distinct_calls.ensures.distinct);
       distinct = rw (c.in_ok-push.ensures.items, c.extract.ensures.pairs) (distinct_more g.met.C.Eq.laws g.met.R.Eq.laws g.met.K.Eq.laws es c.requires.tree c.args.key.now s c.walk.at n e asked ps i.bound c.index-entries-at.is i.walked own len deep p is c.walk.sequence.pairs i.left c.in-Some-extract.answer c.in_ok-copy.copy some alike i.distinct);
     }
 
@@ -128,7 +128,7 @@ returns-in-None-clause-left g c =
     let is : p ≡ get_or ps n p = get_or_same ps n c.index-stored-depth.result p deep in
     let some = c.in-Some-extract.ensures.answer in
     let alike = c.requires.clones_equal _ _ c.in_ok-copy.ensures.cases in
-    rw c.in_ok-push.ensures.items (c.extract.ensures.pairs ∙ left_more g.met.C.Eq.laws g.met.R.Eq.laws g.met.K.Eq.laws es c.requires.tree c.args.key.now s c.walk.at n e asked ps i.bound c.index-entries-at.is i.walked own len deep p is c.walk.sequence.pairs i.left c.in-Some-extract.answer c.in_ok-copy.copy some alike c.has_distinct_calls.ensures.distinct)
+    rw c.in_ok-push.ensures.items (c.extract.ensures.pairs ∙ left_more g.met.C.Eq.laws g.met.R.Eq.laws g.met.K.Eq.laws es c.requires.tree c.args.key.now s c.walk.at n e asked ps i.bound c.index-entries-at.is i.walked own len deep p is c.walk.sequence.pairs i.left c.in-Some-extract.answer c.in_ok-copy.copy some alike c.reveal_distinct_calls.ensures.distinct)
 
 pub returns-in-None-clause-distinct : goal.returns-in-None-clause-distinct
 returns-in-None-clause-distinct g c =

@@ -29,7 +29,7 @@ returns-clause-found g c =
     let own : IsTrue (g.In.Answer.PartialEq.eq (g.In.Input.answers f.0.now k.shown.now) r) = search rules in
     let next : did f.0.now f'.0.now [] = search rules in
     (joined g.met.In.Answer.Eq.laws (m call) (g.In.Input.answers f.0.now call) r (g.met.In.Input.keeps s f.0.now [] i call reads refl) (subst (λ x. IsTrue (g.In.Answer.PartialEq.eq (g.In.Input.answers f.0.now x) r)) k.shows own), g.met.In.Input.joins s f.0.now f'.0.now [] [] i next))
-    g.met.K.Eq.laws c.args.tree.now c.args.key.now (All-under g.K.PartialEq.eq c.args.tree.now c.args.key.now (λ e. All (λ p. g.In.Call.Call.is_write p.0 ≡ false) e.path) (λ k d l _. c.requires.reads k d l)) c.is_parted.ensures _ _ (g.met.In.Input.starts s) _ c.get.result c.get.ensures.asked
+    g.met.K.Eq.laws c.args.tree.now c.args.key.now (All-under g.K.PartialEq.eq c.args.tree.now c.args.key.now (λ e. All (λ p. g.In.Call.Call.is_write p.0 ≡ false) e.path) (λ k d l _. c.requires.reads k d l)) c.reveal_tree.ensures _ _ (g.met.In.Input.starts s) _ c.get.result c.get.ensures.asked
 
 pub returns-clause-noted : goal.returns-clause-noted
 returns-clause-noted g c =
@@ -59,4 +59,4 @@ returns-clause-err g c =
     let own : IsTrue (g.In.Answer.PartialEq.eq (g.In.Input.answers f.0.now k.shown.now) r) = search rules in
     let next : did f.0.now f'.0.now [] = search rules in
     (joined g.met.In.Answer.Eq.laws (m call) (g.In.Input.answers f.0.now call) r (g.met.In.Input.keeps s f.0.now [] i call reads refl) (subst (λ x. IsTrue (g.In.Answer.PartialEq.eq (g.In.Input.answers f.0.now x) r)) k.shows own), g.met.In.Input.joins s f.0.now f'.0.now [] [] i next))
-    g.met.K.Eq.laws c.args.tree.now c.args.key.now (All-under g.K.PartialEq.eq c.args.tree.now c.args.key.now (λ e. All (λ p. g.In.Call.Call.is_write p.0 ≡ false) e.path) (λ k d l _. c.requires.reads k d l)) c.is_parted.ensures _ _ (g.met.In.Input.starts s) c.get.result c.get.ensures.refused
+    g.met.K.Eq.laws c.args.tree.now c.args.key.now (All-under g.K.PartialEq.eq c.args.tree.now c.args.key.now (λ e. All (λ p. g.In.Call.Call.is_write p.0 ≡ false) e.path) (λ k d l _. c.requires.reads k d l)) c.reveal_tree.ensures _ _ (g.met.In.Input.starts s) c.get.result c.get.ensures.refused

@@ -19,7 +19,7 @@ grow-requires-clause-grows g c =
     let cut = c.in-Some.ensures.pairs in
     let begins = subst (λ xs. Begins c.args.inner.now c.args.leaves.now (length xs) put.0.first) cut put.1 in
     let first = begins ∙ ap Inner (sym c.insert_reserved-id.ensures.key) in
-    let f = first_inner g.met.K.Eq.laws c.requires.forest c.args.starts.now c.args.key.value put.0 c.requires.new put.2 c.insert_reserved-id.result _ first c.insert_reserved-id.ensures.was_vacant c.insert_reserved-id.ensures.updates c.new.ensures refl refl refl c.in-Some.answer c.next.new.self.pairs (rw cut at c.has_distinct_calls.ensures.distinct) in
+    let f = first_inner g.met.K.Eq.laws c.requires.forest c.args.starts.now c.args.key.value put.0 c.requires.new put.2 c.insert_reserved-id.result _ first c.insert_reserved-id.ensures.was_vacant c.insert_reserved-id.ensures.updates c.new.ensures refl refl refl c.in-Some.answer c.next.new.self.pairs (rw cut at c.reveal_distinct_calls.ensures.distinct) in
     f.0
 
 pub returns : goal.returns
@@ -28,5 +28,5 @@ returns g c =
     let cut = c.in-Some.ensures.pairs in
     let begins = subst (λ xs. Begins c.args.inner.now c.args.leaves.now (length xs) put.0.first) cut put.1 in
     let first = begins ∙ ap Inner (sym c.insert_reserved-id.ensures.key) in
-    let f = first_inner g.met.K.Eq.laws c.requires.forest c.args.starts.now c.args.key.value put.0 c.requires.new put.2 c.insert_reserved-id.result _ first c.insert_reserved-id.ensures.was_vacant c.insert_reserved-id.ensures.updates c.new.ensures refl refl refl c.in-Some.answer c.next.new.self.pairs (rw cut at c.has_distinct_calls.ensures.distinct) in
+    let f = first_inner g.met.K.Eq.laws c.requires.forest c.args.starts.now c.args.key.value put.0 c.requires.new put.2 c.insert_reserved-id.result _ first c.insert_reserved-id.ensures.was_vacant c.insert_reserved-id.ensures.updates c.new.ensures refl refl refl c.in-Some.answer c.next.new.self.pairs (rw cut at c.reveal_distinct_calls.ensures.distinct) in
     Grown-moved f.3 refl (sym cut) (c.in-Ok.ensures.grown _ [] f.1 f.2)

@@ -7,7 +7,7 @@ use Rattle.comemo_tree.proofs.tree.walk.Goals as goal
 
 pub walk-init : goal.walk-init
 walk-init g c = record {
-  led = ([], [], tt, (c.args.first, c.requires.start, refl), tt, sym (outside-nothing g.C.PartialEq.eq c.args.sequence.now.pairs), c.has_distinct_calls.ensures.distinct);
+  led = ([], [], tt, (c.args.first, c.requires.start, refl), tt, sym (outside-nothing g.C.PartialEq.eq c.args.sequence.now.pairs), c.reveal_distinct_calls.ensures.distinct);
 }
 
 pub returns-in-Leaf-clause-reason : goal.returns-in-Leaf-clause-reason
@@ -35,7 +35,7 @@ returns-in_default-get-clause-forks g c =
     let i = c.walk.invariant.led in
     let lead = rw c.in-Inner.is at i.3 in
     let node = c.index-node.result.now in
-    forks g.met.C.Eq.laws g.met.R.Eq.laws g.met.K.Eq.laws c.requires.forest c.args.key.now.value c.args.sequence.now.pairs i.0 i.1 i.2 i.4 c.in-Inner.id node lead c.index-node.ensures c.walk.sequence.pairs i.5 c.in-Some.answer c.in-Some.ensures.answer (sym c.get.ensures ∙ c.in_default-get.is) c.extract.new.self.pairs c.extract.ensures.pairs c.has_distinct_calls.ensures.distinct i.6
+    forks g.met.C.Eq.laws g.met.R.Eq.laws g.met.K.Eq.laws c.requires.forest c.args.key.now.value c.args.sequence.now.pairs i.0 i.1 i.2 i.4 c.in-Inner.id node lead c.index-node.ensures c.walk.sequence.pairs i.5 c.in-Some.answer c.in-Some.ensures.answer (sym c.get.ensures ∙ c.in_default-get.is) c.extract.new.self.pairs c.extract.ensures.pairs c.reveal_distinct_calls.ensures.distinct i.6
 
 pub walk-smaller : goal.walk-smaller
 walk-smaller g c =
@@ -58,7 +58,7 @@ walk-preserved g c =
         s.1,
         s.2,
         among' g.met.C.Eq.laws g.met.R.Eq.laws g.met.K.Eq.laws c.requires.forest c.args.key.now.value c.args.sequence.now.pairs i.0 i.1 i.2 i.4 c.in-Inner.id node lead c.index-node.ensures c.walk.sequence.pairs i.5 answer c.in-Some.ensures.answer,
-        c.extract.ensures.pairs ∙ left' g.met.C.Eq.laws g.met.R.Eq.laws g.met.K.Eq.laws c.requires.forest c.args.key.now.value c.args.sequence.now.pairs i.0 i.1 i.2 i.4 c.in-Inner.id node lead c.index-node.ensures c.walk.sequence.pairs i.5 answer c.in-Some.ensures.answer c.has_distinct_calls.ensures.distinct,
+        c.extract.ensures.pairs ∙ left' g.met.C.Eq.laws g.met.R.Eq.laws g.met.K.Eq.laws c.requires.forest c.args.key.now.value c.args.sequence.now.pairs i.0 i.1 i.2 i.4 c.in-Inner.id node lead c.index-node.ensures c.walk.sequence.pairs i.5 answer c.in-Some.ensures.answer c.reveal_distinct_calls.ensures.distinct,
         subst (λ xs. HasDistinctCalls g.C.PartialEq.eq ((i.0 ++ (node.call, answer) ∷ []) ++ xs)) (sym c.extract.ensures.pairs) (distinct' g.met.C.Eq.laws g.met.R.Eq.laws g.met.K.Eq.laws c.requires.forest c.args.key.now.value c.args.sequence.now.pairs i.0 i.1 i.2 i.4 c.in-Inner.id node lead c.index-node.ensures c.walk.sequence.pairs i.5 answer c.in-Some.ensures.answer i.6),
       );
     }

@@ -16,6 +16,6 @@ returns-clause-agreeing g c = rw c.self.view_is at c.get.ensures.agreeing
 
 pub returns-clause-found : goal.returns-clause-found
 returns-clause-found g c = λ m respects computed pairs has agrees.
-    let tree = rw c.self.view_is at c.is_parted.ensures in
+    let tree = rw c.self.view_is at c.reveal_tree.ensures in
     let agreeing = rw c.self.view_is at c.get.ensures.agreeing in
     get-found g.met.A.Call.Eq.laws g.met.A.Answer.Eq.laws g.met.A.Key.Eq.laws c.args.self.now tree m respects c.args.key.now pairs agrees has option_copied c.get.result (agreeing m respects computed)

@@ -14,7 +14,7 @@ loop-op-init g c =
     record {
       done = Completes-first g.A.Call.PartialEq.eq g.A.Answer.PartialEq.eq g.A.Key.PartialEq.eq g.P.Keep.keeps c.args.ops.items _ c.args.self.now c.in_ok-replies.replies.items c.in_ok-replies.ensures.items items.0;
       runs = rw items.0 c.requires;
-      settled = c.is_settled.ensures.settled;
+      settled = c.reveal_runs.ensures.settled;
       count = omega (arith, items.1, ap length items.0, c.args.ops.ok.0);
       room = omega (arith, items.1, c.in_ok-replies.ensures.len, c.in_ok-replies.ensures.exact, c.len.ensures);
     }

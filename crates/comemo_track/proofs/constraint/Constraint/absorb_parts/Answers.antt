@@ -16,7 +16,7 @@ invariant_of-self-2 g c =
 pub returns-clause-ok : goal.returns-clause-ok
 returns-clause-ok g c =
     rw (← c.self.view_is) (record {
-      pairs = pairs-absorbed g.met.C.Eq.laws g.C.Call.is_write c.self.inside.reads c.args.reads c.absorb.new.self c.self.invariant c.has_distinct_calls.ensures.distinct c.in_ok-absorb.ensures.pairs;
+      pairs = pairs-absorbed g.met.C.Eq.laws g.C.Call.is_write c.self.inside.reads c.args.reads c.absorb.new.self c.self.invariant c.reveal_distinct_calls.ensures.distinct c.in_ok-absorb.ensures.pairs;
       writes = c.in-Ok.ensures.items ∙ ap (λ x. x ++ c.args.writes.items) c.reserve.ensures.items;
       whole = refl;
       late =

@@ -30,7 +30,7 @@ returns-in-Ok-clause-recalls c = λ past knows.
     let replied = rw c.track-view.ensures at c.in-Ok.ensures.reply in
     let (comes_to, low) = rw c.track-view.ensures at c.in-Ok.ensures.outcome in
     let grows = call_grows files (rw c.track-view.ensures at c.in-Ok.ensures.led) in
-    (recalls_reply files past es c.is_settled.ensures knows script replied comes_to c.eq.result c.is_kept.result (λ e. search (rules, e, c.eq.ensures)), knows_reply files past es _ grows knows script replied comes_to low c.eq.result c.is_kept.result c.is_kept.ensures)
+    (recalls_reply files past es c.reveal_runs.ensures knows script replied comes_to c.eq.result c.is_kept.result (λ e. search (rules, e, c.eq.ensures)), knows_reply files past es _ grows knows script replied comes_to low c.eq.result c.is_kept.result c.is_kept.ensures)
 
 pub returns-in-Err-TooDeep-clause-recalls : goal.returns-in-Err-TooDeep-clause-recalls
 returns-in-Err-TooDeep-clause-recalls c = λ past knows.
@@ -39,7 +39,7 @@ returns-in-Err-TooDeep-clause-recalls c = λ past knows.
     let script = c.args.script.now in
     let exactly = rw c.track-view.ensures at (rw c.in-Err-TooDeep.field-0-is at c.in-Err-TooDeep.ensures.too_deep) in
     let grows = failed_call_grows files (rw c.track-view.ensures at c.in-Err-TooDeep.ensures.failed) in
-    (recalls_too_deep files past es c.is_settled.ensures knows script ((exactly (λ e. absurd (let never : ⊥ = cc in never))).0 refl), knows_on past es _ grows knows)
+    (recalls_too_deep files past es c.reveal_runs.ensures knows script ((exactly (λ e. absurd (let never : ⊥ = cc in never))).0 refl), knows_on past es _ grows knows)
 
 pub returns-in-Err-Memory-clause-recalls : goal.returns-in-Err-Memory-clause-recalls
 returns-in-Err-Memory-clause-recalls c = λ past knows.

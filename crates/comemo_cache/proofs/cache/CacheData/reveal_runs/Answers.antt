@@ -1,6 +1,6 @@
 use Rattle.comemo_cache.specs.Meaning.{Meaning}
 use Rattle.comemo_cache.proofs.Named.{settled_from_legal}
-use Rattle.comemo_cache.proofs.cache.CacheData.is_settled.Goals as goal
+use Rattle.comemo_cache.proofs.cache.CacheData.reveal_runs.Goals as goal
 
 pub returns : goal.returns
 returns g c =
