@@ -30,7 +30,7 @@ pub use Rattle.comemo_tree.specs.Change
 pub use Rattle.comemo_base.specs.Runs
 pub use Rattle.comemo_base.specs.Settling
 pub use Rattle.comemo_base.specs.Sets
-pub use Rattle.comemo_settled.specs.StepLists
+pub use Rattle.comemo_tree.specs.StepLists
 pub use Rattle.comemo_base.specs.Answers
 pub use Rattle.comemo_base.specs.Tree
 pub use Rattle.comemo_base.specs.Lookup

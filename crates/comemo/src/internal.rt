@@ -11,7 +11,7 @@ pub use comemo_cache::{
     Evict, Evictor, Found, Meant, Peeked, Reads, Shared, Step, StepReply, evictors,
     register_evictor,
 };
-pub use comemo_settled::{Asks, Keep, Settled, TreeOp, TreeReply};
+pub use comemo_tree::{Asks, Keep, Settled, TreeOp, TreeReply};
 pub use comemo_track::{
     Accelerated, Breaking, CallMap, First, Hashed, Input, Keyed, KeyedMut, MappedSink, Multi,
     Second, TrackedMut, TrackedMutWith, TrackedWith, Written,

@@ -2,6 +2,8 @@
 #![tactic(auto)]
 
 #[cfg(test)]
+mod cells;
+#[cfg(test)]
 mod examples;
 #[cfg(test)]
 mod explained;
@@ -9,6 +11,8 @@ mod explained;
 mod guide;
 #[cfg(test)]
 mod named;
+#[cfg(test)]
+mod numbers;
 #[cfg(test)]
 mod recursion;
 #[cfg(test)]

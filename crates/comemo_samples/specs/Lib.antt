@@ -3,3 +3,5 @@ pub mod Cells
 pub mod Contexts
 pub mod Towns
 pub mod Writers
+pub mod LetterCalls
+pub mod PlaceCalls

@@ -33,8 +33,11 @@ pub mod cells;
 pub mod contexts;
 pub mod counter;
 pub mod emitter;
+pub mod letters;
 pub mod log;
 pub mod notebook;
+pub mod places;
+pub mod sequences;
 pub mod town;
 
 pub use cells::{Cells, Get};

@@ -18,3 +18,5 @@ pub mod Planted
 pub mod Chain
 pub mod Planting
 pub mod Insertions
+pub mod Left
+pub mod StepLists

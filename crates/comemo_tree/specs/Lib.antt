@@ -7,3 +7,4 @@ pub mod Reached
 pub mod Shape
 pub mod Values
 pub mod Growth
+pub mod StepLists

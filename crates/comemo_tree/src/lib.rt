@@ -31,9 +31,13 @@ mod ghost_key;
 mod insertion;
 mod print;
 mod retention;
+pub mod settled;
 mod shape;
+pub mod steps;
 pub mod tree;
 pub mod values;
 
+pub use settled::{Asks, Settled};
+pub use steps::{Keep, TreeOp, TreeReply};
 pub use tree::CallTree;
 pub use values::Values;

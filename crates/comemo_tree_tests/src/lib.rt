@@ -3,11 +3,23 @@
 #![tactic(auto)]
 
 #[cfg(test)]
+mod comparison;
+#[cfg(test)]
+mod counted;
+#[cfg(test)]
 mod examples;
+#[cfg(test)]
+mod numbers;
 #[cfg(test)]
 mod plain;
 #[cfg(test)]
 mod printed;
+#[cfg(test)]
+mod random;
+#[cfg(test)]
+mod rows;
+#[cfg(test)]
+mod sets;
 #[cfg(test)]
 mod steps;
 #[cfg(test)]

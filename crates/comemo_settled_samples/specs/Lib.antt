@@ -1,2 +1,0 @@
-pub mod LetterCalls
-pub mod PlaceCalls

@@ -1,6 +1,0 @@
-use Rattle.comemo_settled_tests.specs.CountedCalls.{IsDraft}
-use Rattle.comemo_settled_tests.proofs.counted.begin.Given as goal
-
--- each call so far is asked whatever the answers
-abbrev pub invariant-loop : goal.invariant-loop
-invariant-loop l = IsDraft l.key l.run
