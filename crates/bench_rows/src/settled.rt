@@ -2,10 +2,10 @@
 
 use crate::broken::Broken;
 use comemo::internal::InsertError;
-use comemo_tree::{Settled, TreeReply};
 use comemo_samples::letters::Letter::{self, A, B, C};
 use comemo_samples::letters::{Letters, insert};
 use comemo_samples::places::{PlaceCall, Places, steps_below};
+use comemo_tree::{Settled, TreeReply};
 use std::alloc::{AllocError, Global};
 
 type Tree = Settled<Letters, char>;

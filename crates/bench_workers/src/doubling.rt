@@ -21,7 +21,7 @@ pub fn doubled<H: Hold<MemoOf<Double>>, G: Gate>(
 {
     let nothing = ();
     let mut input = Keyed {
-        key: number,
+        key: &number,
         view: nothing.track(alloc),
     };
     let mut sink = Top::new();

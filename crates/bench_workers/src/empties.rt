@@ -42,7 +42,7 @@ fn empty_by<H: Hold<Empty>, G: Gate>(
         styles: 40,
     };
     let mut input = Keyed {
-        key: (),
+        key: &(),
         view: context.track(alloc),
     };
     let mut sink = Top::new();

@@ -48,7 +48,7 @@ fn whole_by<H: Hold<Whole>, G: Gate>(
         styles: 40,
     };
     let mut input = Keyed {
-        key: (),
+        key: &(),
         view: context.track(alloc),
     };
     let mut sink = Top::new();

@@ -4,10 +4,10 @@ ghost use Rattle.comemo_cache.specs.Meaning.{invocation};
 ghost use Rattle.comemo_cache.specs.Explaining.{Explains};
 ghost use Rattle.comemo_cache.specs.Held.{Held, Stays};
 
-use crate::lent::LentKey;
 use comemo_cache::cache::{Meant, Memo};
 use comemo_cache::explain::Explanation;
 use comemo_cache::hold::Hold;
+use comemo_track::input::Keyed;
 use comemo_track::track::Track;
 use std::alloc::{AllocError, Global};
 
@@ -23,7 +23,7 @@ pub fn explain<M: Memo<Call = T::Call, Answer = T::Answer>, H: Hold<M>, T: Track
         Explains ⟦<M as Meant>⟧.meaning es (invocation key.now (T.answers of.now) true) said)) }
     ensures stays { Stays (H.entries cache.old) (H.entries cache.new) }
 {
-    let mut input = LentKey {
+    let mut input = Keyed {
         key,
         view: of.track(alloc),
     };

@@ -10,11 +10,11 @@ ghost use Rattle.comemo_track.specs.Recording.{Recording, Took, Spoiled};
 ghost use Rattle.comemo_track.specs.Sending.{Asks, BreaksOff};
 ghost use Rattle.comemo.specs.Function.{Recorded, Fits, Tells, ReadsAlone, SettlesRun, writing};
 
-use crate::lent::LentKey;
 use crate::pending::{Begun, Fault, How, Pending, Reply, look_up};
 use comemo_cache::cache::{Meant, Memo};
 use comemo_cache::hold::Hold;
 use comemo_track::constraint::Constraint;
+use comemo_track::input::Keyed;
 use comemo_track::track::{Breaking, Call, Sink, Top, Track, Tracked};
 use std::alloc::Global;
 use std::hash::Hash;
@@ -353,7 +353,7 @@ where
         × BrokeOff T.Answer.eq (T.answers of.now)
         (⟦<S as Breaking>⟧.breaks_off sink.old sink.new)) }
 {
-    let mut input = LentKey {
+    let mut input = Keyed {
         key: &key,
         view: of.fork(alloc),
     };

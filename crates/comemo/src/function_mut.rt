@@ -16,11 +16,11 @@ ghost use Rattle.comemo_track.specs.Writing.{Done};
 ghost use Rattle.comemo_track.specs.Sending.{Asks, BreaksOff, SpoiledAfter, TookAs};
 
 use crate::function::{Function, FunctionOf, MemoOf, Told, memoized_view};
-use crate::lent::LentKeyMut;
 use crate::pending::{Begun, Fault, How, Reply, begin};
 use comemo_cache::cache::{Meant, Memo};
 use comemo_cache::hold::Hold;
 use comemo_track::constraint::Constraint;
+use comemo_track::input::KeyedMut;
 use comemo_track::track::{Breaking, Call, Sink, Top, Track, Written};
 use std::alloc::Global;
 
@@ -485,12 +485,12 @@ where
     ensures err { OnErr result (⟦<M as AnsweringMut<H, T, S>>⟧.breaks
         enabled key of.old of.new cache.old cache.new sink.old sink.new) }
 {
-    let mut input = LentKeyMut {
+    let mut input = KeyedMut {
         key: &key,
         value: of,
     };
     let begun = begin(alloc, cache, &mut input, sink, enabled);
-    let LentKeyMut { key: _, value } = input;
+    let KeyedMut { key: _, value } = input;
     match begun {
         Ok(Begun::Hit(output)) => {
             return Ok(Reply {

@@ -11,9 +11,8 @@ pub use comemo_cache::{
     Evict, Evictor, Found, Meant, Peeked, Reads, Shared, Step, StepReply, evictors,
     register_evictor,
 };
-pub use comemo_tree::{Asks, Keep, Settled, TreeOp, TreeReply};
 pub use comemo_track::{
     Accelerated, Breaking, CallMap, First, Hashed, Input, Keyed, KeyedMut, MappedSink, Multi,
     Second, TrackedMut, TrackedMutWith, TrackedWith, Written,
 };
-pub use comemo_tree::CallTree;
+pub use comemo_tree::{Asks, CallTree, Keep, Settled, TreeOp, TreeReply};

@@ -36,7 +36,6 @@ mod explanation;
 mod function;
 mod function_mut;
 pub mod internal;
-mod lent;
 mod parts;
 mod parts_mut;
 mod parts_of_both;

@@ -7,10 +7,10 @@ ghost use Rattle.comemo.specs.Function.{ReadsAlone, WritesNone, writing};
 ghost use Rattle.comemo.specs.Recursive.{TellsOwn, TellsFrom, OnCallBegun, Starts, FinishedAs};
 
 use crate::function::{Function, FunctionOf, MemoOf, Recorder, Told};
-use crate::lent::LentKey;
 use crate::pending::{Begun, Fault, How, Pending, Reply, look_up};
 use comemo_cache::cache::{Meant, Memo};
 use comemo_cache::hold::Hold;
+use comemo_track::input::Keyed;
 use comemo_track::track::{Call, Track};
 use std::hash::Hash;
 
@@ -74,7 +74,7 @@ impl<'a, T: Track> Recorder<'a, T> {
             × ⟦<T as Told>⟧.broke_off self.old self.new) }
     {
         let alloc = self.alloc;
-        let mut input = LentKey {
+        let mut input = Keyed {
             key,
             view: self.view.fork(alloc),
         };

@@ -14,11 +14,11 @@ ghost use Rattle.comemo_track.specs.Recording.{Recording, Took, Spoiled, MarkedL
 ghost use Rattle.comemo_track.specs.Sending.{BreaksOff, TookAs};
 
 use crate::function_mut::{RecorderMut, Records, Writes};
-use crate::lent::LentKeyMut;
 use crate::pending::{Begun, Fault, How, Pending, Reply, look_up};
 use comemo_cache::cache::{Meant, Memo};
 use comemo_cache::hold::Hold;
 use comemo_track::constraint::Constraint;
+use comemo_track::input::KeyedMut;
 use comemo_track::track::{Call, Track};
 use std::mem;
 
@@ -132,7 +132,7 @@ impl<'a, 'b, T: Track> RecorderMut<'a, 'b, T> {
             key.now cache.old cache.new self.old self.new) }
     {
         let alloc = self.alloc;
-        let mut input = LentKeyMut {
+        let mut input = KeyedMut {
             key,
             value: self.value,
         };

@@ -39,7 +39,7 @@ fn begin_any(
     outer: &mut Recording,
 ) -> Result<Begun<u64, Pending<AnyMemo>>, Fault> {
     let mut input = Keyed {
-        key: 7,
+        key: &7,
         view: context.track(alloc),
     };
     begin(alloc, cache, &mut input, outer, true)

@@ -147,7 +147,7 @@ fn call(
 ) -> Result<Reply<u64>, Fault> {
     let echo = Echo;
     let mut input = Keyed {
-        key: 7,
+        key: &7,
         view: echo.track(alloc),
     };
     match begin(alloc, cache, &mut input, sink, true) {
@@ -193,7 +193,7 @@ fn age_of(alloc: Global, left: &Left, cache: &CacheData<AnyEcho>) -> Option<usiz
     left.store(99, Ordering::SeqCst);
     let echo = Echo;
     let mut input = Keyed {
-        key: 7,
+        key: &7,
         view: echo.track(alloc),
     };
     match cache.look(&7, &mut input) {
@@ -301,7 +301,7 @@ fn begin_run(
 ) -> Option<Pending<AnyEcho>> {
     let echo = Echo;
     let mut input = Keyed {
-        key: 7,
+        key: &7,
         view: echo.track(alloc),
     };
     match begin(alloc, cache, &mut input, sink, true) {

@@ -75,31 +75,31 @@ pub trait Input {
         → did s t W → IsTrue (Self.Key.eq (key_of s) (key_of t)) };
 }
 
-/// A key joined with a view: the input of a function with one untracked and one tracked argument.
+/// A borrowed key joined with a view: the input of a function with one untracked and one tracked argument.
 ///
 /// Its calls are the view's, so unlike a call of `Multi` they don't say which part they are for.
 #[derive(Drop)]
-pub struct Keyed<'a, K: Clone + Eq + Hash, T> {
+pub struct Keyed<'a, 'b, K: Clone + Eq + Hash, T> {
     /// The untracked argument.
-    pub key: K,
+    pub key: &'b K,
     /// A view of the tracked argument.
     pub view: Tracked<'a, T>,
     // a clone of a key is equal
     pub ghost clones: { (x y : K) → K.is_clone x y → IsTrue (K.eq x y) },
 }
 
-impl<'a, K: Clone + Eq + Hash, T: Track> Input for Keyed<'a, K, T> {
+impl<'a, 'b, K: Clone + Eq + Hash, T: Track> Input for Keyed<'a, 'b, K, T> {
     type Call = T::Call;
 
     type Key = K;
 
     type Answer = T::Answer;
 
-    ghost key_of = { λ s. s.key };
+    ghost key_of = { λ s. s.key.now };
 
     ghost answers = { λ s. T.answers s.view };
 
-    ghost did = { λ s t _. (t.key ≡ s.key) × (t.view ≡ s.view) };
+    ghost did = { λ s t _. (t.key.now ≡ s.key.now) × (t.view ≡ s.view) };
 
     ghost alike = { λ s. T.alike s.view };
 
@@ -126,31 +126,31 @@ impl<'a, K: Clone + Eq + Hash, T: Track> Input for Keyed<'a, K, T> {
     }
 }
 
-/// A key joined with a borrowed tracked value: the input of a function of an untracked argument, and one that it reads
-/// and writes. Its calls are the value's.
+/// A borrowed key joined with a borrowed tracked value: the input of a function of an untracked argument, and one that
+/// it reads and writes. Its calls are the value's.
 #[derive(Drop)]
-pub struct KeyedMut<'a, K: Clone + Eq + Hash, T> {
+pub struct KeyedMut<'a, 'b, K: Clone + Eq + Hash, T> {
     /// The untracked argument.
-    pub key: K,
+    pub key: &'b K,
     /// The tracked argument.
     pub value: &'a mut T,
     // a clone of a key is equal
     pub ghost clones: { (x y : K) → K.is_clone x y → IsTrue (K.eq x y) },
 }
 
-impl<'a, K: Clone + Eq + Hash, T: Track> Input for KeyedMut<'a, K, T> {
+impl<'a, 'b, K: Clone + Eq + Hash, T: Track> Input for KeyedMut<'a, 'b, K, T> {
     type Call = T::Call;
 
     type Key = K;
 
     type Answer = T::Answer;
 
-    ghost key_of = { λ s. s.key };
+    ghost key_of = { λ s. s.key.now };
 
     ghost answers = { λ s. T.answers s.value.now };
 
     ghost did = { λ s t W. ⟦<T as Written>⟧.did s.value.now t.value.now W
-        × (t.value.ghost_name ≡ s.value.ghost_name) × (t.key ≡ s.key) };
+        × (t.value.ghost_name ≡ s.value.ghost_name) × (t.key.now ≡ s.key.now) };
 
     ghost alike = { λ s. T.alike s.value.now };
 

@@ -11,9 +11,9 @@ ghost use Rattle.comemo_base.specs.Runs.{AsksLaws, IsRun, IsSettled, IsRunReason
 ghost use Rattle.comemo_base.specs.Sets.{HasSet, FindsSet, HasEachSetOnce, AddsSet};
 ghost use Rattle.comemo_tree.specs.StepLists.{InsertsRun, IsStep, AreSteps, KeepsSets, StoresAllSets};
 
+use crate::CallTree;
 use crate::steps::{Keep, TreeOp, TreeReply};
 use comemo_base::{CallSequence, InsertError};
-use crate::CallTree;
 use std::alloc::{AllocError, Global};
 use std::hash::Hash;
 use std::marker::{Model, PhantomData};

@@ -1,7 +1,7 @@
 //! The orders of a run.
 use comemo_base::InsertError;
-use comemo_tree::Settled;
 use comemo_samples::letters::{Letters, insert, run_of};
+use comemo_tree::Settled;
 use std::alloc::Global;
 
 /// Whether an insertion of the run with these answers, in one of its orders, has this result.
