@@ -104,15 +104,10 @@ where
     In: Input<Call = Self::Call, Key = Self::Key, Answer = Self::Answer>,
     S: Sink<Call = Self::Call, Answer = Self::Answer>,
 {
-    ghost use Rattle.comemo.specs.Begin.{PendingRun};
     ghost use Rattle.comemo.specs.declared.pending.Fault.{Fault};
 
     // a hit returned this output and touched its entry
     ghost hits: { Bool → H → H → In → In → S → S → Self.Out → Type 0 };
-
-    // nothing was done, and this run began
-    ghost begins: { Bool → H → H → In → In → S → S
-        → PendingRun Self.Key Self.Call Self.Answer → Type 0 };
 
     // nothing was done, and a run is to be done under this key
     ghost has_to_run: { Bool → H → H → In → In → S → S → Self.Key → Type 0 };
@@ -133,10 +128,6 @@ where
     ghost hits = { λ enabled h h' i j s t output. BeganByHit ⟦<M as Meant>⟧.meaning
         (⟦<In as Invoked>⟧.invoked i enabled) (H.entries h) (In.did i j) (S.took s t)
         output (H.entries h') };
-
-    ghost begins = { λ enabled h h' i j s t pending. Held (H.entries h) (λ es.
-        IsRun ⟦<M as Meant>⟧.meaning es (⟦<In as Invoked>⟧.invoked i enabled) pending)
-        × In.did i j [] × (t ≡ s) × Stays (H.entries h) (H.entries h') };
 
     ghost has_to_run = { λ enabled h h' i j s t own. Held (H.entries h) (λ es.
         HasToRun ⟦<M as Meant>⟧.meaning es (⟦<In as Invoked>⟧.invoked i enabled) own)
@@ -787,13 +778,19 @@ pub fn begin<M: Memo, H: Hold<M>, In, S>(
 where
     In: Input<Call = M::Call, Key = M::Key, Answer = M::Answer>,
     S: Sink<Call = M::Call, Answer = M::Answer>,
-    ensures hit { IfOk result (λ b. OnBegun b (⟦<M as Calling<H, In, S>>⟧.hits
-        enabled cache.old cache.new input.old input.new sink.old sink.new) (λ _. ⊤)) }
-    ensures run { IfOk result (λ b. OnBegun b (λ _. ⊤) (⟦<M as Calling<H, In, S>>⟧.begins
-        enabled cache.old cache.new input.old input.new sink.old sink.new)) }
+    ensures hit { IfOk result (λ b. OnBegun b (λ output. BeganByHit ⟦<M as Meant>⟧.meaning
+        (⟦<In as Invoked>⟧.invoked input.old enabled) (H.entries cache.old)
+        (In.did input.old input.new) (S.took sink.old sink.new) output (H.entries cache.new))
+        (λ _. ⊤)) }
+    ensures run { IfOk result (λ b. OnBegun b (λ _. ⊤) (λ run. Held (H.entries cache.old) (λ es.
+        IsRun ⟦<M as Meant>⟧.meaning es (⟦<In as Invoked>⟧.invoked input.old enabled) run)
+        × In.did input.old input.new [] × (sink.new ≡ sink.old)
+        × Stays (H.entries cache.old) (H.entries cache.new))) }
     ensures reached { Reaches In.did input.old input.new }
-    ensures err { IfErr result (⟦<M as Calling<H, In, S>>⟧.fails
-        enabled cache.old cache.new input.old input.new sink.old sink.new) }
+    ensures err { IfErr result (λ fault. FailedToBegin ⟦<M as Meant>⟧.meaning
+        (⟦<In as Invoked>⟧.invoked input.old enabled) (H.entries cache.old)
+        (In.did input.old input.new) (⟦<S as Breaking>⟧.breaks_off sink.old sink.new)
+        (⟦<S as Breaking>⟧.spoiled_after sink.old sink.new) fault (H.entries cache.new)) }
 {
     // A hit returns at once: as the value of the match it would be moved with the room of a `Pending`.
     match look_up(alloc, cache, input, sink, enabled) {
