@@ -46,7 +46,7 @@ mod recursive_mut;
 
 pub use closure::memoize;
 pub use comemo_base::{Prehashed, hash};
-pub use comemo_cache::{Cache, CacheData, Caches, Explanation, Hold, Memo};
+pub use comemo_cache::{Cache, CacheData, Caches, Contents, Explanation, Hold, Memo};
 pub use comemo_track::{
     Both, BothMut, Call, Constraint, MultiAnswer, MultiCall, ReadAndWrite, Sink, Top, Track,
     Tracked,

@@ -10,3 +10,5 @@ pub mod Aging
 pub mod Stepping
 pub mod Named
 pub mod Peeking
+pub mod Tallying
+pub mod Sums

@@ -1,6 +1,7 @@
 pub mod Meaning
 pub mod Cache
 pub mod Explaining
+pub mod Contents
 pub mod Storing
 pub mod Held
 pub mod Found

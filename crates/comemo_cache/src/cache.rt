@@ -72,7 +72,7 @@ impl<M: Memo> Meant for M {
 pub(crate) struct KeptRun<M: Memo> {
     output: M::Out,
     writes: Vec<M::Call>,
-    age: usize,
+    pub(crate) age: usize,
 }
 
 impl<M: Memo> Model for KeptRun<M> {

@@ -1,7 +1,8 @@
 //! What gives a call access to a cache: the cache itself, or a share of one that threads share.
 ghost use Rattle.std.specs.Prelude.{◌≡◌, [], Option, Some, true, false, IfOk, IfErr, OnOk, OnErr, IfSome, MatchOption, List};
 ghost use Rattle.std.specs.List.{All};
-ghost use Rattle.comemo_base.specs.Lookup.{under};
+ghost use Rattle.comemo_base.specs.Answers.{Agrees};
+ghost use Rattle.comemo_base.specs.Lookup.{under, IsRefused};
 ghost use Rattle.comemo_base.specs.Insertion.{IsReason};
 ghost use Rattle.comemo_base.specs.Tree.{IsTree};
 ghost use Rattle.comemo_base.specs.declared.insertion.InsertError.TheVariants.{MissingCall};
@@ -106,7 +107,11 @@ pub trait Hold<M: Memo> {
         ensures stays { Stays (entries self.old) (entries self.new) }
         ensures explains { IfOk result (λ said. Held (entries self.old) (λ es.
             Explains ⟦<M as Meant>⟧.meaning es
-            (invocation key.now (In.answers input.old) true) said)) };
+            (invocation key.now (In.answers input.old) true) said)) }
+        ensures err { OnErr result (Held (entries self.old) (λ es.
+            (asked : List (M.Call × M.Answer)) × (next : M.Call)
+            × Agrees M.Answer.eq (In.answers input.old) asked
+            × IsRefused M.Call.eq M.Answer.eq (under M.Key.eq es key.now) asked next)) };
 
     /// As `CacheData::touch`.
     fn touch(&mut self, key: &M::Key, answers: &[M::Answer])

@@ -7,6 +7,7 @@
 #![tactic(auto)]
 
 pub mod cache;
+pub mod contents;
 pub mod eviction;
 pub mod evictors;
 pub mod explain;
@@ -15,6 +16,7 @@ pub mod shared;
 pub mod steps;
 
 pub use cache::{CacheData, Found, Meant, Memo, Peeked};
+pub use contents::Contents;
 pub use eviction::{Caches, Evict, Evictor};
 pub use evictors::register_evictor;
 pub use explain::Explanation;

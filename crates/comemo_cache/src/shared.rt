@@ -1,6 +1,6 @@
 //! One cache for many threads: locks around the entries, and the access that calls have. Only storing and look-ups
 //! allocate.
-ghost use Rattle.std.specs.Prelude.{◌≡◌, [], Option, None, Some, true, false, IfErr, IfSome, OnOk, OnErr};
+ghost use Rattle.std.specs.Prelude.{◌≡◌, ◌≤◌, ◌-◌, ◌^◌, min, sum, [], Option, None, Some, true, false, IfErr, IfSome, OnOk, OnErr};
 ghost use Rattle.std.specs.Option.{unwrap_or};
 ghost use Rattle.std.specs.Sync.RwLock.{write_guard_value};
 ghost use Rattle.std.specs.List.{All};
@@ -13,6 +13,7 @@ ghost use Rattle.comemo_cache.specs.Storing.{Stores};
 ghost use Rattle.comemo_cache.specs.Held.{ChangesBehind, Held, Leads, Stays};
 
 use crate::cache::{CacheData, Found, Meant, Memo, Peeked};
+use crate::contents::Contents;
 use crate::explain::Explanation;
 use crate::hold::{Hold, Reads};
 use comemo_base::{CallSequence, InsertError};
@@ -260,6 +261,23 @@ impl<M: Memo> Cache<M> {
     /// call comes before or after it, in every part.
     pub fn evict<R: Wait>(&self, rt: &R, max_age: usize) {
         evict_parts(rt, &self.parts, max_age);
+    }
+
+    /// What the cache holds, summed over its parts. A number that doesn't fit is the greatest `usize`.
+    ///
+    /// Each part is locked in turn: other threads may change the parts that were counted and those that are left.
+    pub fn contents<R: Wait>(&self, rt: &R) -> Contents
+        ensures sum { result.entries ≡ min (sum result.ages) (2 ^ 64 - 1) }
+        ensures few { result.keys ≤ result.entries }
+    {
+        let mut held = Contents::nothing();
+        for part in &self.parts {
+            let way = part[0].way.read(rt);
+            if let Some(data) = &way.data {
+                held = held.plus(data.contents());
+            }
+        }
+        held
     }
 
     /// The part that has the entries under a key. The key is hashed here and again by the part's map, which ignores the

@@ -9,6 +9,8 @@ mod again;
 #[cfg(test)]
 mod closures;
 #[cfg(test)]
+mod contents;
+#[cfg(test)]
 mod examples;
 #[cfg(test)]
 mod faults;

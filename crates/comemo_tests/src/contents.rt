@@ -1,0 +1,145 @@
+//! What caches hold, in numbers: entries of several keys and ages, after evictions, also of a cache behind locks.
+ghost use Rattle.std.specs.Prelude.{◌≡◌};
+ghost use Rattle.std.proofs.Common.{rules};
+
+use comemo::{Cache, CacheData, Contents, Fault, Function, Hold, MemoOf, Recorder, Run, memoized};
+use comemo_samples::{Town, TownCall};
+use std::alloc::Global;
+use std::test::Fail;
+
+/// How warm a town is, for a reader who has a number.
+pub struct WarmthFor;
+
+impl Function for WarmthFor {
+    type Key = u64;
+
+    type Of = Town;
+
+    type Out = u64;
+
+    ghost use Rattle.comemo_samples.specs.declared.town.TownCall.TheVariants.{Degrees};
+
+    ghost means = { λ _ m out. out ≡ m Degrees };
+
+    ghost laws = { Prim.search rules };
+}
+
+impl Run for WarmthFor {
+    type Needs = ();
+
+    fn run(_key: &u64, town: &mut Recorder<'_, Town>, _needs: &mut ()) -> Result<u64, Fault> {
+        let degrees = town.ask(TownCall::Degrees)?;
+        Ok(degrees)
+    }
+}
+
+/// A hit or a run of the function for each of these readers, while the town has these degrees.
+fn ask_all<H: Hold<MemoOf<WarmthFor>>>(
+    alloc: Global,
+    cache: &mut H,
+    readers: &[u64],
+    degrees: u64,
+) -> Result<(), Fault> {
+    let town = Town {
+        people: 900,
+        degrees,
+    };
+    for reader in readers {
+        let _ = memoized(alloc, cache, *reader, &town)?;
+    }
+    Ok(())
+}
+
+#[test]
+fn an_empty_cache_holds_nothing(rt: HostRuntime) {
+    let cache: CacheData<MemoOf<WarmthFor>> = CacheData::new(rt.alloc());
+    let wanted = Contents {
+        entries: 0,
+        keys: 0,
+        ages: [0; 8],
+    };
+    assert_eq!(rt; cache.contents(), wanted);
+}
+
+#[test]
+fn entries_are_counted_by_key_and_age(rt: HostRuntime) -> Result<(), Fail> {
+    let alloc = rt.alloc();
+    let mut cache: CacheData<MemoOf<WarmthFor>> = CacheData::new(alloc);
+    ask_all(alloc, &mut cache, &[1, 2, 3], 21)?;
+    ask_all(alloc, &mut cache, &[1, 2], 4)?;
+    let young = Contents {
+        entries: 5,
+        keys: 3,
+        ages: [5, 0, 0, 0, 0, 0, 0, 0],
+    };
+    assert_eq!(rt; cache.contents(), young);
+    cache.evict(30);
+    cache.evict(30);
+    // A hit makes an entry young again.
+    ask_all(alloc, &mut cache, &[2], 21)?;
+    ask_all(alloc, &mut cache, &[4], 21)?;
+    cache.evict(30);
+    let mixed = Contents {
+        entries: 6,
+        keys: 4,
+        ages: [0, 2, 0, 4, 0, 0, 0, 0],
+    };
+    assert_eq!(rt; cache.contents(), mixed);
+    for _ in 0..4_u32 {
+        cache.evict(30);
+    }
+    // Ages 5 and 7.
+    let old = Contents {
+        entries: 6,
+        keys: 4,
+        ages: [0, 0, 0, 0, 0, 2, 0, 4],
+    };
+    assert_eq!(rt; cache.contents(), old);
+    for _ in 0..3_u32 {
+        cache.evict(30);
+    }
+    // Ages 8 and 10.
+    let older = Contents {
+        ages: [0, 0, 0, 0, 0, 0, 0, 6],
+        ..old
+    };
+    assert_eq!(rt; cache.contents(), older);
+    cache.evict(9);
+    let left = Contents {
+        entries: 2,
+        keys: 2,
+        ages: [0, 0, 0, 0, 0, 0, 0, 2],
+    };
+    assert_eq!(rt; cache.contents(), left);
+    Ok(())
+}
+
+#[test]
+fn the_parts_of_a_shared_cache_are_summed(rt: HostRuntime) -> Result<(), Fail> {
+    let alloc = rt.alloc();
+    let cache: Cache<MemoOf<WarmthFor>> = Cache::new(alloc);
+    let mut hold = cache.hold(&rt);
+    let none = Contents {
+        entries: 0,
+        keys: 0,
+        ages: [0; 8],
+    };
+    assert_eq!(rt; cache.contents(&rt), none);
+    for reader in 0..100_u64 {
+        ask_all(alloc, &mut hold, &[reader], 21)?;
+    }
+    for reader in 0..10_u64 {
+        ask_all(alloc, &mut hold, &[reader], 4)?;
+    }
+    cache.evict(&rt, 30);
+    ask_all(alloc, &mut hold, &[200, 201], 21)?;
+    let wanted = Contents {
+        entries: 112,
+        keys: 102,
+        ages: [2, 110, 0, 0, 0, 0, 0, 0],
+    };
+    assert_eq!(rt; cache.contents(&rt), wanted);
+    cache.evict(&rt, 0);
+    assert_eq!(rt; cache.contents(&rt), none);
+    Ok(())
+}
