@@ -89,7 +89,7 @@ fn a_path_of_a_thousand_calls_is_printed(rt: HostRuntime) -> Result<(), Fail> {
     }
     tree.insert(1, run, 5)?;
     let text = format!(in alloc; "{tree:?}")?;
-    // The line of each call is 2 longer than its depth's indentation before, and the last has the value.
+    // The key has a line, and each call; the value ends the last one.
     assert_eq!(rt; text.lines().count(), 1001);
     assert!(rt; text.starts_with("key 1\n  0 = 7\n    1 = 7\n      2 = 7\n"));
     assert!(rt; text.ends_with("  999 = 7: 5"));
