@@ -15,6 +15,8 @@ pub use Rattle.comemo_cache.specs.Held
 pub use Rattle.comemo_cache.specs.Found
 pub use Rattle.comemo_cache.specs.Steps
 pub use Rattle.comemo_cache.specs.StepLaws
+pub use Rattle.comemo_cache.specs.Explaining
+pub use Rattle.comemo_cache.specs.Contents
 pub use Rattle.comemo_track.specs.Sending
 pub use Rattle.comemo_track.specs.Writing
 pub use Rattle.comemo_track.specs.WritingLaws
