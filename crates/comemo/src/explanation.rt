@@ -1,5 +1,7 @@
 //! Why a call of a memoized function is a hit or a run.
-ghost use Rattle.std.specs.Prelude.{true, IfOk};
+ghost use Rattle.std.specs.Prelude.{true, List, IfOk, OnErr};
+ghost use Rattle.comemo_base.specs.Answers.{Agrees};
+ghost use Rattle.comemo_base.specs.Lookup.{under, IsRefused};
 ghost use Rattle.comemo_cache.specs.Meaning.{invocation};
 ghost use Rattle.comemo_cache.specs.Explaining.{Explains};
 ghost use Rattle.comemo_cache.specs.Held.{Held, Stays};
@@ -22,6 +24,10 @@ pub fn explain<M: Memo<Call = T::Call, Answer = T::Answer>, H: Hold<M>, T: Track
     ensures explains { IfOk result (λ said. Held (H.entries cache.old) (λ es.
         Explains ⟦<M as Meant>⟧.meaning es (invocation key.now (T.answers of.now) true) said)) }
     ensures stays { Stays (H.entries cache.old) (H.entries cache.new) }
+    ensures err { OnErr result (Held (H.entries cache.old) (λ es.
+        (asked : List (T.Call × T.Answer)) × (next : T.Call)
+        × Agrees T.Answer.eq (T.answers of.now) asked
+        × IsRefused T.Call.eq T.Answer.eq (under M.Key.eq es key.now) asked next)) }
 {
     let mut input = Keyed {
         key,
