@@ -10,6 +10,7 @@ use Rattle.comemo_site.specs.Sites.{site_answer, title_in, blocks_in}
 use Rattle.comemo_site.specs.declared.block.Plain.{Plain}
 use Rattle.comemo_site.specs.declared.site.Page.{Page}
 use Rattle.comemo_site.specs.declared.site.SiteAnswer.{SiteAnswer}
+use Rattle.comemo_site.specs.declared.site.SiteCall.{SiteCall}
 use Rattle.comemo_site.specs.contracts.block.PlainPartialEq.TheImpl as plain
 use Rattle.comemo_site.specs.contracts.block.BlockPartialEq.TheImpl as block
 use Rattle.comemo_site.specs.contracts.site.SiteCallPartialEq.TheImpl as call
@@ -31,8 +32,11 @@ answer_clones x y h = search (rules, answer_refl)
 pub answer_same : (x y : SiteAnswer) → IsTrue (answer.ghosts.eq x y) → y ≡ x
 answer_same x y h = search (rules, same_text, items_same block.ghosts.eq (λ a b e. search (rules, same_text, plain_same)))
 
+pub any_alike : (m : SiteCall → SiteAnswer) → Respects call.ghosts.eq answer.ghosts.eq m
+any_alike m = respects_same call.ghosts.eq answer.ghosts.eq (λ x y h. search (rules, same_text)) answer_refl m
+
 pub site_alike : {H : Type 0} (pages : HashMap (String Global) Page H) → Respects call.ghosts.eq answer.ghosts.eq (site_answer pages)
-site_alike pages = respects_same call.ghosts.eq answer.ghosts.eq (λ x y h. search (rules, same_text)) answer_refl (site_answer pages)
+site_alike pages = any_alike (site_answer pages)
 
 pub title_alike : (x y : SiteAnswer) → IsTrue (answer.ghosts.eq x y) → title_in x ≡ title_in y
 title_alike x y h = rw (answer_same x y h) refl

@@ -3,7 +3,7 @@ ghost use Rattle.std.specs.Prelude.{◌≡◌, ℕ, ◌<◌, length, IfOk, slice
 ghost use Rattle.comemo.specs.Multi.{second_call, seconds};
 ghost use Rattle.comemo_site.specs.Html.{document_html};
 ghost use Rattle.comemo_site.specs.Pages.{page_html, page_warnings, title_or_name};
-ghost use Rattle.comemo_site.specs.Publishing.{IsPublished, is_among, reaches};
+ghost use Rattle.comemo_site.specs.Publishing.{IsBuilt, IsPublished, Outlives, StaysPublished, is_among, reaches};
 ghost use Rattle.comemo_site.specs.Sites.{site_answer};
 
 use crate::build::{Build, built};
@@ -64,10 +64,8 @@ pub fn page_built<B: Hold<Build>, T: Hold<MemoOf<Title>>>(
     name: Text,
     limit: u64,
 ) -> Result<(Rendered, Vec<Warning>, Reads), Fault>
-    ensures html { IfOk result (λ page. page.0
-        ≡ page_html (site_answer site.now.pages) limit name) }
-    ensures warnings { IfOk result (λ page. page.1.items
-        ≡ page_warnings (site_answer site.now.pages) limit name) }
+    ensures { IfOk result (λ page. Outlives page.2.pairs (site_answer site.now.pages)
+        (IsBuilt limit name page.0 page.1.items)) }
 {
     let mut log = Log::new(alloc);
     let mut both = ReadAndWrite {
@@ -88,10 +86,9 @@ fn page_recorded<'a, B: Hold<Build>, T: Hold<MemoOf<Title>>>(
     name: Text,
     limit: u64,
 ) -> Result<(Rendered, Reads, Vec<MultiCall<SiteCall, Warning>>), Fault>
-    ensures html { IfOk result (λ page. page.0
-        ≡ page_html (site_answer both.old.first.pages) limit name) }
-    ensures writes { IfOk result (λ page. page.2.items
-        ≡ map second_call (page_warnings (site_answer both.old.first.pages) limit name)) }
+    ensures { IfOk result (λ page. Outlives page.1.pairs (site_answer both.old.first.pages)
+        (λ site. (page.0 ≡ page_html site limit name)
+        × (page.2.items ≡ map second_call (page_warnings site limit name)))) }
 {
     let mut recording = Constraint::new(alloc);
     let mut recorder = RecorderMut::new(alloc, both, &mut recording);
@@ -171,8 +168,10 @@ pub fn publish_page<B: Hold<Build>, T: Hold<MemoOf<Title>>>(
     name: &Text,
     settings: Settings,
 ) -> Result<Published, Fault>
-    ensures { IfOk result
+    ensures published { IfOk result
         (IsPublished (site_answer site.now.pages) settings.limit name.now) }
+    ensures stays { IfOk result
+        (StaysPublished (site_answer site.now.pages) settings.limit name.now) }
 {
     let reason = reason_asked(alloc, &mut kept.0, site, name, settings)?;
     let mut tally = Tally::new();
