@@ -1,5 +1,6 @@
--- What a recording has after a call within it, and the warnings among writes.
-use Rattle.std.proofs.Common.{◌≡◌, ◌∙◌, Bool, true, false, ℕ, ◌+◌, ◌<◌, List, [], ◌∷◌, ◌++◌, length, take, get_or, map, Result, Ok, Err, IfOk, refl, sym, ap, subst, append-nil}
+-- What a recording has after a call within it, which changes what it tells outlives, and the warnings among writes.
+use Rattle.std.specs.Prelude.{⊤}
+use Rattle.std.proofs.Common.{◌≡◌, ◌∙◌, Bool, true, false, ℕ, ◌+◌, ◌<◌, List, [], ◌∷◌, ◌++◌, length, take, get_or, map, Result, Ok, Err, IfOk, rules, refl, sym, ap, subst}
 use Rattle.std.proofs.lemmas.List.{take_more}
 use Rattle.comemo.specs.Answers.{Respects, Agrees}
 use Rattle.comemo.specs.Function.{Fits}
@@ -7,19 +8,51 @@ use Rattle.comemo.specs.FunctionMut.{Lent, Began, Goes, TellsWrites}
 use Rattle.comemo.specs.Multi.{second_call, seconds}
 use Rattle.comemo.specs.MultiLaws.{seconds-append}
 use Rattle.comemo.specs.Writing.{Done}
+use Rattle.comemo.specs.declared.MultiAnswer.{MultiAnswer}
 use Rattle.comemo.specs.declared.MultiCall.{MultiCall}
+use Rattle.comemo.specs.declared.MultiCall.TheVariants.{A, B}
 use Rattle.comemo.specs.declared.pending.Fault.{Fault}
+use Rattle.comemo_site.specs.Publishing.{DiffersAt, Outlives, answers_of, is_among, reaches}
+use Rattle.comemo_site.specs.Pages.{IsPrinted}
+use Rattle.comemo_site.specs.declared.log.Warning.{Warning}
+use Rattle.comemo_site.specs.declared.site.SiteAnswer.{SiteAnswer}
+use Rattle.comemo_site.specs.declared.site.SiteCall.{SiteCall}
 
--- a call within a recording of its own, which was empty and complete and isn't late afterwards: what was established holds of
--- the previous value and of the recorded writes
-pub recorded_now : {V C R X : Type 0} {eq : C → C → Bool} {same : R → R → Bool} {wrote : V → C → V → Type 0} {w : C → Bool} {touches : C → C → Bool} {answers : V → C → R} → ((v : V) → Respects eq same (answers v)) → {s t : Lent V C R} {P : X → (C → R) → List C → Type 0} (r : Result X Fault) → s.recording.now.whole ≡ true → s.recording.now.writes ≡ [] → s.recording.now.pairs ≡ [] → TellsWrites (Goes (Done wrote w touches same answers) touches same answers) (Fits eq same) s t r P → (t.recording.now.whole ≡ true → t.recording.now.late ≡ false) → IfOk r (λ x. P x (answers s.value.now) t.recording.now.writes)
-recorded_now {same = same} {wrote} {w} {touches} {answers} alike {s} {t} {P} (Ok x) whole none nothing a early =
+-- a call within a recording of its own, which was empty and complete and isn't late afterwards: the reads agree with the
+-- previous value, and what was established holds of all answers that agree with them, and of the recorded writes
+pub recorded_now : {V C R X : Type 0} {eq : C → C → Bool} {same : R → R → Bool} {wrote : V → C → V → Type 0} {w : C → Bool} {touches : C → C → Bool} {answers : V → C → R} → {s t : Lent V C R} {P : X → (C → R) → List C → Type 0} (r : Result X Fault) → s.recording.now.whole ≡ true → s.recording.now.writes ≡ [] → s.recording.now.pairs ≡ [] → TellsWrites (Goes (Done wrote w touches same answers) touches same answers) (Fits eq same) s t r P → (t.recording.now.whole ≡ true → t.recording.now.late ≡ false) → IfOk r (λ x. Agrees same (answers s.value.now) t.recording.now.pairs × ((m : C → R) → Respects eq same m → Agrees same m t.recording.now.pairs → P x m t.recording.now.writes))
+recorded_now {same = same} {wrote} {w} {touches} {answers} {s} {t} {P} (Ok x) whole none nothing a early =
     let is = a.whole ∙ whole in
     let first : Began (Done wrote w touches same answers) same answers s.value.now s = record { done = subst (λ W. Done wrote w touches same answers s.value.now s.value.now W) (sym none) refl; agrees = λ l. subst (λ ps. Agrees same (answers s.value.now) ps) (sym nothing) tt } in
-    let began = a.goes.began is s.value.now first in
-    let told = a.told (answers s.value.now) (record { whole = is; early = early is; respects = alike s.value.now; agrees = began.agrees (early is) }) in
-    subst (λ W. P x (answers s.value.now) W) (sym (told.1 ∙ ap (λ U. U ++ told.0) none)) told.2
-recorded_now alike (Err f) whole none nothing a early = tt
+    let began = a.goes.began is s.value.now first in (
+      began.agrees (early is),
+      λ m respects agrees.
+          let told = a.told m (record { whole = is; early = early is; respects = respects; agrees = agrees }) in
+          subst (λ W. P x m W) (sym (told.1 ∙ ap (λ U. U ++ told.0) none)) told.2,
+    )
+recorded_now (Err f) whole none nothing a early = tt
+
+-- answers that differ only at calls that are not among the reads agree with these too
+pub agrees_past : (same : MultiAnswer SiteAnswer ⊤ → MultiAnswer SiteAnswer ⊤ → Bool) (calls : List SiteCall) (m n : SiteCall → SiteAnswer) → DiffersAt calls m n → (reads : List (MultiCall SiteCall Warning × MultiAnswer SiteAnswer ⊤)) → reaches calls reads ≡ false → Agrees same (answers_of m) reads → Agrees same (answers_of n) reads
+agrees_past same calls m n differs [] none h = tt
+agrees_past same calls m n differs ((A call, answer) ∷ reads) none h =
+    let here : is_among calls (A call) ≡ false = search rules in
+    let rest : reaches calls reads ≡ false = search rules in
+    (rw (differs call here) h.0, agrees_past same calls m n differs reads rest h.1)
+agrees_past same calls m n differs ((B warning, answer) ∷ reads) none h =
+    let rest : reaches calls reads ≡ false = search rules in
+    (h.0, agrees_past same calls m n differs reads rest h.1)
+
+-- what such a call of a page printed outlives the changes that do not reach the reads
+pub recorded_page : {V : Type 0} {eq : MultiCall SiteCall Warning → MultiCall SiteCall Warning → Bool} {same : MultiAnswer SiteAnswer ⊤ → MultiAnswer SiteAnswer ⊤ → Bool} {wrote : V → MultiCall SiteCall Warning → V → Type 0} {w : MultiCall SiteCall Warning → Bool} {touches : MultiCall SiteCall Warning → MultiCall SiteCall Warning → Bool} {answers : V → MultiCall SiteCall Warning → MultiAnswer SiteAnswer ⊤} → ((n : SiteCall → SiteAnswer) → Respects eq same (answers_of n)) → {s t : Lent V (MultiCall SiteCall Warning) (MultiAnswer SiteAnswer ⊤)} (html : (SiteCall → SiteAnswer) → List ℕ) (warnings : (SiteCall → SiteAnswer) → List Warning) (site : SiteCall → SiteAnswer) → answers s.value.now ≡ answers_of site → (x : List ℕ) → s.recording.now.whole ≡ true → s.recording.now.writes ≡ [] → s.recording.now.pairs ≡ [] → TellsWrites (Goes (Done wrote w touches same answers) touches same answers) (Fits eq same) s t (Ok x) (IsPrinted html warnings) → (t.recording.now.whole ≡ true → t.recording.now.late ≡ false) → Outlives t.recording.now.pairs site (λ n. (x ≡ html n) × (t.recording.now.writes ≡ map second_call (warnings n)))
+recorded_page {same = same} alike {s} {t} html warnings site is x whole none nothing a early =
+    let all = recorded_now (Ok x) whole none nothing a early in
+    let now : Agrees same (answers_of site) t.recording.now.pairs = subst (λ m. Agrees same m t.recording.now.pairs) is all.0 in (
+      all.1 (answers_of site) (alike site) now site (λ call. refl),
+      λ calls n differs past.
+          let still : Agrees same (answers_of n) t.recording.now.pairs = agrees_past same calls site n differs t.recording.now.pairs past now in
+          all.1 (answers_of n) (alike n) still n (λ call. refl),
+    )
 
 pub seconds_of : (X : Type 0) {Y : Type 0} (xs : List Y) → seconds {X = X} {Y = Y} (map second_call xs) ≡ xs
 seconds_of X [] = refl

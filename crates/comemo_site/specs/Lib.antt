@@ -6,3 +6,4 @@ pub mod Reports
 pub mod Sites
 pub mod SiteLaws
 pub mod Sources
+pub mod Texts

@@ -1,25 +1,21 @@
--- A site answers equal calls alike, a clone of an answer is equal to it, and equal answers have the same blocks.
+-- A site answers equal calls alike, an answer is equal to its clone, and equal answers are one value.
 use Rattle.std.specs.Prelude.{◌≡◌, String}
 use Rattle.std.specs.Global.{Global}
 use Rattle.std.specs.HashMap.{HashMap}
-use Rattle.std.proofs.Common.{IsTrue, rules}
+use Rattle.std.proofs.Common.{IsTrue, rules, refl}
 use Rattle.std.specs.Cmp.Lexicographic.{same_text, nat_list_eq_equiv}
 use Rattle.comemo.specs.Answers.{Respects}
-use Rattle.comemo.proofs.Texts.{items_refl, items_clone, items_same, respects_same}
+use Rattle.comemo.proofs.Texts.{items_refl, items_same, respects_same}
 use Rattle.comemo_site.specs.Sites.{site_answer, title_in, blocks_in}
 use Rattle.comemo_site.specs.declared.block.Plain.{Plain}
 use Rattle.comemo_site.specs.declared.site.Page.{Page}
 use Rattle.comemo_site.specs.declared.site.SiteAnswer.{SiteAnswer}
+use Rattle.comemo_site.specs.declared.site.SiteCall.{SiteCall}
 use Rattle.comemo_site.specs.contracts.block.PlainPartialEq.TheImpl as plain
-use Rattle.comemo_site.specs.contracts.block.PlainClone.TheImpl as plain_clone
 use Rattle.comemo_site.specs.contracts.block.BlockPartialEq.TheImpl as block
-use Rattle.comemo_site.specs.contracts.block.BlockClone.TheImpl as block_clone
 use Rattle.comemo_site.specs.contracts.site.SiteCallPartialEq.TheImpl as call
 use Rattle.comemo_site.specs.contracts.site.SiteAnswerPartialEq.TheImpl as answer
 use Rattle.comemo_site.specs.contracts.site.SiteAnswerClone.TheImpl as clone
-
-plain_clones : (x y : Plain) → plain_clone.ghosts.is_clone x y → IsTrue (plain.ghosts.eq x y)
-plain_clones x y h = search (rules, nat_list_eq_equiv)
 
 plain_refl : (x : Plain) → IsTrue (plain.ghosts.eq x x)
 plain_refl x = search (rules, nat_list_eq_equiv)
@@ -27,14 +23,23 @@ plain_refl x = search (rules, nat_list_eq_equiv)
 plain_same : (x y : Plain) → IsTrue (plain.ghosts.eq x y) → y ≡ x
 plain_same x y h = search (rules, same_text)
 
+pub answer_refl : (x : SiteAnswer) → IsTrue (answer.ghosts.eq x x)
+answer_refl x = search (rules, nat_list_eq_equiv, items_refl block.ghosts.eq (λ l. search (rules, nat_list_eq_equiv, plain_refl)))
+
 pub answer_clones : (x y : SiteAnswer) → clone.ghosts.is_clone x y → IsTrue (answer.ghosts.eq x y)
-answer_clones x y h = search (rules, nat_list_eq_equiv, items_clone block.ghosts.eq block_clone.ghosts.is_clone (λ a b c. search (rules, nat_list_eq_equiv, plain_clones)))
+answer_clones x y h = search (rules, answer_refl)
+
+pub answer_same : (x y : SiteAnswer) → IsTrue (answer.ghosts.eq x y) → y ≡ x
+answer_same x y h = search (rules, same_text, items_same block.ghosts.eq (λ a b e. search (rules, same_text, plain_same)))
+
+pub any_alike : (m : SiteCall → SiteAnswer) → Respects call.ghosts.eq answer.ghosts.eq m
+any_alike m = respects_same call.ghosts.eq answer.ghosts.eq (λ x y h. search (rules, same_text)) answer_refl m
 
 pub site_alike : {H : Type 0} (pages : HashMap (String Global) Page H) → Respects call.ghosts.eq answer.ghosts.eq (site_answer pages)
-site_alike pages = respects_same call.ghosts.eq answer.ghosts.eq (λ x y h. search (rules, same_text)) (λ a. search (rules, nat_list_eq_equiv, items_refl block.ghosts.eq (λ l. search (rules, nat_list_eq_equiv, plain_refl)))) (site_answer pages)
+site_alike pages = any_alike (site_answer pages)
 
 pub title_alike : (x y : SiteAnswer) → IsTrue (answer.ghosts.eq x y) → title_in x ≡ title_in y
-title_alike x y h = search rules
+title_alike x y h = rw (answer_same x y h) refl
 
 pub blocks_alike : (x y : SiteAnswer) → IsTrue (answer.ghosts.eq x y) → blocks_in x ≡ blocks_in y
-blocks_alike x y h = search (rules, items_same block.ghosts.eq (λ a b e. search (rules, same_text, plain_same)))
+blocks_alike x y h = rw (answer_same x y h) refl

@@ -36,4 +36,4 @@ title_in (Blocks blocks) = None
 abbrev pub blocks_in : SiteAnswer → Option (List Block)
 blocks_in Missing = None
 blocks_in (Title title) = None
-blocks_in (Blocks blocks) = Some blocks.items
+blocks_in (Blocks blocks) = Some blocks

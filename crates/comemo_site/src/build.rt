@@ -8,7 +8,7 @@ ghost use Rattle.comemo_site.specs.Pages.{IsPrinted, block_html, block_warnings,
 ghost use Rattle.comemo_site.specs.SiteLaws.{answer_clones};
 
 use crate::block::Block;
-use crate::html::Html;
+use crate::html::{Html, Rendered};
 use crate::link::{entry_built, link_built};
 use crate::log::{Log, Warning};
 use crate::site::{Site, SiteAnswer, SiteCall};
@@ -32,7 +32,7 @@ impl Memo for Build {
 
     type Answer = MultiAnswer<SiteAnswer, ()>;
 
-    type Out = Html;
+    type Out = Rendered;
 
     ghost def = { λ key m html writes. IsPrinted (λ site. page_html site key.1 key.0)
         (λ site. page_warnings site key.1 key.0) html m writes };
@@ -54,7 +54,7 @@ pub fn built<'a, B: Hold<Build>, T: Hold<MemoOf<Title>>>(
     name: Text,
     limit: u64,
     both: &mut RecorderMut<'_, '_, ReadAndWrite<'a, Site, Log>>,
-) -> Result<Html, Fault>
+) -> Result<Rendered, Fault>
     requires agrees { ⟦<ReadAndWrite<'a, Site, Log> as Warns>⟧.agrees
         (lent both.now.value both.now.recording) }
     ensures agrees { ⟦<ReadAndWrite<'a, Site, Log> as Warns>⟧.agrees
@@ -65,7 +65,7 @@ pub fn built<'a, B: Hold<Build>, T: Hold<MemoOf<Title>>>(
 {
     if limit == 0 {
         both.write_second(Warning::TooDeep(name))?;
-        return Ok(Html::new(alloc));
+        return Ok(Rendered::new());
     }
     let key = (name, limit);
     let run = match both.begin(&mut kept.0, &key)? {
@@ -89,7 +89,7 @@ fn draft<'a, B: Hold<Build>, T: Hold<MemoOf<Title>>>(
     name: &Text,
     limit: u64,
     both: &mut RecorderMut<'_, '_, ReadAndWrite<'a, Site, Log>>,
-) -> Result<Html, Fault>
+) -> Result<Rendered, Fault>
     requires agrees { ⟦<ReadAndWrite<'a, Site, Log> as Warns>⟧.agrees
         (lent both.now.value both.now.recording) }
     ensures agrees { ⟦<ReadAndWrite<'a, Site, Log> as Warns>⟧.agrees
@@ -101,14 +101,14 @@ fn draft<'a, B: Hold<Build>, T: Hold<MemoOf<Title>>>(
 {
     let SiteAnswer::Blocks(blocks) = both.ask_first(SiteCall::BlocksOf(name.clone()?))? else {
         both.write_second(Warning::Missing(name.clone()?))?;
-        return Ok(Html::new(alloc));
+        return Ok(Rendered::new());
     };
     let mut html = Html::new(alloc);
-    for block in &blocks {
+    for block in blocks.as_slice() {
         let part = block_built(alloc, kept, tally, block, limit, both)?;
         html.push(part.as_bytes())?;
     }
-    Ok(html)
+    Ok(html.finish()?)
 }
 
 /// The HTML of a block, with the page that it includes down to a limit.
@@ -120,7 +120,7 @@ fn block_built<'a, B: Hold<Build>, T: Hold<MemoOf<Title>>>(
     block: &Block,
     limit: u64,
     both: &mut RecorderMut<'_, '_, ReadAndWrite<'a, Site, Log>>,
-) -> Result<Html, Fault>
+) -> Result<Rendered, Fault>
     requires agrees { ⟦<ReadAndWrite<'a, Site, Log> as Warns>⟧.agrees
         (lent both.now.value both.now.recording) }
     ensures agrees { ⟦<ReadAndWrite<'a, Site, Log> as Warns>⟧.agrees
@@ -131,7 +131,7 @@ fn block_built<'a, B: Hold<Build>, T: Hold<MemoOf<Title>>>(
         (λ site. block_warnings site (page_warnings site limit) block.now) }
 {
     match block {
-        Block::Plain(plain) => Ok(Html::of_plain(alloc, plain)?),
+        Block::Plain(plain) => Ok(Rendered::of_plain(alloc, plain)?),
         Block::Include(name) => built(alloc, kept, tally, name.clone()?, limit, both),
         Block::Link(name) => link_built(alloc, &mut kept.1, name, both),
         Block::Entry(name) => entry_built(alloc, &mut kept.1, name, both),
@@ -150,7 +150,7 @@ impl Memo for Publish {
 
     type Answer = MultiAnswer<SiteAnswer, ()>;
 
-    type Out = Html;
+    type Out = Rendered;
 
     ghost def = { ⟦<Build as Memo>⟧.def };
 
@@ -166,7 +166,7 @@ impl<'a> FunctionMutOf<ReadAndWrite<'a, Site, Log>> for Publish {
         key: &(Text, u64),
         both: &mut RecorderMut<'_, '_, ReadAndWrite<'a, Site, Log>>,
         needs: &mut (Global, Built),
-    ) -> Result<Html, Fault> {
+    ) -> Result<Rendered, Fault> {
         let (alloc, kept) = needs;
         built(*alloc, kept, &mut Tally::new(), key.0.clone()?, key.1, both)
     }

@@ -6,6 +6,7 @@ use crate::block::Plain;
 use crate::text::Text;
 use std::alloc::{AllocError, Global};
 use std::marker::Model;
+use std::sync::ArcSlice;
 
 /// A document up to the way to the folder of its site.
 const HEAD: &[u8] = b"<!DOCTYPE html>\n<html>\n<head>\n<meta charset=\"utf-8\">\n<base href=\"./";
@@ -19,7 +20,7 @@ const BODY: &[u8] = b"</title>\n</head>\n<body>\n";
 /// The end of a document.
 const END: &[u8] = b"</body>\n</html>\n";
 
-/// HTML that contracts see as its bytes.
+/// HTML that grows. Contracts see its bytes.
 #[derive(Drop)]
 pub struct Html {
     bytes: Vec<u8>,
@@ -33,12 +34,70 @@ impl Model for Html {
     ghost view = { λ html. html.bytes.items };
 }
 
-impl Clone for Html {
+/// HTML that is finished: contracts see its bytes, and its clones share them.
+#[derive(Drop)]
+pub struct Rendered {
+    // The bytes; none if there is nothing.
+    shared: Option<ArcSlice<u8>>,
+}
+
+impl Model for Rendered {
+    ghost use Rattle.std.specs.Prelude.{ℕ, List, [], option_map, unwrap_or};
+    ghost use Rattle.std.specs.Arc.{arc_slice_items};
+
+    ghost Value = { List ℕ };
+
+    ghost view = { λ html. unwrap_or (option_map arc_slice_items html.shared) [] };
+}
+
+impl Clone for Rendered {
     ghost is_clone = { λ html copy. copy ≡ html };
 
     fn clone(&self) -> Result<Self, AllocError> {
-        let bytes = self.bytes.clone()?;
-        Ok(Html { bytes })
+        let shared = self.shared.clone()?;
+        Ok(Rendered { shared })
+    }
+}
+
+impl Rendered {
+    /// Nothing. Does not allocate.
+    pub fn new() -> Self
+        ensures { result ≡ [] }
+    {
+        Rendered { shared: None }
+    }
+
+    /// The bytes.
+    pub fn as_bytes(&self) -> &[u8]
+        ensures { result.now ≡ self.now }
+    {
+        match &self.shared {
+            Some(bytes) => bytes.as_slice(),
+            None => &[],
+        }
+    }
+
+    /// A block that prints the same whatever the site is.
+    pub fn of_plain(alloc: Global, plain: &Plain) -> Result<Self, AllocError>
+        ensures { IfOk result (λ html. html ≡ plain_html plain.now) }
+    {
+        Html::of_plain(alloc, plain)?.finish()
+    }
+
+    /// A link to a page as a paragraph: its title, or its name if it is missing.
+    pub fn link(alloc: Global, title: Option<Text>, page: &Text) -> Result<Self, AllocError>
+        ensures { IfOk result (λ html. html
+            ≡ element (codes "p") (anchor_html (unwrap_or title page.now) page.now)) }
+    {
+        Html::of_link(alloc, "p", title, page)?.finish()
+    }
+
+    /// A link to a page in a list: its title, or its name if it is missing.
+    pub fn entry(alloc: Global, title: Option<Text>, page: &Text) -> Result<Self, AllocError>
+        ensures { IfOk result (λ html. html
+            ≡ element (codes "li") (anchor_html (unwrap_or title page.now) page.now)) }
+    {
+        Html::of_link(alloc, "li", title, page)?.finish()
     }
 }
 
@@ -66,6 +125,16 @@ impl Html {
         ensures { result.now ≡ self.now }
     {
         self.bytes.as_slice()
+    }
+
+    /// This HTML, finished. Its bytes are not copied. Fails if out of memory.
+    pub fn finish(self) -> Result<Rendered, AllocError>
+        ensures { IfOk result (λ html. html ≡ self) }
+    {
+        let shared = ArcSlice::from_vec(self.bytes)?;
+        Ok(Rendered {
+            shared: Some(shared),
+        })
     }
 
     /// Appends HTML. Fails if out of memory; then nothing is appended.
@@ -123,7 +192,7 @@ impl Html {
     }
 
     /// A block that prints the same whatever the site is.
-    pub fn of_plain(alloc: Global, plain: &Plain) -> Result<Self, AllocError>
+    fn of_plain(alloc: Global, plain: &Plain) -> Result<Self, AllocError>
         ensures { IfOk result (λ html. html ≡ plain_html plain.now) }
     {
         match plain {
@@ -175,28 +244,12 @@ impl Html {
         Html::tagged(alloc, name, &inner)
     }
 
-    /// A link to a page as a paragraph: its title, or its name if it is missing.
-    pub fn link(alloc: Global, title: Option<Text>, page: &Text) -> Result<Self, AllocError>
-        ensures { IfOk result (λ html. html
-            ≡ element (codes "p") (anchor_html (unwrap_or title page.now) page.now)) }
-    {
-        Html::of_link(alloc, "p", title, page)
-    }
-
-    /// A link to a page in a list: its title, or its name if it is missing.
-    pub fn entry(alloc: Global, title: Option<Text>, page: &Text) -> Result<Self, AllocError>
-        ensures { IfOk result (λ html. html
-            ≡ element (codes "li") (anchor_html (unwrap_or title page.now) page.now)) }
-    {
-        Html::of_link(alloc, "li", title, page)
-    }
-
     /// The document of a page of this name and title. Its links lead from the folder of the site.
     pub fn document(
         alloc: Global,
         title: &Text,
         name: &Text,
-        body: &Html,
+        body: &Rendered,
     ) -> Result<Self, AllocError>
         ensures { IfOk result (λ html. html ≡ document_html title.now name.now body.now) }
     {

@@ -8,7 +8,7 @@ ghost use Rattle.comemo_site.specs.SiteLaws.{answer_clones};
 ghost use Rattle.comemo_site.specs.Sites.{title_in};
 ghost use Rattle.comemo_site.specs.declared.site.SiteCall.TheVariants.{TitleOf};
 
-use crate::html::Html;
+use crate::html::Rendered;
 use crate::log::{Log, Warning};
 use crate::site::{Site, SiteAnswer, SiteCall};
 use crate::text::Text;
@@ -30,7 +30,7 @@ impl Memo for Link {
 
     type Answer = MultiAnswer<SiteAnswer, ()>;
 
-    type Out = Html;
+    type Out = Rendered;
 
     ghost def = { λ name m html writes. IsPrinted
         (λ site. link_html site (codes "p") name)
@@ -48,7 +48,7 @@ impl<'a> FunctionMutOf<ReadAndWrite<'a, Site, Log>> for Link {
         name: &Text,
         both: &mut RecorderMut<'_, '_, ReadAndWrite<'a, Site, Log>>,
         needs: &mut (Global, CacheData<MemoOf<Title>>),
-    ) -> Result<Html, Fault> {
+    ) -> Result<Rendered, Fault> {
         let (alloc, titles) = needs;
         link_built(*alloc, titles, name, both)
     }
@@ -60,7 +60,7 @@ pub fn link_built<'a, T: Hold<MemoOf<Title>>>(
     titles: &mut T,
     name: &Text,
     both: &mut RecorderMut<'_, '_, ReadAndWrite<'a, Site, Log>>,
-) -> Result<Html, Fault>
+) -> Result<Rendered, Fault>
     requires agrees { ⟦<ReadAndWrite<'a, Site, Log> as Warns>⟧.agrees
         (lent both.now.value both.now.recording) }
     ensures agrees { ⟦<ReadAndWrite<'a, Site, Log> as Warns>⟧.agrees
@@ -72,9 +72,9 @@ pub fn link_built<'a, T: Hold<MemoOf<Title>>>(
 {
     let title = both.call_first(titles, &mut (), (name.clone()?, ()))?;
     match title {
-        Some(title) => Ok(Html::link(alloc, Some(title), name)?),
+        Some(title) => Ok(Rendered::link(alloc, Some(title), name)?),
         None => {
-            let html = Html::link(alloc, None, name)?;
+            let html = Rendered::link(alloc, None, name)?;
             both.write_second(Warning::Missing(name.clone()?))?;
             Ok(html)
         }
@@ -87,7 +87,7 @@ pub fn entry_built<'a, T: Hold<MemoOf<Title>>>(
     titles: &mut T,
     name: &Text,
     both: &mut RecorderMut<'_, '_, ReadAndWrite<'a, Site, Log>>,
-) -> Result<Html, Fault>
+) -> Result<Rendered, Fault>
     requires agrees { ⟦<ReadAndWrite<'a, Site, Log> as Warns>⟧.agrees
         (lent both.now.value both.now.recording) }
     ensures agrees { ⟦<ReadAndWrite<'a, Site, Log> as Warns>⟧.agrees
@@ -97,5 +97,5 @@ pub fn entry_built<'a, T: Hold<MemoOf<Title>>>(
         (λ site. link_html site (codes "li") name.now) (λ site. []) }
 {
     let title = both.call_first(titles, &mut (), (name.clone()?, ()))?;
-    Ok(Html::entry(alloc, title, name)?)
+    Ok(Rendered::entry(alloc, title, name)?)
 }

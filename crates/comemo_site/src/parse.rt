@@ -15,7 +15,7 @@
 ghost use Rattle.std.specs.Prelude.{◌≡◌, string_bytes, IfOk};
 ghost use Rattle.comemo_site.specs.Sources.{title_of};
 
-use crate::block::{Block, Plain};
+use crate::block::{Block, Blocks, Plain};
 use crate::site::Page;
 use crate::text::Text;
 use std::alloc::{AllocError, Global};
@@ -202,7 +202,7 @@ fn title_in_blocks(alloc: Global, name: &str, blocks: &[Block]) -> Result<Text, 
 
 /// The page of a name that has this source.
 pub fn parse(alloc: Global, name: &str, source: &str) -> Result<Page, AllocError>
-    ensures { IfOk result (λ page. page.title ≡ title_of name.now page.blocks.items) }
+    ensures { IfOk result (λ page. page.title ≡ title_of name.now page.blocks) }
 {
     let mut parser = Parser::new(alloc);
     for line in source.lines() {
@@ -211,5 +211,6 @@ pub fn parse(alloc: Global, name: &str, source: &str) -> Result<Page, AllocError
     parser.end()?;
     let Parser { blocks, .. } = parser;
     let title = title_in_blocks(alloc, name, blocks.as_slice())?;
+    let blocks = Blocks::new(blocks)?;
     Ok(Page { title, blocks })
 }

@@ -3,19 +3,21 @@ ghost use Rattle.std.specs.Prelude.{◌≡◌, ℕ, ◌<◌, length, IfOk, slice
 ghost use Rattle.comemo.specs.Multi.{second_call, seconds};
 ghost use Rattle.comemo_site.specs.Html.{document_html};
 ghost use Rattle.comemo_site.specs.Pages.{page_html, page_warnings, title_or_name};
-ghost use Rattle.comemo_site.specs.Publishing.{IsPublished};
+ghost use Rattle.comemo_site.specs.Publishing.{IsBuilt, IsPublished, Outlives, StaysPublished, is_among, reaches};
 ghost use Rattle.comemo_site.specs.Sites.{site_answer};
 
 use crate::build::{Build, built};
-use crate::html::Html;
+use crate::html::{Html, Rendered};
 use crate::log::{Log, Warning};
 use crate::reason::{Reason, reason_now};
-use crate::site::{Site, SiteCall};
+use crate::site::{Site, SiteAnswer, SiteCall};
 use crate::tally::Tally;
 use crate::text::Text;
 use crate::title::Title;
+use comemo::internal::CallSequence;
 use comemo::{
-    Cache, Constraint, Fault, Hold, MemoOf, MultiCall, ReadAndWrite, RecorderMut, Track, memoized,
+    Cache, Constraint, Fault, Hold, MemoOf, MultiAnswer, MultiCall, ReadAndWrite, RecorderMut,
+    Track, memoized,
 };
 use std::alloc::{AllocError, Global};
 use std::sync::Wait;
@@ -41,14 +43,19 @@ pub struct Published {
     pub warnings: Vec<Warning>,
     /// Why it was rendered again; `None` also if reasons are not found.
     pub reason: Option<Reason>,
+    /// What its text and its warnings rest on.
+    pub reads: Reads,
     /// How many calls ran.
     pub tally: Tally,
 }
 
+/// What was asked of a site, with the answers.
+pub type Reads = CallSequence<MultiCall<SiteCall, Warning>, MultiAnswer<SiteAnswer, ()>>;
+
 /// The caches that threads share: of pages with their warnings, and of titles.
 pub type SharedBuilt = (Cache<Build>, Cache<MemoOf<Title>>);
 
-/// The HTML of a page of a site as it is, with its warnings.
+/// The HTML of a page of a site as it is, with its warnings, and what both rest on.
 pub fn page_built<B: Hold<Build>, T: Hold<MemoOf<Title>>>(
     alloc: Global,
     kept: &mut (B, T),
@@ -56,23 +63,21 @@ pub fn page_built<B: Hold<Build>, T: Hold<MemoOf<Title>>>(
     site: &Site,
     name: Text,
     limit: u64,
-) -> Result<(Html, Vec<Warning>), Fault>
-    ensures html { IfOk result (λ page. page.0
-        ≡ page_html (site_answer site.now.pages) limit name) }
-    ensures warnings { IfOk result (λ page. page.1.items
-        ≡ page_warnings (site_answer site.now.pages) limit name) }
+) -> Result<(Rendered, Vec<Warning>, Reads), Fault>
+    ensures { IfOk result (λ page. Outlives page.2.pairs (site_answer site.now.pages)
+        (IsBuilt limit name page.0 page.1.items)) }
 {
     let mut log = Log::new(alloc);
     let mut both = ReadAndWrite {
         first: site.track(alloc),
         second: &mut log,
     };
-    let (html, writes) = page_recorded(alloc, kept, tally, &mut both, name, limit)?;
+    let (html, reads, writes) = page_recorded(alloc, kept, tally, &mut both, name, limit)?;
     let warnings = warnings_in(alloc, writes.as_slice())?;
-    Ok((html, warnings))
+    Ok((html, warnings, reads))
 }
 
-/// The HTML of a page of a site as it is, with what was written to the log, by its recording.
+/// The HTML of a page of a site as it is, with what was asked and what was written to the log.
 fn page_recorded<'a, B: Hold<Build>, T: Hold<MemoOf<Title>>>(
     alloc: Global,
     kept: &mut (B, T),
@@ -80,17 +85,16 @@ fn page_recorded<'a, B: Hold<Build>, T: Hold<MemoOf<Title>>>(
     both: &mut ReadAndWrite<'a, Site, Log>,
     name: Text,
     limit: u64,
-) -> Result<(Html, Vec<MultiCall<SiteCall, Warning>>), Fault>
-    ensures html { IfOk result (λ page. page.0
-        ≡ page_html (site_answer both.old.first.pages) limit name) }
-    ensures writes { IfOk result (λ page. page.1.items
-        ≡ map second_call (page_warnings (site_answer both.old.first.pages) limit name)) }
+) -> Result<(Rendered, Reads, Vec<MultiCall<SiteCall, Warning>>), Fault>
+    ensures { IfOk result (λ page. Outlives page.1.pairs (site_answer both.old.first.pages)
+        (λ site. (page.0 ≡ page_html site limit name)
+        × (page.2.items ≡ map second_call (page_warnings site limit name)))) }
 {
     let mut recording = Constraint::new(alloc);
     let mut recorder = RecorderMut::new(alloc, both, &mut recording);
     let html = built(alloc, kept, tally, name, limit, &mut recorder)?;
-    let (_, writes) = recording.into_parts();
-    Ok((html, writes))
+    let (reads, writes) = recording.into_parts();
+    Ok((html, reads, writes))
 }
 
 /// The warnings among writes, in their order.
@@ -130,7 +134,7 @@ fn document_around<T: Hold<MemoOf<Title>>>(
     titles: &mut T,
     site: &Site,
     name: &Text,
-    html: &Html,
+    html: &Rendered,
 ) -> Result<Html, Fault>
     ensures { IfOk result (λ document. document
         ≡ document_html (title_or_name (site_answer site.now.pages) name.now) name.now html.now) }
@@ -164,20 +168,47 @@ pub fn publish_page<B: Hold<Build>, T: Hold<MemoOf<Title>>>(
     name: &Text,
     settings: Settings,
 ) -> Result<Published, Fault>
-    ensures { IfOk result
+    ensures published { IfOk result
         (IsPublished (site_answer site.now.pages) settings.limit name.now) }
+    ensures stays { IfOk result
+        (StaysPublished (site_answer site.now.pages) settings.limit name.now) }
 {
     let reason = reason_asked(alloc, &mut kept.0, site, name, settings)?;
     let mut tally = Tally::new();
     let own = name.clone()?;
-    let (html, warnings) = page_built(alloc, kept, &mut tally, site, own, settings.limit)?;
+    let (html, warnings, reads) = page_built(alloc, kept, &mut tally, site, own, settings.limit)?;
     let document = document_around(alloc, &mut kept.1, site, name, &html)?;
     Ok(Published {
         document,
         warnings,
         reason,
+        reads,
         tally,
     })
+}
+
+/// Whether a call is one of these.
+fn is_one_of(call: &MultiCall<SiteCall, Warning>, calls: &[SiteCall]) -> bool
+    ensures { result ≡ is_among calls.now call.now }
+{
+    match call {
+        MultiCall::A(call) => calls.contains(call),
+        MultiCall::B(_) => false,
+    }
+}
+
+/// Whether one of these calls is among the reads. If none is, what rests on the reads stays when their answers change.
+pub fn is_reached(reads: &Reads, calls: &[SiteCall]) -> bool
+    ensures { result ≡ reaches calls.now reads.now.pairs }
+{
+    for slot in reads.slots() {
+        if let Some((call, _)) = slot {
+            if is_one_of(call, calls) {
+                return true;
+            }
+        }
+    }
+    false
 }
 
 /// The document of a page of a site as it is, through caches that threads share.

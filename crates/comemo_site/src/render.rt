@@ -7,7 +7,7 @@ ghost use Rattle.comemo_site.specs.Sites.{site_answer};
 ghost use Rattle.comemo_site.specs.Pages.{block_html, page_html};
 
 use crate::block::Block;
-use crate::html::Html;
+use crate::html::{Html, Rendered};
 use crate::site::{Site, SiteCall};
 use crate::text::Text;
 use crate::title::Title;
@@ -23,7 +23,7 @@ impl Function for Render {
 
     type Of = Site;
 
-    type Out = Html;
+    type Out = Rendered;
 
     ghost means = { λ key m out. out ≡ page_html m key.1 key.0 };
 
@@ -41,12 +41,12 @@ pub fn rendered<P: Hold<MemoOf<Render>>, T: Hold<MemoOf<Title>>>(
     name: Text,
     limit: u64,
     site: &mut Recorder<'_, Site>,
-) -> Result<Html, Fault>
+) -> Result<Rendered, Fault>
     ensures { TellsOwn ⟦<Site as Told>⟧.fits site.old site.new result
         (λ html m. html ≡ page_html m limit name) }
 {
     if limit == 0 {
-        return Ok(Html::new(alloc));
+        return Ok(Rendered::new());
     }
     let key = (name, limit);
     let mut run = match site.begin(&mut kept.0, &key)? {
@@ -61,7 +61,7 @@ pub fn rendered<P: Hold<MemoOf<Render>>, T: Hold<MemoOf<Title>>>(
         let part = block_rendered(alloc, kept, block, limit - 1, recorder)?;
         html.push(part.as_bytes())?;
     }
-    site.finish(&mut kept.0, &key, run, html)
+    site.finish(&mut kept.0, &key, run, html.finish()?)
 }
 
 /// The HTML of a block, with the page that it includes up to a depth of `limit`.
@@ -72,20 +72,20 @@ fn block_rendered<P: Hold<MemoOf<Render>>, T: Hold<MemoOf<Title>>>(
     block: &Block,
     limit: u64,
     site: &mut Recorder<'_, Site>,
-) -> Result<Html, Fault>
+) -> Result<Rendered, Fault>
     ensures { TellsOwn ⟦<Site as Told>⟧.fits site.old site.new result
         (λ html m. html ≡ block_html m (page_html m limit) block.now) }
 {
     match block {
-        Block::Plain(plain) => Ok(Html::of_plain(alloc, plain)?),
+        Block::Plain(plain) => Ok(Rendered::of_plain(alloc, plain)?),
         Block::Include(name) => rendered(alloc, kept, name.clone()?, limit, site),
         Block::Link(name) => {
             let title = site.call_other(&mut kept.1, &mut (), (name.clone()?, ()))?;
-            Ok(Html::link(alloc, title, name)?)
+            Ok(Rendered::link(alloc, title, name)?)
         }
         Block::Entry(name) => {
             let title = site.call_other(&mut kept.1, &mut (), (name.clone()?, ()))?;
-            Ok(Html::entry(alloc, title, name)?)
+            Ok(Rendered::entry(alloc, title, name)?)
         }
     }
 }
@@ -97,7 +97,7 @@ pub fn page_now<P: Hold<MemoOf<Render>>, T: Hold<MemoOf<Title>>>(
     site: &Site,
     name: Text,
     limit: u64,
-) -> Result<Html, Fault>
+) -> Result<Rendered, Fault>
     ensures { IfOk result (λ html. html ≡ page_html (site_answer site.now.pages) limit name) }
 {
     let mut recorder = Recorder::new(alloc, site.track(alloc));

@@ -1,9 +1,9 @@
 //! A site of pages by name: a tracked value that is only read.
-ghost use Rattle.std.specs.Prelude.{◌≡◌, ℕ, List, None, Some, false, refl, bytes_eq, if◌then◌else◌, string_bytes, unwrap_or, [], IsTrue, IfOk, OnOk, OnErr};
+ghost use Rattle.std.specs.Prelude.{◌≡◌, ℕ, List, None, Some, false, refl, bytes_eq, if◌then◌else◌, string_bytes, unwrap_or, [], IfOk, OnOk, OnErr, option_copied};
 ghost use Rattle.std.proofs.Common.{rules};
 ghost use Rattle.comemo_site.specs.Sites.{page_of, title_answer, blocks_answer, title_in, blocks_in};
 
-use crate::block::Block;
+use crate::block::{Block, Blocks};
 use crate::text::Text;
 use comemo::{Call, Track};
 use std::alloc::{AllocError, Global};
@@ -44,7 +44,7 @@ pub enum SiteAnswer {
     /// Its title.
     Title(Text),
     /// Its blocks.
-    Blocks(Vec<Block>),
+    Blocks(Blocks),
 }
 
 impl SiteAnswer {
@@ -75,7 +75,7 @@ pub struct Page {
     /// Its title.
     pub title: Text,
     /// Its blocks.
-    pub blocks: Vec<Block>,
+    pub blocks: Blocks,
 }
 
 /// A site: the pages by their names.
@@ -117,7 +117,14 @@ impl Site {
         self.pages.remove(name);
     }
 
-    /// The answer with a page's title, copied.
+    /// The page of a name; `None` if there is no such page.
+    pub fn get(&self, name: &str) -> Option<&Page>
+        ensures { option_copied result ≡ page_of self.now.pages name.now }
+    {
+        self.pages.get(name)
+    }
+
+    /// The answer with a page's title.
     fn title(&self, name: &str) -> Result<SiteAnswer, AllocError>
         ensures { IfOk result (λ answer. answer ≡ title_answer (page_of self.now.pages name.now)) }
     {
@@ -128,10 +135,9 @@ impl Site {
         Ok(SiteAnswer::Title(title))
     }
 
-    /// The answer with a page's blocks, copied.
+    /// The answer with a page's blocks.
     fn blocks(&self, name: &str) -> Result<SiteAnswer, AllocError>
-        ensures { IfOk result (λ answer. IsTrue (⟦<SiteAnswer as PartialEq>⟧.eq
-            (blocks_answer (page_of self.now.pages name.now)) answer)) }
+        ensures { IfOk result (λ answer. answer ≡ blocks_answer (page_of self.now.pages name.now)) }
     {
         let Some(page) = self.pages.get(name) else {
             return Ok(SiteAnswer::Missing);
@@ -155,6 +161,7 @@ impl Track for Site {
 
     ghost clones = { answer_clones };
 
+    #[tactic(auto, using(crate::specs::SiteLaws::answer_refl))]
     fn ask(&self, call: &SiteCall) -> Result<SiteAnswer, AllocError> {
         match call {
             SiteCall::TitleOf(name) => self.title(name.as_str()),

@@ -3,7 +3,7 @@ ghost use Rattle.std.specs.Prelude.{◌≡◌, ℕ, ◌<◌, length, IfOk, slice
 ghost use Rattle.comemo_site.specs.Sites.{site_answer};
 ghost use Rattle.comemo_site.specs.Pages.{page_html};
 
-use crate::html::Html;
+use crate::html::Rendered;
 use crate::render::{Render, page_now};
 use crate::site::Site;
 use crate::text::Text;
@@ -24,7 +24,7 @@ pub fn shared_page<R: Wait>(
     site: &Site,
     name: &Text,
     limit: u64,
-) -> Result<Html, Fault>
+) -> Result<Rendered, Fault>
     ensures { IfOk result (λ html. html ≡ page_html (site_answer site.now.pages) limit name.now) }
 {
     let mut kept = (shared.0.hold(rt), shared.1.hold(rt));
@@ -41,7 +41,7 @@ pub fn table<R: Threads + Wait + Sync>(
     site: &Site,
     names: &[Text],
     limit: u64,
-) -> Result<Vec<Result<Html, Fault>>, AllocError>
+) -> Result<Vec<Result<Rendered, Fault>>, AllocError>
     ensures { IfOk result (λ pages. (i : ℕ) (d : _) (e : _) → i < length names.now
         → IfOk (slice_index_or pages.items i e) (λ html. html
         ≡ page_html (site_answer site.now.pages) limit (slice_index_or names.now i d))) }

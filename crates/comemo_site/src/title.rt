@@ -26,6 +26,7 @@ impl Function for Title {
 impl Run for Title {
     type Needs = ();
 
+    #[tactic(auto, using(crate::specs::SiteLaws::title_alike))]
     fn run(
         key: &(Text, ()),
         site: &mut Recorder<'_, Site>,

@@ -2,7 +2,7 @@
 
 use comemo::{Cache, CacheData, Caches, How, MemoOf, ReadAndWrite, Top, Track, memoized_mut_with};
 use comemo_site::build::Publish;
-use comemo_site::html::Html;
+use comemo_site::html::{Html, Rendered};
 use comemo_site::link::Link;
 use comemo_site::log::{Log, Warning};
 use comemo_site::parse::parse;
@@ -53,7 +53,7 @@ fn small_site(alloc: Global) -> Result<Site, AllocError> {
     Ok(site)
 }
 
-fn page(alloc: Global, kept: &mut Kept, site: &Site, name: &str) -> Result<Html, Fail> {
+fn page(alloc: Global, kept: &mut Kept, site: &Site, name: &str) -> Result<Rendered, Fail> {
     let page = page_now(alloc, kept, site, text(alloc, name)?, 4)?;
     Ok(page)
 }

@@ -4,9 +4,9 @@ use comemo::{Cache, Fault};
 use comemo_site::log::Warning;
 use comemo_site::names::{document_path, page_name};
 use comemo_site::parse::parse;
-use comemo_site::publish::{Published, Settings, SharedBuilt, publish_all};
+use comemo_site::publish::{Published, Settings, SharedBuilt, is_reached, publish_all};
 use comemo_site::report::{Summary, is_changed, round_line, warning_line};
-use comemo_site::site::Site;
+use comemo_site::site::{Site, SiteCall};
 use comemo_site::tally::Tally;
 use comemo_site::text::Text;
 use std::alloc::{AllocError, Global};
@@ -205,6 +205,44 @@ fn an_edit_is_explained(rt: HostRuntime) -> Result<(), Fail> {
     let pages = publish_all(&rt, alloc, &shared, &site, names, one)?;
     let (_, tally) = reasons(alloc, names, pages.as_slice())?;
     assert_eq!(rt; tally, Tally { runs: 15, hits: 2 });
+    Ok(())
+}
+
+#[test]
+fn a_change_reaches_who_asked(rt: HostRuntime) -> Result<(), Fail> {
+    let alloc = rt.alloc();
+    let (site, names) = ten_pages(alloc)?;
+    let shared: SharedBuilt = (Cache::new(alloc), Cache::new(alloc));
+    let pages = publish_all(&rt, alloc, &shared, &site, names.as_slice(), SETTINGS)?;
+    let call = |name| Text::from_str(alloc, name);
+    let cases = [
+        (
+            SiteCall::BlocksOf(call("footer")?),
+            "about contact footer index ",
+        ),
+        (SiteCall::TitleOf(call("footer")?), "index "),
+        (
+            SiteCall::TitleOf(call("index")?),
+            "about contact footer index ",
+        ),
+        (SiteCall::BlocksOf(call("news")?), "index news "),
+        (SiteCall::TitleOf(call("nowhere")?), "broken "),
+        (SiteCall::BlocksOf(call("lost")?), "broken "),
+        (SiteCall::BlocksOf(call("other")?), ""),
+    ];
+    for (changed, expected) in cases {
+        let changed = [changed];
+        let mut reached = String::new(alloc);
+        for (name, page) in names.iter().zip(&pages) {
+            if let Ok(page) = page {
+                if is_reached(&page.reads, changed.as_slice()) {
+                    reached.push_str(name.as_str())?;
+                    reached.push(' ')?;
+                }
+            }
+        }
+        assert_eq!(rt; reached.as_str(), expected);
+    }
     Ok(())
 }
 

@@ -1,7 +1,7 @@
 //! What sources are parsed to, and their documents.
 
 use comemo::CacheData;
-use comemo_site::html::Html;
+use comemo_site::html::{Html, Rendered};
 use comemo_site::parse::parse;
 use comemo_site::render::{Kept, page_now};
 use comemo_site::site::Site;
@@ -10,7 +10,7 @@ use std::alloc::Global;
 use std::test::Fail;
 
 /// The title and the HTML of a page `a` with this source, beside a page `b` whose title is `B & <B>`.
-fn rendered(alloc: Global, source: &str) -> Result<(Text, Html), Fail> {
+fn rendered(alloc: Global, source: &str) -> Result<(Text, Rendered), Fail> {
     let page = parse(alloc, "a", source)?;
     let title = page.title.clone()?;
     let mut site = Site::new(alloc);
@@ -103,6 +103,7 @@ fn a_document_has_its_title_and_the_way_up(rt: HostRuntime) -> Result<(), Fail> 
     let title = Text::from_str(alloc, "R&D")?;
     let mut body = Html::new(alloc);
     body.push(b"<p>x</p>\n")?;
+    let body = body.finish()?;
     let flat = b"<!DOCTYPE html>\n<html>\n<head>\n<meta charset=\"utf-8\">\n<base href=\"./\">\n\
         <title>R&amp;D</title>\n</head>\n<body>\n<p>x</p>\n</body>\n</html>\n";
     let deep =

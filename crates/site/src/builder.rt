@@ -7,12 +7,13 @@ use anyhow::{Context, Result};
 use comemo::{Cache, Fault};
 use comemo_site::names::page_name;
 use comemo_site::parse::parse;
-use comemo_site::publish::{Published, Settings, SharedBuilt, publish_all};
+use comemo_site::publish::{Published, Reads, Settings, SharedBuilt, is_reached, publish_all};
 use comemo_site::report::{Summary, warning_line};
-use comemo_site::site::Site;
+use comemo_site::site::{Site, SiteCall};
 use comemo_site::tally::Tally;
 use comemo_site::text::Text;
-use std::collections::BTreeMap;
+use std::alloc::Global;
+use std::collections::{BTreeMap, BTreeSet, HashMap};
 use std::io::ErrorKind;
 use std::rt::Runtime;
 use std::sync::Wait;
@@ -25,6 +26,20 @@ const LIMIT: u64 = 8;
 /// What was not used in so many rounds is dropped.
 const ROUNDS_KEPT: usize = 5;
 
+/// After more changes than these all pages are published again.
+const FEW: usize = 16;
+
+/// A page that was read.
+#[derive(Drop)]
+struct Owned {
+    /// Its file.
+    path: String,
+    /// Its name.
+    name: Text,
+    /// What its document rests on; `None` if it is not written.
+    reads: Option<Reads>,
+}
+
 /// The pages as they were last read, and what is kept of them.
 #[derive(Drop)]
 pub struct Builder<'a> {
@@ -34,8 +49,10 @@ pub struct Builder<'a> {
     shared: SharedBuilt,
     /// The files as they were when they were last read.
     known: Listing,
-    /// The files of the pages, by the names of the pages.
-    owners: BTreeMap<String, String>,
+    /// The files that could not be read.
+    broken: BTreeSet<String>,
+    /// The pages by their names.
+    pages: BTreeMap<String, Owned>,
     /// Whether there was a round.
     is_begun: bool,
     /// What became of the last round.
@@ -66,8 +83,9 @@ impl<'a> Builder<'a> {
             explains,
             site: Site::new(alloc),
             shared: (Cache::new(alloc), Cache::new(alloc)),
-            known: BTreeMap::new(alloc),
-            owners: BTreeMap::new(alloc),
+            known: HashMap::new(alloc),
+            broken: BTreeSet::new(alloc),
+            pages: BTreeMap::new(alloc),
             is_begun: false,
             summary: Summary::new(),
         }
@@ -79,97 +97,167 @@ impl<'a> Builder<'a> {
         complain(rt, what)
     }
 
-    /// Drops the page of a file that is gone.
-    fn forget(&mut self, path: &str) {
-        let Some(name) = page_name(path) else {
-            return;
-        };
-        if self
-            .owners
-            .get(name)
-            .is_some_and(|owner| owner.as_str() == path)
-        {
-            self.owners.remove(name);
-            self.site.remove(name);
-        }
-    }
-
-    /// Reads the file of a page.
-    fn read<R: Runtime + AllocGlobal>(&mut self, rt: &R, path: &str) -> Result<()> {
+    /// Drops the page of a file that is gone or cannot be read.
+    fn forget(&mut self, alloc: Global, path: &str, changed: &mut Vec<SiteCall>) -> Result<()> {
+        self.broken.remove(path);
         let Some(name) = page_name(path) else {
             return Ok(());
         };
-        let source = self.request.source;
-        if let Some(owner) = self.owners.get(name) {
-            if owner.as_str() != path {
-                let what = format!(in rt.alloc();
-                    "{source}/{path}: the page {name} is in {owner} already"
-                )?;
-                return self.fail(rt, what.as_str());
-            }
+        if self
+            .pages
+            .get(name)
+            .is_some_and(|page| page.path.as_str() == path)
+        {
+            self.pages.remove(name);
+            self.site.remove(name);
+            let name = Text::from_str(alloc, name)?;
+            changed.push(SiteCall::TitleOf(name.clone()?))?;
+            changed.push(SiteCall::BlocksOf(name))?;
         }
-        self.forget(path);
-        let text = match fs::read_to_string(rt, format!(in rt.alloc(); "{source}/{path}")?) {
-            Ok(text) => text,
-            Err(error) => {
-                let what = if error.kind() == ErrorKind::InvalidData {
-                    format!(in rt.alloc(); "{source}/{path}: not UTF-8")?
-                } else {
-                    format!(in rt.alloc(); "{source}/{path}: {error}")?
-                };
-                return self.fail(rt, what.as_str());
-            }
-        };
-        let page = parse(rt.alloc(), name, text.as_str())?;
-        self.site.set(String::from_str(rt.alloc(), name)?, page)?;
-        let owner = String::from_str(rt.alloc(), path)?;
-        self.owners
-            .insert(String::from_str(rt.alloc(), name)?, owner)?;
         Ok(())
     }
 
-    /// Whether the page of a file is this file's.
-    fn has_page(&self, path: &str) -> bool {
-        match page_name(path) {
-            Some(name) => match self.owners.get(name) {
-                Some(owner) => owner.as_str() == path,
-                None => false,
-            },
-            None => false,
+    /// The text of a file; `None`, and it is said why, if it cannot be read or its page is another file's.
+    fn text_of<R: Runtime + AllocGlobal>(
+        &mut self,
+        rt: &R,
+        path: &str,
+        name: &str,
+    ) -> Result<Option<String>> {
+        let source = self.request.source;
+        if let Some(page) = self.pages.get(name) {
+            let owner = page.path.as_str();
+            if owner != path {
+                let what = format!(in rt.alloc();
+                    "{source}/{path}: the page {name} is in {owner} already"
+                )?;
+                self.fail(rt, what.as_str())?;
+                return Ok(None);
+            }
         }
+        let error = match fs::read_to_string(rt, format!(in rt.alloc(); "{source}/{path}")?) {
+            Ok(text) => return Ok(Some(text)),
+            Err(error) => error,
+        };
+        let what = if error.kind() == ErrorKind::InvalidData {
+            format!(in rt.alloc(); "{source}/{path}: not UTF-8")?
+        } else {
+            format!(in rt.alloc(); "{source}/{path}: {error}")?
+        };
+        self.fail(rt, what.as_str())?;
+        Ok(None)
     }
 
-    /// Reads what changed in the folder, and says how many files did.
-    fn update<R: Runtime + AllocGlobal>(&mut self, rt: &R, files: Listing) -> Result<u64> {
-        let mut changed = 0u64;
-        let known = mem::replace(&mut self.known, BTreeMap::new(rt.alloc()));
-        for path in known.keys() {
+    /// Reads the file of a page, and lists the calls that the site answers otherwise since.
+    fn read<R: Runtime + AllocGlobal>(
+        &mut self,
+        rt: &R,
+        path: &str,
+        changed: &mut Vec<SiteCall>,
+    ) -> Result<()> {
+        let alloc = rt.alloc();
+        let Some(name) = page_name(path) else {
+            return Ok(());
+        };
+        let Some(text) = self.text_of(rt, path, name)? else {
+            self.forget(alloc, path, changed)?;
+            self.broken.insert(String::from_str(alloc, path)?)?;
+            return Ok(());
+        };
+        self.broken.remove(path);
+        let page = parse(alloc, name, text.as_str())?;
+        let own = Text::from_str(alloc, name)?;
+        let old = self.site.get(name);
+        if !old.is_some_and(|old| old.title == page.title) {
+            changed.push(SiteCall::TitleOf(own.clone()?))?;
+        }
+        if !old.is_some_and(|old| old.blocks == page.blocks) {
+            changed.push(SiteCall::BlocksOf(own.clone()?))?;
+        }
+        self.site.set(String::from_str(alloc, name)?, page)?;
+        let reads = match self.pages.remove(name) {
+            Some(page) => page.reads,
+            None => None,
+        };
+        let owned = Owned {
+            path: String::from_str(alloc, path)?,
+            name: own,
+            reads,
+        };
+        self.pages.insert(String::from_str(alloc, name)?, owned)?;
+        Ok(())
+    }
+
+    /// The files that are gone, and those that are new or have another stamp, in order.
+    fn differing<R: AllocGlobal>(
+        &self,
+        rt: &R,
+        files: &Listing,
+    ) -> Result<(Vec<String>, Vec<String>)> {
+        let mut gone = Vec::new(rt.alloc());
+        let mut fresh = Vec::new(rt.alloc());
+        for path in self.known.keys() {
             if !files.contains_key(path) {
-                self.forget(path.as_str());
-                changed = changed.saturating_add(1);
+                gone.push(path.clone()?)?;
             }
         }
-        for (path, stamp) in &files {
-            let is_new = known.get(path) != Some(stamp);
-            if is_new {
-                changed = changed.saturating_add(1);
-            }
-            // A file that could not be read is tried again.
-            if is_new || !self.has_page(path.as_str()) {
-                self.read(rt, path.as_str())?;
+        for (path, stamp) in files {
+            if self.known.get(path) != Some(stamp) {
+                fresh.push(path.clone()?)?;
             }
         }
-        self.known = files;
+        gone.sort()?;
+        fresh.sort()?;
+        Ok((gone, fresh))
+    }
+
+    /// Reads what changed in the folder, and lists the calls that the site answers otherwise since.
+    fn update<R: Runtime + AllocGlobal>(
+        &mut self,
+        rt: &R,
+        gone: &[String],
+        fresh: &[String],
+    ) -> Result<Vec<SiteCall>> {
+        let alloc = rt.alloc();
+        let mut changed = Vec::new(alloc);
+        for path in gone {
+            self.forget(alloc, path.as_str(), &mut changed)?;
+        }
+        // A file that could not be read is tried again.
+        let broken = mem::replace(&mut self.broken, BTreeSet::new(alloc));
+        for path in &broken {
+            self.read(rt, path.as_str(), &mut changed)?;
+        }
+        for path in fresh {
+            if !broken.contains(path) {
+                self.read(rt, path.as_str(), &mut changed)?;
+            }
+        }
         Ok(changed)
     }
 
-    /// The names of the pages.
-    fn names<R: AllocGlobal>(&self, rt: &R) -> Result<Vec<Text>> {
-        let mut names = Vec::with_capacity(rt.alloc(), self.owners.len())?;
-        for name in self.owners.keys() {
-            names.push(Text::from_str(rt.alloc(), name.as_str())?)?;
+    /// The names of the pages whose documents may be others after these calls changed, or were not written.
+    fn due<R: AllocGlobal>(&mut self, rt: &R, changed: &[SiteCall]) -> Result<Vec<Text>> {
+        let mut names = Vec::new(rt.alloc());
+        for page in self.pages.values() {
+            let is_due = match &page.reads {
+                Some(reads) => changed.len() > FEW || is_reached(reads, changed),
+                None => true,
+            };
+            if is_due {
+                names.push(page.name.clone()?)?;
+            }
         }
+        let stay = self.pages.len().saturating_sub(names.len());
+        self.summary.unchanged = u64::try_from(stay).unwrap_or(u64::MAX);
         Ok(names)
+    }
+
+    /// Keeps what the document of a page rests on; `None` if it is not written.
+    fn keep(&mut self, name: &str, reads: Option<Reads>) {
+        if let Some(page) = self.pages.get_mut(name) {
+            page.reads = reads;
+        }
     }
 
     /// Writes the document of a page, and says what is wrong with the page.
@@ -177,7 +265,7 @@ impl<'a> Builder<'a> {
         &mut self,
         rt: &R,
         name: &Text,
-        page: &Published,
+        page: Published,
     ) -> Result<()> {
         for warning in &page.warnings {
             let line = warning_line(rt.alloc(), name.as_str(), warning)?;
@@ -188,19 +276,23 @@ impl<'a> Builder<'a> {
             Ok(true) => self.summary.written = self.summary.written.saturating_add(1),
             Ok(false) => self.summary.unchanged = self.summary.unchanged.saturating_add(1),
             Err(error) => {
+                self.keep(name.as_str(), None);
                 let what = format!(in rt.alloc(); "{error:#}")?;
-                self.fail(rt, what.as_str())?;
+                return self.fail(rt, what.as_str());
             }
         }
+        self.keep(name.as_str(), Some(page.reads));
         Ok(())
     }
 
-    /// Renders all pages, writes what changed, and says how many calls ran. What is old is dropped.
+    /// Publishes what may be another after these calls changed, writes what is, and says how many calls ran. What is
+    /// old is dropped.
     fn publish<R: Runtime + AllocGlobal + Threads + Wait + Sync>(
         &mut self,
         rt: &R,
+        changed: &[SiteCall],
     ) -> Result<Tally> {
-        let names = self.names(rt)?;
+        let names = self.due(rt, changed)?;
         let settings = Settings {
             limit: LIMIT,
             jobs: self.request.jobs.max(1),
@@ -221,7 +313,7 @@ impl<'a> Builder<'a> {
             }
         }
         let mut tally = Tally::new();
-        for (name, page) in names.iter().zip(&pages) {
+        for (name, page) in names.iter().zip(pages) {
             match page {
                 Ok(page) => {
                     tally.add(page.tally);
@@ -229,6 +321,7 @@ impl<'a> Builder<'a> {
                 }
                 Err(_) => {
                     let name = name.as_str();
+                    self.keep(name, None);
                     let what = format!(in alloc; "{name}: out of memory")?;
                     self.fail(rt, what.as_str())?;
                 }
@@ -246,17 +339,20 @@ impl<'a> Builder<'a> {
         found: Found,
     ) -> Result<Option<(u64, Tally)>> {
         let Found { files, problems } = found;
-        if self.is_begun && files == self.known {
+        let (gone, fresh) = self.differing(rt, &files)?;
+        let count = gone.len().saturating_add(fresh.len());
+        if self.is_begun && count == 0 {
             return Ok(None);
         }
         self.is_begun = true;
+        self.known = files;
         self.summary = Summary::new();
         for problem in &problems {
             self.fail(rt, problem.as_str())?;
         }
-        let changed = self.update(rt, files)?;
-        let tally = self.publish(rt)?;
-        Ok(Some((changed, tally)))
+        let changed = self.update(rt, gone.as_slice(), fresh.as_slice())?;
+        let tally = self.publish(rt, changed.as_slice())?;
+        Ok(Some((u64::try_from(count).unwrap_or(u64::MAX), tally)))
     }
 }
 

@@ -36,7 +36,9 @@ fn with_folders<'a>(alloc: Global, command: Command<'a>) -> Result<Command<'a>, 
         .help("The folder of the pages, which are its .md and .txt files")
         .required(true);
     let output = Arg::new(alloc, "OUTPUT")
-        .help("The folder of the documents, which is made if it is missing")
+        .help(
+            "The folder of the documents, which is made if it is missing. Documents of pages that are gone stay",
+        )
         .required(true);
     let jobs = Arg::new(alloc, "jobs")
         .long("jobs")

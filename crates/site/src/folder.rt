@@ -2,7 +2,7 @@
 
 use anyhow::{Context, Result};
 use comemo_site::names::page_name;
-use std::collections::BTreeMap;
+use std::collections::HashMap;
 use std::fs::{DirEntry, Metadata};
 use std::rt::Runtime;
 use std::time::SystemTime;
@@ -16,7 +16,7 @@ pub struct Stamp {
 }
 
 /// The files of pages by their paths below the folder.
-pub type Listing = BTreeMap<String, Stamp>;
+pub type Listing = HashMap<String, Stamp>;
 
 /// What was found in a folder.
 #[derive(Drop)]
@@ -94,7 +94,7 @@ impl Found {
 /// The files of pages in a folder and the folders in it. Fails if the folder itself cannot be read.
 pub fn list<R: Runtime + AllocGlobal>(rt: &R, folder: &str) -> Result<Found> {
     let mut found = Found {
-        files: BTreeMap::new(rt.alloc()),
+        files: HashMap::new(rt.alloc()),
         problems: Vec::new(rt.alloc()),
     };
     let mut folders = Vec::new(rt.alloc());

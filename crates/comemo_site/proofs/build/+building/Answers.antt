@@ -45,24 +45,27 @@ draft-returns-in_err-part-clause-tells g t c = stopped_after (writes_both (calle
 pub draft-returns-in_err-push-clause-tells : goal.draft-returns-in_err-push-clause-tells
 draft-returns-in_err-push-clause-tells g t c = memory_after (writes_both (called c.in_ok-blocks.ensures.tells c.in_ok-blocks.ensures.writes) _ (writes_both c.loop-block.invariant.tells _ c.in_ok-part.ensures.tells)) c.from_residual-in_err-push.result (search (rules, c.from_residual-in_err-push.ensures))
 
+pub draft-returns-in_err-finish-clause-tells : goal.draft-returns-in_err-finish-clause-tells
+draft-returns-in_err-finish-clause-tells g t c = memory_after (writes_both (called c.in_ok-blocks.ensures.tells c.in_ok-blocks.ensures.writes) _ c.loop-block.invariant.tells) c.from_residual-in_err-finish.result (search (rules, c.from_residual-in_err-finish.ensures))
+
 pub draft-loop-block-preserved : goal.draft-loop-block-preserved
 draft-loop-block-preserved g t c = record {
   agrees = c.in_ok-part.ensures.agrees;
   tells = writes_to (printed_both _ _ c.loop-block.invariant.tells c.in_ok-part.ensures.tells) (λ m W f k site p. (
-    search (rules, fold_more (λ html block. html ++ block_html site (page_html site c.args.limit) block) [] c.deref-block-items.result.now c.loop-block.block-index c.block-item.result, (k site p).0),
-    search (rules, fold_more (λ them block. them ++ block_warnings site (page_warnings site c.args.limit) block) [] c.deref-block-items.result.now c.loop-block.block-index c.block-item.result, (k site p).1),
+    search (rules, fold_more (λ html block. html ++ block_html site (page_html site c.args.limit) block) [] c.as_slice-block-items.result.now c.loop-block.block-index c.block-item.result, (k site p).0),
+    search (rules, fold_more (λ them block. them ++ block_warnings site (page_warnings site c.args.limit) block) [] c.as_slice-block-items.result.now c.loop-block.block-index c.block-item.result, (k site p).1),
   ));
 }
 
 pub draft-returns-clause-tells : goal.draft-returns-clause-tells
 draft-returns-clause-tells g t c =
     let next : c.args.limit + 1 ≡ suc c.args.limit = omega arith in
-    let are : blocks_in c.in_ok-blocks.field-0 ≡ Some c.in-Blocks.blocks.items = rw c.in-Blocks.is refl in
-    let every = take_all c.loop-block.block-index c.deref-block-items.result.now c.loop-block-test.false ∙ c.deref-block-items.ensures.value in
+    let are : blocks_in c.in_ok-blocks.field-0 ≡ Some c.in-Blocks.blocks = rw c.in-Blocks.is refl in
+    let every = take_all c.loop-block.block-index c.as_slice-block-items.result.now c.loop-block-test.false ∙ c.as_slice-block-items.ensures in
     writes_to (writes_both (called c.in_ok-blocks.ensures.tells c.in_ok-blocks.ensures.writes) _ c.loop-block.invariant.tells) (λ m W f k site p.
     let asked = blocks_alike (site (BlocksOf c.args.name.now)) c.in_ok-blocks.field-0 (search (rules, k.3.1 site p)) ∙ are in
     let done = subst (λ blocks. (c.loop-block.html ≡ in_turn (block_html site (page_html site c.args.limit)) blocks) × (k.1 ≡ map second_call (in_turn (block_warnings site (page_warnings site c.args.limit)) blocks))) every (k.4 site p) in
-    rw (k.2, k.3.0, next, asked) done)
+    rw (k.2, k.3.0, next, asked, c.in_ok-finish.ensures) done)
 
 pub block_built-returns-in_ok-clone-in-Include-clause-tells : goal.block_built-returns-in_ok-clone-in-Include-clause-tells
 block_built-returns-in_ok-clone-in-Include-clause-tells g t c = writes_as c.built.result c.built.ensures.tells (λ x m W f h site p. search (rules, h site p))
