@@ -3,7 +3,7 @@ ghost use Rattle.std.specs.Prelude.{◌≡◌, ◌++◌, codes, true, IfOk, stri
 ghost use Rattle.comemo.specs.Held.{Held};
 ghost use Rattle.comemo.specs.Meaning.{invocation};
 ghost use Rattle.comemo.specs.Multi.{part_answers};
-ghost use Rattle.comemo_cache.specs.Explaining.{Explains};
+ghost use Rattle.comemo.specs.Explaining.{Explains};
 ghost use Rattle.comemo_site.specs.Reasons.{reason_of, reason_text};
 ghost use Rattle.comemo_site.specs.Sites.{site_answer};
 
