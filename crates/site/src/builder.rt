@@ -23,8 +23,8 @@ use std::{fs, mem};
 /// How deep includes go.
 const LIMIT: u64 = 8;
 
-/// What was not used in so many rounds is dropped.
-const ROUNDS_KEPT: usize = 5;
+/// What is old is dropped after each page was published so many times, on average.
+const TIMES: usize = 4;
 
 /// After more changes than these all pages are published again.
 const FEW: usize = 16;
@@ -36,7 +36,9 @@ struct Owned {
     path: String,
     /// Its name.
     name: Text,
-    /// What its document rests on; `None` if it is not written.
+    /// The question for its title, which its document shows too.
+    title: SiteCall,
+    /// What its text and warnings rest on; `None` if its document is not written.
     reads: Option<Reads>,
 }
 
@@ -55,6 +57,8 @@ pub struct Builder<'a> {
     pages: BTreeMap<String, Owned>,
     /// Whether there was a round.
     is_begun: bool,
+    /// How many pages were published since what is old was dropped.
+    published: usize,
     /// What became of the last round.
     pub summary: Summary,
 }
@@ -87,6 +91,7 @@ impl<'a> Builder<'a> {
             broken: BTreeSet::new(alloc),
             pages: BTreeMap::new(alloc),
             is_begun: false,
+            published: 0,
             summary: Summary::new(),
         }
     }
@@ -181,6 +186,7 @@ impl<'a> Builder<'a> {
         };
         let owned = Owned {
             path: String::from_str(alloc, path)?,
+            title: SiteCall::TitleOf(own.clone()?),
             name: own,
             reads,
         };
@@ -241,7 +247,11 @@ impl<'a> Builder<'a> {
         let mut names = Vec::new(rt.alloc());
         for page in self.pages.values() {
             let is_due = match &page.reads {
-                Some(reads) => changed.len() > FEW || is_reached(reads, changed),
+                Some(reads) => {
+                    changed.len() > FEW
+                        || changed.contains(&page.title)
+                        || is_reached(reads, changed)
+                }
                 None => true,
             };
             if is_due {
@@ -285,27 +295,46 @@ impl<'a> Builder<'a> {
         Ok(())
     }
 
-    /// Publishes what may be another after these calls changed, writes what is, and says how many calls ran. What is
-    /// old is dropped.
+    /// How pages are published.
+    fn settings(&self, explains: bool) -> Settings {
+        Settings {
+            limit: LIMIT,
+            jobs: self.request.jobs.max(1),
+            explains,
+        }
+    }
+
+    /// Calls for all pages, and drops what was not used since the last time.
+    fn sweep<R: Runtime + AllocGlobal + Threads + Wait + Sync>(&mut self, rt: &R) -> Result<()> {
+        let alloc = rt.alloc();
+        let mut names = Vec::new(alloc);
+        for page in self.pages.values() {
+            names.push(page.name.clone()?)?;
+        }
+        let settings = self.settings(false);
+        let names = names.as_slice();
+        publish_all(rt, alloc, &self.shared, &self.site, names, settings)?;
+        self.shared.0.evict(rt, 1);
+        self.shared.1.evict(rt, 1);
+        self.published = 0;
+        Ok(())
+    }
+
+    /// Publishes what may be another after these calls changed, writes what is, and says how many calls ran.
     fn publish<R: Runtime + AllocGlobal + Threads + Wait + Sync>(
         &mut self,
         rt: &R,
         changed: &[SiteCall],
     ) -> Result<Tally> {
-        let names = self.due(rt, changed)?;
-        let settings = Settings {
-            limit: LIMIT,
-            jobs: self.request.jobs.max(1),
-            explains: self.explains,
-        };
         let alloc = rt.alloc();
+        let names = self.due(rt, changed)?;
         let pages = publish_all(
             rt,
             alloc,
             &self.shared,
             &self.site,
             names.as_slice(),
-            settings,
+            self.settings(self.explains),
         )?;
         for (name, page) in names.iter().zip(&pages) {
             if let Ok(page) = page {
@@ -327,8 +356,10 @@ impl<'a> Builder<'a> {
                 }
             }
         }
-        self.shared.0.evict(rt, ROUNDS_KEPT);
-        self.shared.1.evict(rt, ROUNDS_KEPT);
+        self.published = self.published.saturating_add(names.len());
+        if self.published > self.pages.len().saturating_mul(TIMES) {
+            self.sweep(rt)?;
+        }
         Ok(tally)
     }
 
