@@ -1,4 +1,5 @@
 //! Builds: from the files of pages to those of documents.
+ghost use Rattle.std.specs.Prelude.{◌<◌};
 
 use crate::command::Request;
 use crate::folder::{Found, Listing, list};
@@ -296,7 +297,9 @@ impl<'a> Builder<'a> {
     }
 
     /// How pages are published.
-    fn settings(&self, explains: bool) -> Settings {
+    fn settings(&self, explains: bool) -> Settings
+        ensures { 0 < result.jobs }
+    {
         Settings {
             limit: LIMIT,
             jobs: self.request.jobs.max(1),
