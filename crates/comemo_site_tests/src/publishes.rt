@@ -260,7 +260,8 @@ fn reports_are_printed(rt: HostRuntime) -> Result<(), Fail> {
     let mut tally = Tally::new();
     tally.count_run();
     tally.count_hit();
-    tally.add(tally);
+    let same = tally;
+    tally.add(same);
     let line = round_line(alloc, 7, 1, tally, 12)?;
     assert_eq!(rt;
         line.as_str(),
