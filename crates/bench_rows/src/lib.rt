@@ -50,6 +50,7 @@ mod tally;
 mod texts;
 mod trees;
 mod views;
+pub mod workers;
 mod writes;
 
 pub use broken::Broken;
