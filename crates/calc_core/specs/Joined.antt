@@ -10,8 +10,8 @@ use Rattle.comemo.specs.Recording.{Recording}
 use Rattle.calc_core.specs.declared.files.Files.{Files}
 use Rattle.calc_core.specs.contracts.files.FileCall as file_call
 use Rattle.calc_core.specs.contracts.files.FileCallPartialEq.TheImpl as call
-use Rattle.calc_core.specs.contracts.text.Text as text
-use Rattle.calc_core.specs.contracts.text.TextPartialEq.TheImpl as same_text
+use Rattle.calc_core.specs.contracts.files.text.Text as text
+use Rattle.calc_core.specs.contracts.files.text.TextPartialEq.TheImpl as same_text
 use Rattle.calc_core.specs.Files.{JoinedCall, JoinedAnswer, answers_of, with_key}
 
 -- the derived equality of joined calls, of their answers and, given that of plain keys, of joined keys
