@@ -1,6 +1,7 @@
 //! Calls of memoized functions, and their expected results.
+ghost use Rattle.comemo.specs.Function.{ReadsAlone};
 
-use comemo::{CacheData, Fault, How, MemoOf, Reply, Run, memoized};
+use comemo::{CacheData, Fault, How, Memo, MemoOf, Reply, Run, memoized};
 use std::alloc::Global;
 
 /// Calls a function that needs nothing, outside of any run.
@@ -9,7 +10,9 @@ pub(crate) fn call<F: Run<Needs = ()>>(
     cache: &mut CacheData<MemoOf<F>>,
     key: F::Key,
     of: &F::Of,
-) -> Result<Reply<F::Out>, Fault> {
+) -> Result<Reply<F::Out>, Fault>
+    requires { ReadsAlone ⟦<MemoOf<F> as Memo>⟧.def }
+{
     memoized(alloc, cache, key, of)
 }
 

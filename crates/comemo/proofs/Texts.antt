@@ -34,7 +34,20 @@ module _ {X : Type 0} (same : X → X → Bool) where
   items_clone clone each (x ∷ xs) [] h = search rules
   items_clone clone each (x ∷ xs) (y ∷ ys) h = search (rules, each x y h.0, items_clone clone each xs ys h.1)
 
--- so are texts
+  -- if equal items are the same, so are lists of equal items
+  pub items_same : ((x y : X) → IsTrue (same x y) → y ≡ x) → (xs ys : List X) → IsTrue (pointwise same xs ys) → ys ≡ xs
+  items_same exact [] [] h = refl
+  items_same exact [] (y ∷ ys) h = search rules
+  items_same exact (x ∷ xs) [] h = search rules
+  items_same exact (x ∷ xs) (y ∷ ys) h =
+      let both : IsTrue (same x y) × IsTrue (pointwise same xs ys) = search rules in
+      rw (exact x y both.0, items_same exact xs ys both.1) refl
+
+-- if equal calls are the same, any answers, each equal to itself, respect equality
+pub respects_same : {C R : Type 0} (eq : C → C → Bool) (same : R → R → Bool) → ((x y : C) → IsTrue (eq x y) → y ≡ x) → ((a : R) → IsTrue (same a a)) → (m : C → R) → Respects eq same m
+respects_same eq same exact each m x y h = subst (λ d. IsTrue (same (m x) (m d))) (sym (exact x y h)) (each (m x))
+
+-- a list of texts is equal to itself, and to its clone
 pub texts_refl : (xs : List (String Global)) → IsTrue (pointwise string_eq xs xs)
 texts_refl = items_refl string_eq (λ x. equal_of_bytes x x refl)
 

@@ -1,5 +1,5 @@
-//! Memoized functions that only read: a function of a key and a tracked value, as one trait and one call. A hit costs
-//! what `begin` costs; any other call costs what `begin`, the run and `Pending::finish` cost.
+//! What a memoized function of a key and a tracked value means, and the run and the calls of one that only reads. A hit
+//! costs what `begin` costs; any other call costs what `begin`, the run and `Pending::finish` cost.
 ghost use Rattle.std.specs.Prelude.{◌≡◌, ◌⊎◌, [], List, true, false, IsTrue, IfOk, IfErr, OnOk, OnErr, ⊤};
 ghost use Rattle.comemo_cache.specs.Meaning.{Naming, unnamed, invocation};
 ghost use Rattle.comemo.specs.FunctionMut.{LawsMut};

@@ -4,7 +4,7 @@ pub use crate::closure::Record;
 pub use crate::function::Told;
 pub use crate::function_mut::ToldMut;
 pub use crate::pending::{Invoked, Pending};
-pub use crate::recursive::Inner;
+pub use crate::recursive::{Inner, MeansAndWrites};
 pub use crate::recursive_mut::InnerMut;
 pub use comemo_base::{CallSequence, InsertError, SipHasher13, Tagged, hash_any};
 pub use comemo_cache::{

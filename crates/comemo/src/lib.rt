@@ -5,7 +5,7 @@
 //! live there now, and the third is not:
 //!
 //! ```rust
-//! use comemo::{CacheData, How, MemoOf, Track, memoized};
+//! use comemo::{CacheData, How, MemoOf, memoized};
 //! use comemo_samples::Town;
 //! use std::test::Fail;
 //!

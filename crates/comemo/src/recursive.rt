@@ -1,18 +1,40 @@
 //! Memoized functions that call themselves: nested calls, by a recorder's `begin` and `finish`.
-ghost use Rattle.std.specs.Prelude.{◌≡◌, [], true, false, List, IsTrue, IfOk, IfErr, OnErr, ⊤};
+ghost use Rattle.std.specs.Prelude.{◌≡◌, ◌↔◌, [], true, false, List, IsTrue, IfOk, IfErr, OnErr, ⊤};
 ghost use Rattle.comemo.specs.Called.{HeldReply};
 ghost use Rattle.comemo_cache.specs.Meaning.{IsNamedRun, invocation, run};
 ghost use Rattle.comemo_cache.specs.Held.{Held, Leads, Stays};
-ghost use Rattle.comemo.specs.Function.{ReadsAlone, WritesNone};
+ghost use Rattle.comemo.specs.Function.{ReadsAlone, WritesNone, writing};
 ghost use Rattle.comemo.specs.Recursive.{TellsOwn, TellsFrom, OnCallBegun, Starts, FinishedAs};
 
 use crate::function::{Function, FunctionOf, MemoOf, Recorder, Told};
 use crate::lent::LentKey;
 use crate::pending::{Begun, Fault, How, Pending, Reply, look_up};
-use comemo_cache::cache::Meant;
+use comemo_cache::cache::{Meant, Memo};
 use comemo_cache::hold::Hold;
 use comemo_track::track::{Call, Track};
 use std::hash::Hash;
+
+/// What a memoized function means, in two parts: which outputs are right, and which writes. The `MemoOf` of each
+/// `Function` has it. A `Memo` of several values that calls itself states it.
+pub trait MeansAndWrites: Memo {
+    // at this key and these answers, this output is right
+    ghost means: { Self.Key → (Self.Call → Self.Answer) → Self.Out → Type 0 };
+
+    // and these writes
+    ghost writes: { Self.Key → (Self.Call → Self.Answer) → Self.Out → List Self.Call → Type 0 };
+
+    // by `def` both are right, and nothing else
+    ghost parts: { (key : Self.Key) (m : Self.Call → Self.Answer) (output : Self.Out)
+        (W : List Self.Call) → Self.Memo.def key m output W ↔ writing means writes key m output W };
+}
+
+impl<F: Function> MeansAndWrites for MemoOf<F> {
+    ghost means = { F.means };
+
+    ghost writes = { F.writes };
+
+    ghost parts = { λ key m output W. (λ right. right, λ right. right) };
+}
 
 /// A nested run, with a recorder of its own. If it is dropped, as by `?`, nothing is stored, and the recorder around it
 /// takes nothing.
@@ -27,23 +49,23 @@ pub struct Inner<'a, K, T: Track> {
 impl<'a, T: Track> Recorder<'a, T> {
     /// Begins a nested call: returns the output of an entry that agrees, or a run with a recorder of its own. On a hit
     /// this recorder takes the entry's path.
-    pub fn begin<F: Function<Of = T>, H: Hold<MemoOf<F>>>(
+    pub fn begin<G: MeansAndWrites<Call = T::Call, Answer = T::Answer>, H: Hold<G>>(
         &mut self,
         cache: &mut H,
-        key: &F::Key,
-    ) -> Result<Begun<F::Out, Inner<'a, F::Key, T>>, Fault>
-        requires { WritesNone F.writes }
+        key: &G::Key,
+    ) -> Result<Begun<G::Out, Inner<'a, G::Key, T>>, Fault>
+        requires { WritesNone G.writes }
         ensures tells { OnCallBegun result (λ reply. TellsOwn ⟦<T as Told>⟧.fits
-            self.old self.new reply (λ output m. F.means key.now m output))
+            self.old self.new reply (λ output m. G.means key.now m output))
             (λ _. TellsFrom ⟦<T as Told>⟧.fits
-            self.old self.new (λ output m. F.means key.now m output)) }
+            self.old self.new (λ output m. G.means key.now m output)) }
         ensures hit { OnCallBegun result (λ told. IfOk told (λ output.
-            (reply : Reply F.Out) × (reply.output ≡ output) × (reply.how ≡ How.Hit)
-            × HeldReply ⟦<MemoOf<F> as Meant>⟧.meaning
+            (reply : Reply G.Out) × (reply.output ≡ output) × (reply.how ≡ How.Hit)
+            × HeldReply ⟦<G as Meant>⟧.meaning
             (invocation key.now (T.answers self.old.value) true) (H.entries cache.old)
             (⟦<T as Told>⟧.took self.old self.new) reply (H.entries cache.new))) (λ _. ⊤) }
         ensures run { OnCallBegun result (λ _. ⊤)
-            (λ inner. Held (H.entries cache.old) (λ es. Starts ⟦<MemoOf<F> as Meant>⟧.meaning es
+            (λ inner. Held (H.entries cache.old) (λ es. Starts ⟦<G as Meant>⟧.meaning es
             (invocation key.now (T.answers self.old.value) true) self.old inner.own
             inner.recorder) × (self.new ≡ self.old)
             × Stays (H.entries cache.old) (H.entries cache.new)) }
@@ -70,26 +92,26 @@ impl<'a, T: Track> Recorder<'a, T> {
     /// Finishes a nested run with its output, and stores it. This recorder takes what the run recorded.
     ///
     /// The output must be right for all answers that agree with the run's recording, which must be complete.
-    pub fn finish<F: Function<Of = T>, H: Hold<MemoOf<F>>>(
+    pub fn finish<G: MeansAndWrites<Call = T::Call, Answer = T::Answer>, H: Hold<G>>(
         &mut self,
         cache: &mut H,
-        key: &F::Key,
-        inner: Inner<'_, F::Key, T>,
-        output: F::Out,
-    ) -> Result<F::Out, Fault>
-        requires reads { WritesNone F.writes }
-        requires own { IsTrue (F.Key.eq key.now inner.own) }
+        key: &G::Key,
+        inner: Inner<'_, G::Key, T>,
+        output: G::Out,
+    ) -> Result<G::Out, Fault>
+        requires reads { WritesNone G.writes }
+        requires own { IsTrue (G.Key.eq key.now inner.own) }
         requires value { inner.recorder.value ≡ self.now.value }
         requires whole { inner.recorder.recording.whole ≡ true }
         requires right { (m : T.Call → T.Answer)
-            → ⟦<T as Told>⟧.fits inner.recorder.recording m → F.means key.now m output }
-        requires settled { IsNamedRun ⟦<MemoOf<F> as Meant>⟧.meaning key.now
+            → ⟦<T as Told>⟧.fits inner.recorder.recording m → G.means key.now m output }
+        requires settled { IsNamedRun ⟦<G as Meant>⟧.meaning key.now
             inner.recorder.recording.pairs }
         ensures tells { TellsOwn ⟦<T as Told>⟧.fits self.old self.new result
-            (λ out m. F.means key.now m out) }
+            (λ out m. G.means key.now m out) }
         ensures finished { IfOk result (λ out. (out ≡ output) × (became : How)
             × Leads (H.entries cache.old) (H.entries cache.new) (λ es es'.
-            FinishedAs ⟦<MemoOf<F> as Meant>⟧.meaning es false (⟦<T as Told>⟧.took self.old self.new)
+            FinishedAs ⟦<G as Meant>⟧.meaning es false (⟦<T as Told>⟧.took self.old self.new)
             (run inner.entry.own inner.entry.recorder.recording.pairs output []) became es')) }
         ensures err { IfErr result (λ fault. (fault ≡ Fault.Memory)
             × Stays (H.entries cache.old) (H.entries cache.new)
@@ -100,26 +122,26 @@ impl<'a, T: Track> Recorder<'a, T> {
     }
 
     /// As `finish`, with the reply: whether the run was stored, or why not.
-    pub fn finish_reply<F: Function<Of = T>, H: Hold<MemoOf<F>>>(
+    pub fn finish_reply<G: MeansAndWrites<Call = T::Call, Answer = T::Answer>, H: Hold<G>>(
         &mut self,
         cache: &mut H,
-        key: &F::Key,
-        inner: Inner<'_, F::Key, T>,
-        output: F::Out,
-    ) -> Result<Reply<F::Out>, Fault>
-        requires reads { WritesNone F.writes }
-        requires own { IsTrue (F.Key.eq key.now inner.own) }
+        key: &G::Key,
+        inner: Inner<'_, G::Key, T>,
+        output: G::Out,
+    ) -> Result<Reply<G::Out>, Fault>
+        requires reads { WritesNone G.writes }
+        requires own { IsTrue (G.Key.eq key.now inner.own) }
         requires value { inner.recorder.value ≡ self.now.value }
         requires whole { inner.recorder.recording.whole ≡ true }
         requires right { (m : T.Call → T.Answer)
-            → ⟦<T as Told>⟧.fits inner.recorder.recording m → F.means key.now m output }
-        requires settled { IsNamedRun ⟦<MemoOf<F> as Meant>⟧.meaning key.now
+            → ⟦<T as Told>⟧.fits inner.recorder.recording m → G.means key.now m output }
+        requires settled { IsNamedRun ⟦<G as Meant>⟧.meaning key.now
             inner.recorder.recording.pairs }
         ensures tells { TellsOwn ⟦<T as Told>⟧.fits self.old self.new result
-            (λ reply m. F.means key.now m reply.output) }
+            (λ reply m. G.means key.now m reply.output) }
         ensures finished { IfOk result (λ reply. (reply.output ≡ output)
             × Leads (H.entries cache.old) (H.entries cache.new) (λ es es'.
-            FinishedAs ⟦<MemoOf<F> as Meant>⟧.meaning es false (⟦<T as Told>⟧.took self.old self.new)
+            FinishedAs ⟦<G as Meant>⟧.meaning es false (⟦<T as Told>⟧.took self.old self.new)
             (run inner.entry.own inner.entry.recorder.recording.pairs output []) reply.how es')) }
         ensures err { IfErr result (λ fault. (fault ≡ Fault.Memory)
             × Stays (H.entries cache.old) (H.entries cache.new)
@@ -131,7 +153,7 @@ impl<'a, T: Track> Recorder<'a, T> {
             view: _,
             recording,
         } = recorder;
-        let pending: Pending<MemoOf<F>> = Pending {
+        let pending: Pending<G> = Pending {
             alloc,
             key: own,
             enabled: true,

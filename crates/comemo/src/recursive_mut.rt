@@ -96,7 +96,7 @@ impl<'a, 'b, T: Track> RecorderMut<'a, 'b, T> {
     }
 
     /// Finishes a nested run by its result: stores its output, or returns its fault. The recording that was set aside
-    /// is back, and takes the run's. Output and writes must be right as in `FunctionMut::run`.
+    /// is back, and takes the run's. Output and writes must be right as in `RunMut::run`.
     pub fn finish<G: Memo<Call = T::Call, Answer = T::Answer>, H: Hold<G>>(
         &mut self,
         cache: &mut H,

@@ -2,6 +2,7 @@ pub mod Greetings
 pub mod Kinds
 pub mod KindLaws
 pub mod Chains
+pub mod Compared
 pub mod Loads
 pub mod ListingLaws
 pub mod LoadLaws

@@ -4,7 +4,7 @@
 //! How warm a town is, asked before it grows and after:
 //!
 //! ```rust
-//! use comemo::{CacheData, How, MemoOf, Track, memoized};
+//! use comemo::{CacheData, How, MemoOf, memoized};
 //! use comemo_guide::warmth::Warmth;
 //! use comemo_samples::Town;
 //!
@@ -24,6 +24,7 @@
 #![tactic(auto)]
 
 pub mod adding;
+pub mod all_equal;
 pub mod both_pass;
 pub mod chains;
 pub mod double;

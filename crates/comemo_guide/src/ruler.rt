@@ -7,7 +7,7 @@ ghost use Rattle.comemo_guide.specs.Rulers.{marks};
 ghost use Rattle.comemo_samples.specs.declared.notebook.NotebookCall.TheVariants.{Owner};
 
 use comemo::internal::{Told, ToldMut, Written};
-use comemo::{Begun, Constraint, Fault, Function, Hold, MemoOf, RecorderMut};
+use comemo::{Begun, Constraint, Fault, Function, Hold, Memo, MemoOf, RecorderMut};
 use comemo_samples::{Notebook, NotebookCall};
 use std::alloc::Global;
 
@@ -40,7 +40,7 @@ pub fn ruled<H: Hold<MemoOf<Ruler>>>(
     ensures agrees { ⟦<Notebook as ToldMut>⟧.agrees (lent book.new.value book.new.recording) }
     ensures tells { TellsWrites ⟦<Notebook as ToldMut>⟧.goes ⟦<Notebook as Told>⟧.fits
         (lent book.old.value book.old.recording) (lent book.new.value book.new.recording) result
-        (λ _ m writes. (writes ≡ marks (m Owner) height) × ⊤) }
+        (λ drawn m writes. ⟦<MemoOf<Ruler> as Memo>⟧.def height m drawn writes) }
 {
     let run = match book.begin(cache, &height)? {
         Begun::Hit(()) => return Ok(()),
@@ -61,7 +61,7 @@ fn draw<H: Hold<MemoOf<Ruler>>>(
     ensures agrees { ⟦<Notebook as ToldMut>⟧.agrees (lent book.new.value book.new.recording) }
     ensures tells { TellsWrites ⟦<Notebook as ToldMut>⟧.goes ⟦<Notebook as Told>⟧.fits
         (lent book.old.value book.old.recording) (lent book.new.value book.new.recording) result
-        (λ _ m writes. (writes ≡ marks (m Owner) height) × ⊤) }
+        (λ drawn m writes. ⟦<MemoOf<Ruler> as Memo>⟧.def height m drawn writes) }
 {
     if height == 0 {
         return Ok(());

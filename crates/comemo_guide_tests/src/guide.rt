@@ -2,8 +2,9 @@
 //! `writing`.
 //!
 //! Some helpers return how many calls, from the first on, have the wanted results.
+ghost use Rattle.comemo.specs.Function.{ReadsAlone};
 
-use comemo::{CacheData, Caches, How, MemoOf, Run, Top, Track, memoized, memoized_with};
+use comemo::{CacheData, Caches, How, Memo, MemoOf, Run, Top, Track, memoized, memoized_with};
 use comemo_guide::both_pass::BothPass;
 use comemo_guide::numbers::{DoubleFlat, Flat};
 use comemo_guide::orders::{Both, Either, Exceeds, Turn};
@@ -31,7 +32,9 @@ fn gives<O: Copy + PartialEq, F: Run<Of = Town, Out = O>>(
     of: Of,
     output: O,
     how: How,
-) -> bool {
+) -> bool
+    requires { ReadsAlone ⟦<MemoOf<F> as Memo>⟧.def }
+{
     let town = town(of);
     let enabled = how != How::Disabled;
     match memoized_with(alloc, cache, needs, key, &town, &mut Top::new(), enabled) {
@@ -73,7 +76,9 @@ fn answers<F: Run<Key = u64, Of = Town, Needs = (), Out = bool>>(
     alloc: Global,
     number: u64,
     calls: &[(Of, bool, How)],
-) -> usize {
+) -> usize
+    requires { ReadsAlone ⟦<MemoOf<F> as Memo>⟧.def }
+{
     let mut cache: CacheData<MemoOf<F>> = CacheData::new(alloc);
     let mut held: usize = 0;
     for (of, output, how) in calls {
@@ -168,7 +173,9 @@ fn keys_of_one_hash_are_told_apart(rt: HostRuntime) {
 fn in_turn<O: Copy + PartialEq, F: Run<Key = (), Of = Town, Needs = Turn, Out = O>>(
     alloc: Global,
     calls: &[(Turn, Of, O, How, usize)],
-) -> usize {
+) -> usize
+    requires { ReadsAlone ⟦<MemoOf<F> as Memo>⟧.def }
+{
     let mut cache: CacheData<MemoOf<F>> = CacheData::new(alloc);
     let mut held: usize = 0;
     for (turn, of, output, how, len) in calls {

@@ -1,6 +1,9 @@
 //! Tests of the functions that call themselves and write.
 
-use comemo::{CacheData, Fault, MemoOf, ReadAndWrite, Top, Track, memoized_mut_with};
+use comemo::{
+    Both, CacheData, Fault, MemoOf, ReadAndWrite, Recorder, Top, Track, memoized_mut_with,
+};
+use comemo_guide::all_equal::{AllEqual, compared};
 use comemo_guide::ruler::{Ruler, rule};
 use comemo_guide::totals::{NotesTotals, RunningTotal};
 use comemo_samples::{Cells, Notebook};
@@ -138,6 +141,46 @@ fn totals_that_have_no_room_are_begun(rt: HostRuntime) -> Result<(), Fail> {
         );
         assert!(rt; is_so, "for {totals:?}");
         assert_eq!(rt; cache.len(), 3);
+    }
+    Ok(())
+}
+
+/// Whether a comparison of the first cells of two values returns this.
+fn is_compared(
+    alloc: Global,
+    cache: &mut CacheData<AllEqual>,
+    (one, other): (&Cells, &Cells),
+    count: u32,
+    equal: bool,
+) -> bool {
+    let both = Both {
+        first: one.track(alloc),
+        second: other.track(alloc),
+    };
+    let mut recorder = Recorder::new(alloc, both.track(alloc));
+    compared(cache, count, &mut recorder) == Ok(equal)
+}
+
+#[test]
+fn cells_are_compared_by_those_before(rt: HostRuntime) -> Result<(), Fail> {
+    let alloc = rt.alloc();
+    let mut cache: CacheData<AllEqual> = CacheData::new(alloc);
+    let one = Cells::new(alloc, 4)?;
+    let mut other = Cells::new(alloc, 4)?;
+    // The place that is set to 0, how many cells are compared, the result, and how many entries there are then.
+    let calls: &[(usize, u32, bool, usize)] = &[
+        (9, 3, true, 3),
+        // All but the last comparison is a hit.
+        (3, 4, false, 4),
+        (3, 3, true, 4),
+        // Those up to the place are new, except the first.
+        (1, 3, false, 6),
+    ];
+    for (place, count, equal, len) in calls {
+        other.set(*place, 0);
+        let is_so = is_compared(alloc, &mut cache, (&one, &other), *count, *equal);
+        assert!(rt; is_so, "for {count} cells, with place {place} set");
+        assert_eq!(rt; cache.len(), *len);
     }
     Ok(())
 }

@@ -1,4 +1,3 @@
-pub mod Exact
 pub mod Sites
 pub mod SiteLaws
 pub mod Pages

@@ -5,8 +5,7 @@ use Rattle.std.specs.HashMap.{HashMap}
 use Rattle.std.proofs.Common.{IsTrue, rules}
 use Rattle.std.specs.Cmp.Lexicographic.{same_text, nat_list_eq_equiv}
 use Rattle.comemo.specs.Answers.{Respects}
-use Rattle.comemo.proofs.Texts.{items_refl, items_clone}
-use Rattle.comemo_site.specs.Exact.{items_same, respects_same}
+use Rattle.comemo.proofs.Texts.{items_refl, items_clone, items_same, respects_same}
 use Rattle.comemo_site.specs.Sites.{site_answer, title_in, lines_in}
 use Rattle.comemo_site.specs.declared.site.Page.{Page}
 use Rattle.comemo_site.specs.declared.site.SiteAnswer.{SiteAnswer}

@@ -1,7 +1,9 @@
 //! What pages are rendered to, which calls ran, and what was written to the log.
 
-use comemo::{Cache, CacheData, Caches, How, MemoOf, ReadAndWrite, Top, Track, memoized_mut_with};
-use comemo_site::build::Publish;
+use comemo::{
+    Cache, CacheData, Caches, Fault, How, MemoOf, ReadAndWrite, Top, Track, memoized_mut_with,
+};
+use comemo_site::build::{Built, Publish};
 use comemo_site::line::Line;
 use comemo_site::link::Link;
 use comemo_site::log::{Log, Warning};
@@ -11,22 +13,23 @@ use comemo_site::table::{SharedPages, table};
 use comemo_site::text::Text;
 use comemo_site::title::Title;
 use std::alloc::{AllocError, Global};
-use std::test::Fail;
+use std::sync::Wait;
+use std::thread::Threads;
+
+/// A page: its name, its title and its words, and the names of the pages that it links to and includes, empty if none.
+type Source<'a> = (&'a str, &'a str, &'a str, &'a str, &'a str);
+
+const HOME: Source<'static> = ("home", "Home", "welcome", "about", "footer");
+
+const ABOUT: Source<'static> = ("about", "About us", "we are", "", "footer");
+
+const FOOTER: Source<'static> = ("footer", "Footer", "back to", "home", "");
 
 fn text(alloc: Global, s: &str) -> Result<Text, AllocError> {
     Text::from_str(alloc, s)
 }
 
-/// Sets a page of words, of a link where that isn't empty, and of an include where that isn't empty.
-fn set(
-    alloc: Global,
-    site: &mut Site,
-    name: &str,
-    title: &str,
-    words: &str,
-    link: &str,
-    include: &str,
-) -> Result<(), AllocError> {
+fn lines(alloc: Global, words: &str, link: &str, include: &str) -> Result<Vec<Line>, AllocError> {
     let mut lines = Vec::new(alloc);
     lines.push(Line::Words(text(alloc, words)?))?;
     if !link.is_empty() {
@@ -35,170 +38,249 @@ fn set(
     if !include.is_empty() {
         lines.push(Line::Include(text(alloc, include)?))?;
     }
-    let title = text(alloc, title)?;
-    site.set(String::from_str(alloc, name)?, Page { title, lines })
+    Ok(lines)
 }
 
-fn small_site(alloc: Global) -> Result<Site, AllocError> {
-    let mut site = Site::new(alloc);
-    set(
-        alloc, &mut site, "home", "Home", "welcome", "about", "footer",
-    )?;
-    set(
-        alloc, &mut site, "about", "About us", "we are", "", "footer",
-    )?;
-    set(alloc, &mut site, "footer", "Footer", "back to", "home", "")?;
-    Ok(site)
+/// Sets a page. Returns whether memory sufficed.
+fn set(alloc: Global, site: &mut Site, (name, title, words, link, include): Source<'_>) -> bool {
+    let Ok(lines) = lines(alloc, words, link, include) else {
+        return false;
+    };
+    let Ok(title) = text(alloc, title) else {
+        return false;
+    };
+    let Ok(name) = String::from_str(alloc, name) else {
+        return false;
+    };
+    site.set(name, Page { title, lines }).is_ok()
 }
 
-fn page(alloc: Global, kept: &mut Kept, site: &Site, name: &str) -> Result<Text, Fail> {
-    let page = page_now(alloc, kept, site, text(alloc, name)?, 4)?;
-    Ok(page)
+/// Sets the pages of a small site.
+fn fill(alloc: Global, site: &mut Site) -> bool {
+    set(alloc, site, HOME) && set(alloc, site, ABOUT) && set(alloc, site, FOOTER)
+}
+
+/// Whether a page is rendered to this text, with so many pages and titles cached afterwards.
+fn is_rendered(
+    alloc: Global,
+    site: &Site,
+    kept: &mut Kept,
+    name: &str,
+    expected: &str,
+    cached: (usize, usize),
+) -> bool {
+    let Ok(name) = text(alloc, name) else {
+        return false;
+    };
+    let Ok(page) = page_now(alloc, kept, site, name, 4) else {
+        return false;
+    };
+    page.as_str() == expected && (kept.0.len(), kept.1.len()) == cached
 }
 
 #[test]
-fn an_edit_runs_again_what_it_reaches(rt: HostRuntime) -> Result<(), Fail> {
+fn an_edit_runs_again_what_it_reaches(rt: HostRuntime) {
     let alloc = rt.alloc();
-    let mut site = small_site(alloc)?;
+    let mut site = Site::new(alloc);
     let mut kept: Kept = (CacheData::new(alloc), CacheData::new(alloc));
-    let home = page(alloc, &mut kept, &site, "home")?;
-    assert_eq!(rt; home.as_str(), "welcome\nAbout us\nback to\nHome\n");
-    // home at 4 and footer at 3; the titles of about and of home
-    assert_eq!(rt; (kept.0.len(), kept.1.len()), (2, 2));
-    let about = page(alloc, &mut kept, &site, "about")?;
-    assert_eq!(rt; about.as_str(), "we are\nback to\nHome\n");
-    // about alone: its footer is a hit
-    assert_eq!(rt; (kept.0.len(), kept.1.len()), (3, 2));
-    // the words of about alone: home saw its title
-    set(
-        alloc, &mut site, "about", "About us", "we were", "", "footer",
-    )?;
-    page(alloc, &mut kept, &site, "home")?;
-    assert_eq!(rt; (kept.0.len(), kept.1.len()), (3, 2));
-    // the title of about: home sees it, and the footer doesn't
-    set(alloc, &mut site, "about", "Who", "we were", "", "footer")?;
-    let home = page(alloc, &mut kept, &site, "home")?;
-    assert_eq!(rt; home.as_str(), "welcome\nWho\nback to\nHome\n");
-    assert_eq!(rt; (kept.0.len(), kept.1.len()), (4, 3));
-    // neither was used in the last round but home and its footer, and the two titles
+    assert!(rt; fill(alloc, &mut site));
+    // How the page "about" is set, the page that is rendered, its text, and how many pages and titles are cached then.
+    let rounds: &[(Source<'_>, &str, &str, (usize, usize))] = &[
+        // home at 4 and footer at 3; the titles of about and of home
+        (ABOUT, "home", "welcome\nAbout us\nback to\nHome\n", (2, 2)),
+        // about alone: its footer is a hit
+        (ABOUT, "about", "we are\nback to\nHome\n", (3, 2)),
+        // other words: home asked for the title alone
+        (
+            ("about", "About us", "we were", "", "footer"),
+            "home",
+            "welcome\nAbout us\nback to\nHome\n",
+            (3, 2),
+        ),
+        // another title: home asked for it, and the footer didn't
+        (
+            ("about", "Who", "we were", "", "footer"),
+            "home",
+            "welcome\nWho\nback to\nHome\n",
+            (4, 3),
+        ),
+    ];
+    for (about, name, expected, cached) in rounds {
+        assert!(rt; set(alloc, &mut site, *about));
+        let is_so = is_rendered(alloc, &site, &mut kept, *name, *expected, *cached);
+        assert!(rt; is_so, "for {name}: {expected}");
+    }
+    // Then a hit uses home alone, and the next eviction leaves that.
     kept.evict_all(1);
-    page(alloc, &mut kept, &site, "home")?;
+    let home = "welcome\nWho\nback to\nHome\n";
+    assert!(rt; is_rendered(alloc, &site, &mut kept, "home", home, (4, 3)));
     kept.evict_all(1);
     assert_eq!(rt; (kept.0.len(), kept.1.len()), (1, 0));
-    Ok(())
 }
 
-#[test]
-fn threads_render_a_table(rt: HostRuntime) -> Result<(), Fail> {
-    let alloc = rt.alloc();
-    let mut site = small_site(alloc)?;
-    let shared: SharedPages = (Cache::new(alloc), Cache::new(alloc));
+/// Whether threads render the pages home, about, footer, home and nowhere, with this text for about.
+fn is_table<R: Threads + Wait + Sync>(
+    rt: &R,
+    alloc: Global,
+    shared: &SharedPages,
+    site: &Site,
+    about: &str,
+) -> bool {
     let mut names = Vec::new(alloc);
-    for name in ["home", "about", "footer", "home", "nowhere"] {
-        names.push(text(alloc, name)?)?;
-    }
-    for (words, expected) in [
-        ("back to", "we are\nback to\nHome\n"),
-        ("go to", "we are\ngo to\nHome\n"),
-    ] {
-        set(alloc, &mut site, "footer", "Footer", words, "home", "")?;
-        let texts = table(&rt, alloc, &shared, &site, names.as_slice(), 4)?;
-        assert_eq!(rt; texts.len(), 5);
-        for (place, rendered) in texts.into_iter().enumerate() {
-            let rendered = rendered?;
-            if place == 1 {
-                assert_eq!(rt; rendered.as_str(), expected);
-            }
-            if place == 4 {
-                assert_eq!(rt; rendered.as_str(), "");
-            }
+    for name in &["home", "about", "footer", "home", "nowhere"] {
+        let Ok(name) = text(alloc, *name) else {
+            return false;
+        };
+        if names.push(name).is_err() {
+            return false;
         }
     }
-    Ok(())
+    let Ok(texts) = table(rt, alloc, shared, site, names.as_slice(), 4) else {
+        return false;
+    };
+    is_text(texts.get(1), about)
+        && is_text(texts.get(4), "")
+        && !is_text(texts.first(), "")
+        && texts.len() == 5
+}
+
+/// Whether a text was rendered, and is this one.
+fn is_text(rendered: Option<&Result<Text, Fault>>, expected: &str) -> bool {
+    match rendered {
+        Some(Ok(text)) => text.as_str() == expected,
+        _ => false,
+    }
 }
 
 #[test]
-fn a_hit_warns_again(rt: HostRuntime) -> Result<(), Fail> {
+fn threads_render_a_table(rt: HostRuntime) {
     let alloc = rt.alloc();
-    let site = small_site(alloc)?;
+    let mut site = Site::new(alloc);
+    let shared: SharedPages = (Cache::new(alloc), Cache::new(alloc));
+    assert!(rt; fill(alloc, &mut site));
+    assert!(rt; is_table(&rt, alloc, &shared, &site, "we are\nback to\nHome\n"));
+    assert!(rt; set(alloc, &mut site, ("footer", "Footer", "go to", "home", "")));
+    assert!(rt; is_table(&rt, alloc, &shared, &site, "we are\ngo to\nHome\n"));
+}
+
+/// Whether a link is printed as this line, by a call that ends as `how`, with so many warnings afterwards.
+fn is_linked(
+    alloc: Global,
+    site: &Site,
+    log: &mut Log,
+    kept: &mut (CacheData<Link>, CacheData<MemoOf<Title>>),
+    name: &str,
+    line: &str,
+    how: How,
+    warnings: usize,
+) -> bool {
+    let Ok(name) = text(alloc, name) else {
+        return false;
+    };
+    let mut both = ReadAndWrite {
+        first: site.track(alloc),
+        second: log,
+    };
+    let (cache, titles) = kept;
+    match memoized_mut_with(alloc, cache, titles, name, &mut both, &mut Top::new(), true) {
+        Ok(reply) => {
+            let is_line = reply.output.as_str() == line && reply.how == how;
+            is_line && both.second.warnings().len() == warnings
+        }
+        Err(_) => false,
+    }
+}
+
+#[test]
+fn a_hit_warns_again(rt: HostRuntime) {
+    let alloc = rt.alloc();
+    let mut site = Site::new(alloc);
     let mut log = Log::new(alloc);
-    let mut cache: CacheData<Link> = CacheData::new(alloc);
-    let mut titles: CacheData<MemoOf<Title>> = CacheData::new(alloc);
-    for (name, line, how, warnings) in [
+    let mut kept = (CacheData::new(alloc), CacheData::new(alloc));
+    assert!(rt; fill(alloc, &mut site));
+    let links: &[(&str, &str, How, usize)] = &[
         ("about", "About us\n", How::Stored, 0),
         ("lost", "lost\n", How::Stored, 1),
         ("lost", "lost\n", How::Hit, 2),
-    ] {
-        let mut both = ReadAndWrite {
-            first: site.track(alloc),
-            second: &mut log,
-        };
-        let key = text(alloc, name)?;
-        let reply = memoized_mut_with(
-            alloc,
-            &mut cache,
-            &mut titles,
-            key,
-            &mut both,
-            &mut Top::new(),
-            true,
-        )?;
-        assert_eq!(rt; reply.output.as_str(), line);
-        assert_eq!(rt; reply.how, how);
-        assert_eq!(rt; log.warnings().len(), warnings);
+    ];
+    for (name, line, how, warnings) in links {
+        let is_so = is_linked(
+            alloc, &site, &mut log, &mut kept, *name, *line, *how, *warnings,
+        );
+        assert!(rt; is_so, "for {name}, {how:?}");
     }
-    assert!(rt; log.warnings().last() == Some(&Warning::Missing(text(alloc, "lost")?)));
-    Ok(())
+    assert!(rt; ends_with(&log, &[("lost", false)]));
+}
+
+/// Whether the last warnings are these: a name, and whether that page is included too deep.
+fn ends_with(log: &Log, expected: &[(&str, bool)]) -> bool {
+    let skipped = log.warnings().len().saturating_sub(expected.len());
+    let last = log.warnings().iter().skip(skipped);
+    last.zip(expected).all(|(warning, (name, deep))| match warning {
+        Warning::Missing(missing) => !*deep && missing.as_str() == *name,
+        Warning::TooDeep(page) => *deep && page.as_str() == *name,
+    })
+}
+
+/// Whether the page "broken" is rendered to this text by a call that ends as `how`, with so many warnings, and with so
+/// many pages and titles cached afterwards.
+fn is_published(
+    alloc: Global,
+    site: &Site,
+    log: &mut Log,
+    cache: &mut CacheData<Publish>,
+    needs: &mut (Global, Built),
+    limit: u64,
+    (how, lines, warnings): (How, &str, usize),
+) -> bool {
+    let Ok(name) = text(alloc, "broken") else {
+        return false;
+    };
+    log.clear();
+    let mut both = ReadAndWrite {
+        first: site.track(alloc),
+        second: log,
+    };
+    let key = (name, limit);
+    match memoized_mut_with(alloc, cache, needs, key, &mut both, &mut Top::new(), true) {
+        Ok(reply) => {
+            let is_page = reply.output.as_str() == lines && reply.how == how;
+            is_page && both.second.warnings().len() == warnings
+        }
+        Err(_) => false,
+    }
 }
 
 #[test]
-fn a_page_that_is_a_hit_warns_again(rt: HostRuntime) -> Result<(), Fail> {
+fn a_page_that_is_a_hit_warns_again(rt: HostRuntime) {
     let alloc = rt.alloc();
-    let mut site = small_site(alloc)?;
-    set(
-        alloc, &mut site, "broken", "Broken", "see", "nowhere", "broken",
-    )?;
+    let mut site = Site::new(alloc);
     let mut log = Log::new(alloc);
     let mut cache: CacheData<Publish> = CacheData::new(alloc);
-    let mut needs = (alloc, (CacheData::new(alloc), CacheData::new(alloc)));
-    let expected = vec![in alloc;
-        Warning::Missing(text(alloc, "nowhere")?),
-        Warning::Missing(text(alloc, "nowhere")?),
-        Warning::TooDeep(text(alloc, "broken")?),
-    ]?;
-    // pages and titles that are kept stand last: broken at 3 does the warnings of broken at 2 again by a hit
-    for (limit, how, lines, warnings, pages, titles) in [
-        (2, How::Stored, "see\nnowhere\nsee\nnowhere\n", 3, 2, 1),
-        (2, How::Hit, "see\nnowhere\nsee\nnowhere\n", 3, 2, 1),
-        (
-            3,
-            How::Stored,
-            "see\nnowhere\nsee\nnowhere\nsee\nnowhere\n",
-            4,
-            3,
-            1,
-        ),
-    ] {
-        log.clear();
-        let mut both = ReadAndWrite {
-            first: site.track(alloc),
-            second: &mut log,
-        };
-        let key = (text(alloc, "broken")?, limit);
-        let reply = memoized_mut_with(
+    let mut needs: (Global, Built) = (alloc, (CacheData::new(alloc), CacheData::new(alloc)));
+    assert!(rt;
+        set(
             alloc,
-            &mut cache,
-            &mut needs,
-            key,
-            &mut both,
-            &mut Top::new(),
-            true,
-        )?;
-        assert_eq!(rt; reply.output.as_str(), lines);
-        assert_eq!(rt; reply.how, how);
-        assert_eq!(rt; log.warnings().len(), warnings);
-        assert!(rt; log.warnings().ends_with(expected.as_slice()));
-        assert_eq!(rt; (needs.1.0.len(), needs.1.1.len()), (pages, titles));
+            &mut site,
+            ("broken", "Broken", "see", "nowhere", "broken")
+        )
+    );
+    let deep = "see\nnowhere\nsee\nnowhere\n";
+    let deeper = "see\nnowhere\nsee\nnowhere\nsee\nnowhere\n";
+    // How deep, how the call ends, the text, the number of warnings, and how many pages and titles are cached then.
+    let calls: &[(u64, (How, &str, usize), (usize, usize))] = &[
+        (2, (How::Stored, deep, 3), (2, 1)),
+        (2, (How::Hit, deep, 3), (2, 1)),
+        // broken at 3 does the warnings of broken at 2 again by a hit
+        (3, (How::Stored, deeper, 4), (3, 1)),
+    ];
+    for (limit, wanted, cached) in calls {
+        let is_so = is_published(
+            alloc, &site, &mut log, &mut cache, &mut needs, *limit, *wanted,
+        );
+        assert!(rt; is_so, "for {limit}: {wanted:?}");
+        let expected = [("nowhere", false), ("nowhere", false), ("broken", true)];
+        assert!(rt; ends_with(&log, &expected));
+        assert_eq!(rt; (needs.1.0.len(), needs.1.1.len()), *cached);
     }
-    Ok(())
 }

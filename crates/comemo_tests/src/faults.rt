@@ -1,6 +1,7 @@
 //! Memoized functions whose runs end in a fault, and what their callers learn.
 ghost use Rattle.std.specs.Prelude.{⊤};
 ghost use Rattle.std.proofs.Common.{rules};
+ghost use Rattle.comemo.specs.Function.{ReadsAlone};
 ghost use Rattle.comemo.specs.Meaning.{reading};
 
 use crate::inputs::LocationMemo;
@@ -177,7 +178,9 @@ fn is_told<F: Run<Key = bool, Of = Context, Out = u64>>(
     needs: &mut F::Needs,
     hands_on: bool,
     fault: Fault,
-) -> bool {
+) -> bool
+    requires { ReadsAlone ⟦<MemoOf<F> as Memo>⟧.def }
+{
     let mut cache: CacheData<MemoOf<F>> = CacheData::new(alloc);
     let mut outer: Constraint<ContextCall, u64> = Constraint::new(alloc);
     let reply = memoized_with(

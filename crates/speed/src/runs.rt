@@ -27,8 +27,7 @@ pub fn run<R: Clock + Threads + Wait + Sync>(
     operations: u64,
 ) -> Result<Seen, Fault> {
     match workload {
-        Workload::HitSameView { calls } => hit_same_view(rt, alloc, calls, operations),
-        Workload::HitNewView { calls } => hit_new_view(rt, alloc, calls, operations),
+        Workload::Hit { calls } => hit(rt, alloc, calls, operations),
         Workload::MissNewKeys { calls } => miss_new_keys(rt, alloc, calls, operations),
         Workload::MissLastDiffers => miss_last_differs(rt, alloc, operations),
         Workload::HitAmong { entries } => hit_among(rt, alloc, entries, operations),
@@ -47,32 +46,8 @@ pub fn run<R: Clock + Threads + Wait + Sync>(
     }
 }
 
-/// Hits one cached sum through one view.
-fn hit_same_view<R: Clock>(
-    rt: &R,
-    alloc: Global,
-    count: u32,
-    operations: u64,
-) -> Result<Seen, Fault> {
-    let cells = Cells::new(alloc, CELLS)?;
-    let mut cache: CacheData<SumMemo> = CacheData::new(alloc);
-    let key = SumKey { start: 1, count };
-    sum(alloc, &mut cache, key, &cells)?;
-    let watch = Stopwatch::start(rt);
-    let mut all: u64 = 0;
-    for _ in 0..operations {
-        all = all.wrapping_add(sum(alloc, &mut cache, key, &cells)?);
-    }
-    Ok(watch.seen(rt, all))
-}
-
-/// Hits one cached sum, each time through a new view.
-fn hit_new_view<R: Clock>(
-    rt: &R,
-    alloc: Global,
-    count: u32,
-    operations: u64,
-) -> Result<Seen, Fault> {
+/// Hits one cached sum.
+fn hit<R: Clock>(rt: &R, alloc: Global, count: u32, operations: u64) -> Result<Seen, Fault> {
     let cells = Cells::new(alloc, CELLS)?;
     let mut cache: CacheData<SumMemo> = CacheData::new(alloc);
     let key = SumKey { start: 1, count };

@@ -6,10 +6,8 @@ use std::alloc::{AllocError, Global};
 /// A kind of work, whose operations are timed.
 #[derive(Clone, Copy, Drop, Debug, PartialEq, Eq)]
 pub enum Workload {
-    /// A cached sum of this many cells, through one view.
-    HitSameView { calls: u32 },
-    /// A cached sum of this many cells, each time through a new view.
-    HitNewView { calls: u32 },
+    /// A cached sum of this many cells.
+    Hit { calls: u32 },
     /// Sums of this many cells, each under its own key. The cache is empty at first, but has room.
     MissNewKeys { calls: u32 },
     /// Sums of ten cells under one key, where the last cell differs each time. The cache is empty at first, but has
@@ -37,14 +35,10 @@ pub enum Workload {
 
 /// All workloads, in order.
 pub const WORKLOADS: &[Workload] = &[
-    Workload::HitSameView { calls: 0 },
-    Workload::HitNewView { calls: 0 },
-    Workload::HitSameView { calls: 1 },
-    Workload::HitNewView { calls: 1 },
-    Workload::HitSameView { calls: 10 },
-    Workload::HitNewView { calls: 10 },
-    Workload::HitSameView { calls: 100 },
-    Workload::HitNewView { calls: 100 },
+    Workload::Hit { calls: 0 },
+    Workload::Hit { calls: 1 },
+    Workload::Hit { calls: 10 },
+    Workload::Hit { calls: 100 },
     Workload::MissNewKeys { calls: 0 },
     Workload::MissNewKeys { calls: 1 },
     Workload::MissNewKeys { calls: 10 },
@@ -85,8 +79,7 @@ impl Workload {
     /// The workload's name in its line.
     pub fn name(self, alloc: Global) -> Result<String, AllocError> {
         match self {
-            Workload::HitSameView { calls } => format!(in alloc; "hit {calls} calls, same view"),
-            Workload::HitNewView { calls } => format!(in alloc; "hit {calls} calls, new view each"),
+            Workload::Hit { calls } => format!(in alloc; "hit {calls} calls"),
             Workload::MissNewKeys { calls } => format!(in alloc; "miss {calls} calls, new keys"),
             Workload::MissLastDiffers => String::from_str(alloc, "miss 10 calls, last differs"),
             Workload::HitAmong { entries } => {
@@ -108,7 +101,7 @@ impl Workload {
     /// How many operations a timed repetition does.
     pub fn operations(self) -> u64 {
         match self {
-            Workload::HitSameView { calls } | Workload::HitNewView { calls } => match calls {
+            Workload::Hit { calls } => match calls {
                 0 => 600_000,
                 1 => 500_000,
                 2..=10 => 150_000,

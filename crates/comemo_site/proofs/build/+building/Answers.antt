@@ -60,9 +60,9 @@ draft-returns-clause-tells g t c =
     let are : lines_in c.in_ok-lines.field-0 ≡ Some c.in-Lines.lines.items = rw c.in-Lines.is refl in
     let every = take_all c.loop-line.line-index c.deref-line-items.result.now c.loop-line-test.false ∙ c.deref-line-items.ensures.value in
     writes_to (writes_both (called c.in_ok-lines.ensures.tells c.in_ok-lines.ensures.writes) _ c.loop-line.invariant.tells) (λ m W f k site p.
-        let asked = lines_alike (site (LinesOf c.args.name.now)) c.in_ok-lines.field-0 (search (rules, k.3.1 site p)) ∙ are in
-        let done = subst (λ lines. (string_bytes c.loop-line.text ≡ in_turn (line_text site (page_text site c.args.limit)) lines) × (k.1 ≡ map second_call (in_turn (line_warnings site (page_warnings site c.args.limit)) lines))) every (k.4 site p) in
-        rw (k.2, k.3.0, next, asked) (c.new-2.ensures ∙ done.0, done.1))
+    let asked = lines_alike (site (LinesOf c.args.name.now)) c.in_ok-lines.field-0 (search (rules, k.3.1 site p)) ∙ are in
+    let done = subst (λ lines. (string_bytes c.loop-line.text ≡ in_turn (line_text site (page_text site c.args.limit)) lines) × (k.1 ≡ map second_call (in_turn (line_warnings site (page_warnings site c.args.limit)) lines))) every (k.4 site p) in
+    rw (k.2, k.3.0, next, asked) (c.new-2.ensures ∙ done.0, done.1))
 
 pub line_built-returns-in_ok-clone-in-Include-clause-tells : goal.line_built-returns-in_ok-clone-in-Include-clause-tells
 line_built-returns-in_ok-clone-in-Include-clause-tells g t c = writes_as c.built.result c.built.ensures.tells (λ x m W f h site p. search (rules, h site p))
