@@ -150,45 +150,48 @@ fn ten_pages_are_published(rt: HostRuntime) -> Result<(), Fail> {
     Ok(())
 }
 
+/// Edits of the ten pages: the name of a page, or none, its new source, and why pages are rendered again.
+const EDITS: &[(&str, &str, &str)] = &[
+    // nothing: each page is new
+    (
+        "",
+        "",
+        "about: it is new\nbroken: it is new\ncontact: it is new\nempty: it is new\nfooter: it is new\n\
+         guide/start: it is new\nguide/units: it is new\nindex: it is new\nloop: it is new\nnews: it is new\n",
+    ),
+    (
+        "about",
+        "# About us\n\nFour people.\n\ninclude footer\n",
+        "about: its text changed\n",
+    ),
+    (
+        "about",
+        "# Who we are\n\nFour people.\n\ninclude footer\n",
+        "about: its text changed\nindex: the title of about changed\n",
+    ),
+    (
+        "news",
+        "It snowed.\n",
+        "index: the text of news changed\nnews: its text changed\n",
+    ),
+    ("lost", "Found.\n", "broken: the text of lost changed\n"),
+    ("lost", "Found.\n", ""),
+];
+
 #[test]
 fn an_edit_is_explained(rt: HostRuntime) -> Result<(), Fail> {
     let alloc = rt.alloc();
     let (mut site, names) = ten_pages(alloc)?;
     let names = names.as_slice();
     let shared: SharedBuilt = (Cache::new(alloc), Cache::new(alloc));
-    let edits = [
-        // nothing: each page is new
-        (
-            "",
-            "",
-            "about: it is new\nbroken: it is new\ncontact: it is new\nempty: it is new\nfooter: it is new\n\
-             guide/start: it is new\nguide/units: it is new\nindex: it is new\nloop: it is new\nnews: it is new\n",
-        ),
-        (
-            "about",
-            "# About us\n\nFour people.\n\ninclude footer\n",
-            "about: its text changed\n",
-        ),
-        (
-            "about",
-            "# Who we are\n\nFour people.\n\ninclude footer\n",
-            "about: its text changed\nindex: the title of about changed\n",
-        ),
-        (
-            "news",
-            "It snowed.\n",
-            "index: the text of news changed\nnews: its text changed\n",
-        ),
-        ("lost", "Found.\n", "broken: the text of lost changed\n"),
-        ("lost", "Found.\n", ""),
-    ];
-    for (name, source, expected) in edits {
-        if name != "" {
-            set(alloc, &mut site, name, source)?;
+    for (name, source, expected) in EDITS {
+        if *name != "" {
+            set(alloc, &mut site, *name, *source)?;
         }
         let pages = publish_all(&rt, alloc, &shared, &site, names, SETTINGS)?;
         let (lines, _) = reasons(alloc, names, pages.as_slice())?;
-        assert_eq!(rt; lines.as_str(), expected, "after an edit of {name}");
+        let is_so = lines.as_str() == *expected;
+        assert!(rt; is_so, "{lines}");
     }
     // gone again: as before, so each page is a hit
     site.remove("lost");
