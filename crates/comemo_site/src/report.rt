@@ -83,7 +83,8 @@ pub fn round_line(
     tally: Tally,
     milliseconds: u64,
 ) -> Result<String, AllocError>
-    ensures { IfOk result (λ line. string_bytes line ≡ round_text round changed tally milliseconds) }
+    ensures { IfOk result
+        (λ line. string_bytes line ≡ round_text round changed tally milliseconds) }
 {
     let Tally { runs, hits } = tally;
     format!(in alloc;
