@@ -8,7 +8,9 @@ use Rattle.comemo_site.specs.declared.site.SiteCall.TheVariants.{BlocksOf}
 use Rattle.comemo_site.proofs.render.+rendering.Goals as goal
 
 pub rendered-loop-block-preserved : goal.rendered-loop-block-preserved
-rendered-loop-block-preserved g t c = own_then c.loop-block.invariant c.in_ok-part.ensures (λ m f before told. search (rules, fold_more (λ html block. html ++ block_html m (page_html m (c.args.limit - 1)) block) [] c.blocks-block-items.result.now c.loop-block.block-index c.block-item.result))
+rendered-loop-block-preserved g t c =
+    own_then c.loop-block.invariant c.in_ok-part.ensures (λ m f before told.
+    search (rules, fold_more (λ html block. html ++ block_html m (page_html m (c.args.limit - 1)) block) [] c.blocks-block-items.result.now c.loop-block.block-index c.block-item.result))
 
 pub rendered-finish-requires-2-clause-right : goal.rendered-finish-requires-2-clause-right
 rendered-finish-requires-2-clause-right g t c = λ m f.
