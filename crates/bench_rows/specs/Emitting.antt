@@ -3,7 +3,7 @@ use Rattle.std.specs.Prelude.{◌≡◌, ℕ, Bool, List, [], ◌∷◌, String,
 use Rattle.std.proofs.Common.{◌∙◌, refl, sym, ap}
 use Rattle.std.specs.Global.{Global}
 use Rattle.comemo.specs.Meaning.{SameWrites}
-use Rattle.comemo.specs.FunctionMut.{LawsMut}
+use Rattle.comemo.specs.Cache.{FunctionLaws}
 use Rattle.comemo_samples.specs.declared.emitter.EmitterCall.{EmitterCall}
 use Rattle.comemo_samples.specs.Writers.{emitted}
 
@@ -18,12 +18,13 @@ module _ {eq : EmitterCall → EmitterCall → Bool} (calls : (x y : EmitterCall
   same_emitted (v ∷ V) [] same = absurd same
   same_emitted (v ∷ V) (w ∷ W) same = ap (λ text. text ∷ map emitted W) (calls v w same.0) ∙ ap (λ X. emitted v ∷ X) (same_emitted V W same.1)
 
-  pub emitting_laws : {R O : Type 0} {same : R → R → Bool} {eqk : String Global → String Global → Bool} {key_clone : String Global → String Global → Type 0} {cloned : O → O → Type 0}
-      → ((x y : String Global) → IsTrue (eqk x y) → string_bytes y ≡ string_bytes x) → ((x y : String Global) → key_clone x y → IsTrue (eqk x y))
-      → LawsMut eq same eqk key_clone cloned (λ text _ _ writes. EmitsWithOne text writes)
-  emitting_laws keys clones = record {
+  pub emitting_laws : {R O : Type 0} {same : R → R → Bool} {eqk : String Global → String Global → Bool} {key_clone : String Global → String Global → Type 0} {answer_clone : R → R → Type 0} {cloned : O → O → Type 0}
+      → ((x y : String Global) → IsTrue (eqk x y) → string_bytes y ≡ string_bytes x) → ((x y : String Global) → key_clone x y → IsTrue (eqk x y)) → ((x y : R) → answer_clone x y → IsTrue (same x y))
+      → FunctionLaws eq same eqk key_clone answer_clone cloned (λ text _ _ writes. EmitsWithOne text writes)
+  emitting_laws keys clones answers = record {
     outputs = λ _ _ _ _ _ _ _ right. right;
     keys = λ j k _ _ _ _ is right. right ∙ ap (λ bytes. bytes ∷ codes "1" ∷ []) (sym (keys j k is));
     writes = λ _ _ _ V W _ is right. same_emitted V W is ∙ right;
-    clones = clones;
+    key_clones = clones;
+    answer_clones = answers;
   }

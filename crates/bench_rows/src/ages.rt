@@ -8,7 +8,7 @@ use crate::broken::Broken;
 use crate::steps::{Anything, evict, look, store, touch};
 use crate::tally::Tally;
 use comemo::internal::{Meant, Step, StepReply};
-use comemo::{CacheData, Constraint, Fault, Function, How, MemoOf, Recorder, Run, memoized_with};
+use comemo::{CacheData, Constraint, Fault, Function, How, Recorder, Run, memoized_with};
 use std::alloc::{AllocError, Global};
 
 /// Returns 0.
@@ -17,7 +17,9 @@ struct Null;
 impl Function for Null {
     type Key = ();
 
-    type Of = ();
+    type Call = ();
+
+    type Answer = ();
 
     type Out = u64;
 
@@ -26,7 +28,7 @@ impl Function for Null {
     ghost laws = { Prim.search rules };
 }
 
-impl Run for Null {
+impl Run<()> for Null {
     type Needs = ();
 
     fn run(_key: &(), _of: &mut Recorder<'_, ()>, _needs: &mut ()) -> Result<u64, Fault> {
@@ -46,7 +48,7 @@ pub(crate) fn aged(age: Option<usize>, max_age: usize) -> Option<usize> {
 /// entry's age afterwards.
 fn call_null(
     alloc: Global,
-    cache: &mut CacheData<MemoOf<Null>>,
+    cache: &mut CacheData<Null>,
     tally: &mut Tally,
     kept: Option<usize>,
     how: How,
@@ -73,7 +75,7 @@ fn call_null(
 /// Whether an eviction drops entries as old as its bound, and a hit refreshes its entry. A failing call doesn't change
 /// the entry's age.
 pub(crate) fn hits_stay_young(alloc: Global) -> Result<bool, Broken> {
-    let mut cache: CacheData<MemoOf<Null>> = CacheData::new(alloc);
+    let mut cache: CacheData<Null> = CacheData::new(alloc);
     let mut tally = Tally::new();
     let mut kept = None;
     // How many evictions precede a call, their bound, and the call's result.

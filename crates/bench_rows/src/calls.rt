@@ -1,17 +1,17 @@
 //! Calls of memoized functions, and their expected results.
-ghost use Rattle.comemo.specs.Function.{ReadsAlone};
+ghost use Rattle.comemo.specs.Function.{WritesNone};
 
-use comemo::{CacheData, Fault, How, Memo, MemoOf, Reply, Run, memoized};
+use comemo::{CacheData, Fault, How, Reply, Run, Track, memoized};
 use std::alloc::Global;
 
 /// Calls a function that needs nothing, outside of any run.
-pub(crate) fn call<F: Run<Needs = ()>>(
+pub(crate) fn call<F: Run<T, Needs = ()>, T: Track>(
     alloc: Global,
-    cache: &mut CacheData<MemoOf<F>>,
+    cache: &mut CacheData<F>,
     key: F::Key,
-    of: &F::Of,
+    of: &T,
 ) -> Result<Reply<F::Out>, Fault>
-    requires { ReadsAlone ⟦<MemoOf<F> as Memo>⟧.def }
+    requires { WritesNone F.writes }
 {
     memoized(alloc, cache, key, of)
 }

@@ -4,13 +4,13 @@ use crate::broken::Broken;
 use crate::calls::{call, gives};
 use calc_core::commands::{Answer, Command};
 use calc_core::sessions::session;
-use comemo::{CacheData, How, MemoOf};
+use comemo::{CacheData, How};
 use comemo_guide::numbers::{DoubleFlat, Flat};
 use std::alloc::{AllocError, Global};
 
 /// Whether keys with one hash are kept apart.
 pub(crate) fn keys_of_one_hash_are_kept_apart(alloc: Global) -> Result<bool, Broken> {
-    let mut cache: CacheData<MemoOf<DoubleFlat>> = CacheData::new(alloc);
+    let mut cache: CacheData<DoubleFlat> = CacheData::new(alloc);
     let two = gives(call(alloc, &mut cache, Flat(2), &())?, 4, How::Stored);
     let three = gives(call(alloc, &mut cache, Flat(3), &())?, 6, How::Stored);
     Ok(two && three)

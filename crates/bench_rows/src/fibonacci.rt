@@ -1,16 +1,16 @@
 //! A memoized function that calls itself.
-ghost use Rattle.std.specs.Prelude.{◌≡◌, ◌≤◌, IfOk, OnErr, ◌%◌, ◌^◌};
+ghost use Rattle.std.specs.Prelude.{◌≡◌, ◌≤◌, IfOk, OnErr, ◌%◌, ◌^◌, ⊤};
 ghost use Rattle.std.proofs.Common.{rules};
 ghost use Rattle.bench_rows.specs.Fibonacci.{fib};
 
 use comemo::internal::Hashed;
-use comemo::{Begun, CacheData, Constraint, Fault, How, Memo, Reply, begin};
+use comemo::{Begun, CacheData, Constraint, Fault, Function, How, Reply, begin};
 use std::alloc::Global;
 
 /// A Fibonacci number.
 pub struct FibMemo;
 
-impl Memo for FibMemo {
+impl Function for FibMemo {
     type Call = ();
 
     type Key = u64;
@@ -19,7 +19,9 @@ impl Memo for FibMemo {
 
     type Out = u64;
 
-    ghost def = { λ n _ out _. out ≡ fib n % 2 ^ 64 };
+    ghost means = { λ n _ out. out ≡ fib n % 2 ^ 64 };
+
+    ghost writes = { λ _ _ _ _. ⊤ };
 
     ghost laws = { Prim.search rules };
 }

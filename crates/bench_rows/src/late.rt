@@ -1,16 +1,14 @@
 //! The row of runs that read before or after they wrote.
 
 use crate::broken::Broken;
-use comemo::{
-    BothMut, Cache, CacheData, Fault, Hold, How, MemoOf, Top, memoized_mut, memoized_mut_with,
-};
+use comemo::{BothMut, Cache, CacheData, Fault, Hold, How, Top, memoized_mut, memoized_mut_with};
 use comemo_guide::late::{AddsAndGets, Bump, Readback, Twice};
 use comemo_samples::Counter;
 use std::alloc::Global;
 use std::sync::Wait;
 
 /// Whether a call of `Bump` has this result, and adds 3.
-fn bumps<H: Hold<MemoOf<Bump>>>(
+fn bumps<H: Hold<Bump>>(
     alloc: Global,
     cache: &mut H,
     counter: &mut Counter,
@@ -22,14 +20,14 @@ fn bumps<H: Hold<MemoOf<Bump>>>(
 }
 
 /// Whether a call of `Readback` on a new counter is late.
-fn reads_back<H: Hold<MemoOf<Readback>>>(alloc: Global, cache: &mut H) -> Result<bool, Fault> {
+fn reads_back<H: Hold<Readback>>(alloc: Global, cache: &mut H) -> Result<bool, Fault> {
     let mut counter = Counter { number: 0 };
     let reply = memoized_mut(alloc, cache, 3, &mut counter)?;
     Ok(reply.how == How::Late && reply.output == 3 && counter.number == 3)
 }
 
 /// Whether a call of `Twice` on a new counter is late.
-fn bumps_twice<B: Hold<MemoOf<Bump>>, H: Hold<MemoOf<Twice<B>>>>(
+fn bumps_twice<B: Hold<Bump>, H: Hold<Twice<B>>>(
     alloc: Global,
     cache: &mut H,
     bumps: &mut B,
@@ -60,8 +58,8 @@ fn calls_come_to_that<B, R, A>(
     adding: &mut A,
 ) -> Result<bool, Fault>
 where
-    B: Hold<MemoOf<Bump>>,
-    R: Hold<MemoOf<Readback>>,
+    B: Hold<Bump>,
+    R: Hold<Readback>,
     A: Hold<AddsAndGets>,
 {
     let mut counter = Counter { number: 0 };
@@ -78,7 +76,7 @@ where
 
 /// Whether runs that read what they wrote are late, and others are stored, in caches of one owner.
 fn late_runs_are_not_kept(alloc: Global) -> Result<bool, Fault> {
-    let mut bump: CacheData<MemoOf<Bump>> = CacheData::new(alloc);
+    let mut bump: CacheData<Bump> = CacheData::new(alloc);
     let mut readback = CacheData::new(alloc);
     let mut twice = CacheData::new(alloc);
     let mut adding = CacheData::new(alloc);
@@ -91,8 +89,8 @@ fn late_runs_are_not_kept(alloc: Global) -> Result<bool, Fault> {
 fn come_to_that_through_shares<'x, W: Wait>(
     rt: &'x W,
     alloc: Global,
-    bump: &'x Cache<MemoOf<Bump>>,
-    readback: &'x Cache<MemoOf<Readback>>,
+    bump: &'x Cache<Bump>,
+    readback: &'x Cache<Readback>,
     adding: &'x Cache<AddsAndGets>,
 ) -> Result<bool, Fault> {
     let bump = &mut bump.hold(rt);
@@ -105,9 +103,9 @@ fn come_to_that_through_shares<'x, W: Wait>(
 fn bumps_twice_through_a_share<'x, W: Wait>(
     rt: &'x W,
     alloc: Global,
-    twice: &'x Cache<MemoOf<Twice<CacheData<MemoOf<Bump>>>>>,
+    twice: &'x Cache<Twice<CacheData<Bump>>>,
 ) -> Result<bool, Fault> {
-    let mut bump: CacheData<MemoOf<Bump>> = CacheData::new(alloc);
+    let mut bump: CacheData<Bump> = CacheData::new(alloc);
     let mut counter = Counter { number: 0 };
     let twice = &mut twice.hold(rt);
     Ok(

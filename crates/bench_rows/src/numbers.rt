@@ -3,14 +3,14 @@
 use crate::broken::Broken;
 use crate::calls::{call, gives};
 use crate::fibonacci::{FibMemo, numbered};
-use comemo::{CacheData, Constraint, How, MemoOf, Top, memoized_with};
+use comemo::{CacheData, Constraint, How, Top, memoized_with};
 use comemo_guide::double::Double;
 use comemo_guide::numbers::{Identity, Sum};
 use std::alloc::Global;
 
 /// Whether a number is doubled once.
 fn doubles(alloc: Global) -> Result<bool, Broken> {
-    let mut cache: CacheData<MemoOf<Double>> = CacheData::new(alloc);
+    let mut cache: CacheData<Double> = CacheData::new(alloc);
     for (number, output, how) in [(2, 4, How::Stored), (4, 8, How::Stored), (2, 4, How::Hit)] {
         if !gives(call(alloc, &mut cache, number, &())?, output, how) {
             return Ok(false);
@@ -21,7 +21,7 @@ fn doubles(alloc: Global) -> Result<bool, Broken> {
 
 /// Whether the order of the arguments matters for the cache of a sum.
 fn sums(alloc: Global) -> Result<bool, Broken> {
-    let mut cache: CacheData<MemoOf<Sum>> = CacheData::new(alloc);
+    let mut cache: CacheData<Sum> = CacheData::new(alloc);
     for (numbers, output, how) in [
         ((2, 4), 6, How::Stored),
         ((2, 3), 5, How::Stored),
@@ -54,7 +54,7 @@ fn numbers_of_fibonacci(alloc: Global) -> Result<bool, Broken> {
 
 /// Whether only large numbers are cached.
 fn keeps_large_numbers(alloc: Global) -> Result<bool, Broken> {
-    let mut cache: CacheData<MemoOf<Identity>> = CacheData::new(alloc);
+    let mut cache: CacheData<Identity> = CacheData::new(alloc);
     for (number, how) in [
         (0, How::Disabled),
         (0, How::Disabled),

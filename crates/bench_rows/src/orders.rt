@@ -3,13 +3,13 @@ ghost use Rattle.std.proofs.Common.{rules};
 
 use crate::broken::Broken;
 use crate::place::{Place, PlaceAnswer, PlaceCall};
-use comemo::{Begun, CacheData, Constraint, Fault, How, Memo, Reply, Top, Track, begin};
+use comemo::{Begun, CacheData, Constraint, Fault, Function, How, Reply, Top, Track, begin};
 use std::alloc::{AllocError, Global};
 
 /// A function of a place for which every text is right, so that its runs may ask anything.
 struct AnyText;
 
-impl Memo for AnyText {
+impl Function for AnyText {
     type Call = PlaceCall;
 
     type Key = ();
@@ -18,7 +18,9 @@ impl Memo for AnyText {
 
     type Out = String;
 
-    ghost def = { λ _ _ _ _. Unit {0} };
+    ghost means = { λ _ _ _. Unit {0} };
+
+    ghost writes = { λ _ _ _ _. Unit {0} };
 
     ghost laws = { Prim.search rules };
 }

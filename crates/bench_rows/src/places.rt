@@ -5,13 +5,13 @@ use crate::ages::aged;
 use crate::broken::Broken;
 use crate::place::{Place, PlaceAnswer, PlaceCall};
 use crate::tally::Tally;
-use comemo::{Begun, CacheData, Constraint, Fault, How, Memo, Reply, Sink, Top, Track, begin};
+use comemo::{Begun, CacheData, Constraint, Fault, Function, How, Reply, Sink, Top, Track, begin};
 use std::alloc::{AllocError, Global};
 
 /// A function of a place for which every text is right.
 pub(crate) struct AnySaid;
 
-impl Memo for AnySaid {
+impl Function for AnySaid {
     type Call = PlaceCall;
 
     type Key = ();
@@ -20,7 +20,9 @@ impl Memo for AnySaid {
 
     type Out = String;
 
-    ghost def = { λ _ _ _ _. Unit {0} };
+    ghost means = { λ _ _ _. Unit {0} };
+
+    ghost writes = { λ _ _ _ _. Unit {0} };
 
     ghost laws = { Prim.search rules };
 }

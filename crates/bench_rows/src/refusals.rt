@@ -8,8 +8,8 @@ use crate::place::{Place, PlaceAnswer, PlaceCall};
 use crate::places::{AnySaid, contextual, expected_at, recorded};
 use crate::tally::Tally;
 use comemo::{
-    Begun, CacheData, Constraint, Fault, Function, How, MemoOf, RecorderMut, Reply, RunMut, Track,
-    begin, memoized_mut_with,
+    Begun, CacheData, Constraint, Fault, Function, How, RecorderMut, Reply, RunMut, Track, begin,
+    memoized_mut_with,
 };
 use comemo_samples::NotebookCall;
 use std::alloc::{AllocError, Global};
@@ -75,7 +75,9 @@ struct NotesThree;
 impl Function for NotesThree {
     type Key = u64;
 
-    type Of = Book;
+    type Call = NotebookCall;
+
+    type Answer = u64;
 
     type Out = u64;
 
@@ -85,11 +87,10 @@ impl Function for NotesThree {
 
     ghost writes = { λ _ _ _ W. W ≡ Note 1 ∷ Note 2 ∷ Note 3 ∷ [] };
 
-    ghost laws = { exact_laws (λ x y h. Prim.search rules) (λ x y h. Prim.search rules)
-        (λ x y h. Prim.search rules) (λ a b h. Prim.search rules) };
+    ghost laws = { exact_laws (Prim.search rules) };
 }
 
-impl RunMut for NotesThree {
+impl RunMut<Book> for NotesThree {
     type Needs = ();
 
     fn run(n: &u64, book: &mut RecorderMut<'_, '_, Book>, _needs: &mut ()) -> Result<u64, Fault> {
@@ -114,7 +115,7 @@ fn sent(sink: Constraint<NotebookCall, u64>) -> Option<usize> {
 /// got.
 fn note(
     alloc: Global,
-    cache: &mut CacheData<MemoOf<NotesThree>>,
+    cache: &mut CacheData<NotesThree>,
     tally: &mut Tally,
     book: &mut Book,
 ) -> (Result<How, Fault>, bool, Option<usize>) {
@@ -143,7 +144,7 @@ fn book_of(alloc: Global, room: usize, refuses_after: Option<usize>) -> Result<B
 /// Checks a hit whose second write fails, and then the same call again. Before, the entry has age 1.
 fn is_stopped_and_goes_on(
     alloc: Global,
-    cache: &mut CacheData<MemoOf<NotesThree>>,
+    cache: &mut CacheData<NotesThree>,
     tally: &mut Tally,
     book: &mut Book,
 ) {
@@ -174,7 +175,7 @@ fn is_stopped_and_goes_on(
 /// Whether a hit with a failing write reports it, does the writes before it, and resets the age; and whether the same
 /// call then hits, and does all its writes.
 pub(crate) fn a_refused_write_is_done_again(alloc: Global) -> Result<bool, Broken> {
-    let mut cache: CacheData<MemoOf<NotesThree>> = CacheData::new(alloc);
+    let mut cache: CacheData<NotesThree> = CacheData::new(alloc);
     let mut tally = Tally::new();
     let mut first = book_of(alloc, 3, None)?;
     let mut book = book_of(alloc, 4, Some(1))?;

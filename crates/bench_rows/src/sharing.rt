@@ -6,7 +6,7 @@ use bench_workers::{
     two_runs_that_ask_in_turned_order, two_runs_that_ask_other_questions, workers_beside_evictions,
 };
 use comemo::internal::Evict;
-use comemo::{Cache, Memo, MemoOf};
+use comemo::{Cache, Function};
 use comemo_guide::double::Double;
 use std::alloc::Global;
 use std::rt::Clock;
@@ -18,7 +18,7 @@ pub(crate) fn a_shared_cache_stores_one_of_two<R: Threads + Wait + Clock + Sync>
     rt: &R,
     alloc: Global,
 ) -> Result<bool, Broken> {
-    let cache: Cache<MemoOf<Double>> = Cache::new(alloc);
+    let cache: Cache<Double> = Cache::new(alloc);
     let (left, right) = (cache.hold(rt), cache.hold(rt));
     Ok(two_runs_of_one_key(rt, alloc, left, right)?)
 }
@@ -50,12 +50,12 @@ pub(crate) fn evictions_beside_workers<R: Threads + Wait + Sync>(
 
 /// Evicts a borrowed cache.
 #[derive(Drop)]
-struct OfCache<'a, M: Memo, R: Wait> {
+struct OfCache<'a, M: Function, R: Wait> {
     cache: &'a Cache<M>,
     rt: &'a R,
 }
 
-impl<M: Memo, R: Wait> Evict for OfCache<'_, M, R> {
+impl<M: Function, R: Wait> Evict for OfCache<'_, M, R> {
     fn evict(&self, max_age: usize) {
         self.cache.evict(self.rt, max_age);
     }
@@ -69,7 +69,7 @@ pub(crate) fn branches_and_evictions<R: Threads + Wait + Clock + Sync>(
     if !branches_are_absorbed_in_order(rt, alloc)? {
         return Ok(false);
     }
-    let cache: Cache<MemoOf<Null>> = Cache::new(alloc);
+    let cache: Cache<Null> = Cache::new(alloc);
     let evictor = OfCache { cache: &cache, rt };
     Ok(evictions_reach_a_cache(alloc, &mut cache.hold(rt), &evictor)?)
 }

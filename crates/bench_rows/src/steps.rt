@@ -5,7 +5,7 @@ ghost use Rattle.std.proofs.Common.{rules};
 ghost use Rattle.comemo.specs.Steps.{IsStep};
 
 use comemo::internal::{Meant, Step};
-use comemo::{Call, Memo};
+use comemo::{Call, Function};
 use std::alloc::{AllocError, Global};
 use std::hash::Hash;
 
@@ -53,7 +53,7 @@ pub(crate) fn write(number: u8) -> Numbered
 /// A function for which every output and all writes are right.
 pub struct Anything;
 
-impl Memo for Anything {
+impl Function for Anything {
     type Call = Numbered;
 
     type Key = u8;
@@ -62,7 +62,9 @@ impl Memo for Anything {
 
     type Out = u32;
 
-    ghost def = { λ _ _ _ _. ⊤ };
+    ghost means = { λ _ _ _. ⊤ };
+
+    ghost writes = { λ _ _ _ _. ⊤ };
 
     ghost laws = { Prim.search rules };
 }

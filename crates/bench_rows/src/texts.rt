@@ -2,7 +2,7 @@
 
 use crate::broken::Broken;
 use crate::calls::{call, gives, gives_text};
-use comemo::{CacheData, How, MemoOf, Top, memoized_with};
+use comemo::{CacheData, How, Top, memoized_with};
 use comemo_guide::greetings::{Greeting, SaysHello, World};
 use comemo_guide::kinds::{IsLong, Selfie, Text};
 use comemo_guide::loader::{Contents, Library, Loader};
@@ -11,7 +11,7 @@ use comemo_guide::texts::Same;
 use std::alloc::{AllocError, Global};
 
 /// Whether a text's call returns it, and came about like this.
-fn says_itself(alloc: Global, cache: &mut CacheData<MemoOf<Selfie>>, text: &str, how: How) -> bool {
+fn says_itself(alloc: Global, cache: &mut CacheData<Selfie>, text: &str, how: How) -> bool {
     let Ok(own) = String::from_str(alloc, text) else {
         return false;
     };
@@ -24,7 +24,7 @@ fn says_itself(alloc: Global, cache: &mut CacheData<MemoOf<Selfie>>, text: &str,
 /// Whether a text is called long or not (long: its length and five exceed ten), and the call came about like this.
 fn is_called(
     alloc: Global,
-    cache: &mut CacheData<MemoOf<IsLong>>,
+    cache: &mut CacheData<IsLong>,
     text: &str,
     long: bool,
     how: How,
@@ -40,8 +40,8 @@ fn is_called(
 
 /// Whether a text answers two kinds of questions, each for its own function.
 pub(crate) fn two_kinds_of_questions(alloc: Global) -> Result<bool, Broken> {
-    let mut selfies: CacheData<MemoOf<Selfie>> = CacheData::new(alloc);
-    let mut lengths: CacheData<MemoOf<IsLong>> = CacheData::new(alloc);
+    let mut selfies: CacheData<Selfie> = CacheData::new(alloc);
+    let mut lengths: CacheData<IsLong> = CacheData::new(alloc);
     let first = says_itself(alloc, &mut selfies, "Hi", How::Stored);
     let stored = is_called(alloc, &mut lengths, "Hi", false, How::Stored);
     let hit = is_called(alloc, &mut lengths, "Hi", false, How::Hit);
@@ -54,7 +54,7 @@ pub(crate) fn two_kinds_of_questions(alloc: Global) -> Result<bool, Broken> {
 
 /// Whether the output of a function of nothing is cached.
 fn the_world_is_big(alloc: Global) -> Result<bool, Broken> {
-    let mut cache: CacheData<MemoOf<World>> = CacheData::new(alloc);
+    let mut cache: CacheData<World> = CacheData::new(alloc);
     let mut needs = alloc;
     for how in [How::Stored, How::Hit, How::Hit] {
         let sink = &mut Top::new();
@@ -68,14 +68,14 @@ fn the_world_is_big(alloc: Global) -> Result<bool, Broken> {
 
 /// Whether a sum is cached under its number.
 fn a_sum_is_kept(alloc: Global) -> Result<bool, Broken> {
-    let mut cache: CacheData<MemoOf<SumBelow>> = CacheData::new(alloc);
+    let mut cache: CacheData<SumBelow> = CacheData::new(alloc);
     let first = gives(call(alloc, &mut cache, 1000, &())?, 499500, How::Stored);
     let second = gives(call(alloc, &mut cache, 1000, &())?, 499500, How::Hit);
     Ok(first && second)
 }
 
 /// Whether a call with this text returns it, and came about like this.
-fn keeps(alloc: Global, cache: &mut CacheData<MemoOf<Same>>, text: &str, how: How) -> bool {
+fn keeps(alloc: Global, cache: &mut CacheData<Same>, text: &str, how: How) -> bool {
     let Ok(own) = String::from_str(alloc, text) else {
         return false;
     };
@@ -87,8 +87,8 @@ fn keeps(alloc: Global, cache: &mut CacheData<MemoOf<Same>>, text: &str, how: Ho
 
 /// Whether two functions of texts each have their own cache.
 fn each_function_has_its_cache(alloc: Global) -> bool {
-    let mut taken: CacheData<MemoOf<Same>> = CacheData::new(alloc);
-    let mut copied: CacheData<MemoOf<Same>> = CacheData::new(alloc);
+    let mut taken: CacheData<Same> = CacheData::new(alloc);
+    let mut copied: CacheData<Same> = CacheData::new(alloc);
     let first = keeps(alloc, &mut taken, "Hello", How::Stored);
     let second = keeps(alloc, &mut copied, "Hello", How::Stored);
     let third = keeps(alloc, &mut taken, "World", How::Stored);
@@ -98,7 +98,7 @@ fn each_function_has_its_cache(alloc: Global) -> bool {
 
 /// Whether a text is asked if it is `hello`, and nothing else.
 fn hello_is_asked_for(alloc: Global) -> Result<bool, Broken> {
-    let mut cache: CacheData<MemoOf<SaysHello>> = CacheData::new(alloc);
+    let mut cache: CacheData<SaysHello> = CacheData::new(alloc);
     for (text, output, how) in [
         ("hey", false, How::Stored),
         ("hey", false, How::Hit),
@@ -138,7 +138,7 @@ fn library(alloc: Global) -> Result<Library<OneFile>, AllocError> {
 
 /// Whether each path is loaded once.
 fn each_path_is_loaded_once(alloc: Global) -> Result<bool, Broken> {
-    let mut cache: CacheData<MemoOf<Contents<OneFile>>> = CacheData::new(alloc);
+    let mut cache: CacheData<Contents<OneFile>> = CacheData::new(alloc);
     let library = library(alloc)?;
     for (path, how) in [
         ("hi.rs", How::Stored),

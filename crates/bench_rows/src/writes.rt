@@ -6,9 +6,7 @@ ghost use Rattle.comemo.specs.MeaningLaws.{exact_laws, writing_laws};
 use crate::ages::aged;
 use crate::broken::Broken;
 use crate::tally::Tally;
-use comemo::{
-    CacheData, Constraint, Fault, Function, How, MemoOf, RecorderMut, RunMut, memoized_mut_with,
-};
+use comemo::{CacheData, Constraint, Fault, Function, How, RecorderMut, RunMut, memoized_mut_with};
 use comemo_samples::{Counter, CounterCall, Emitter, EmitterCall};
 use std::alloc::Global;
 
@@ -18,7 +16,9 @@ struct Dump;
 impl Function for Dump {
     type Key = String;
 
-    type Of = Emitter;
+    type Call = EmitterCall;
+
+    type Answer = ();
 
     type Out = ();
 
@@ -29,10 +29,10 @@ impl Function for Dump {
     ghost writes = { λ text _ _ W. EmitsWithOne text W };
 
     ghost laws = { writing_laws (emitting_laws (λ x y h. Prim.search rules)
-        (λ x y h. Prim.search rules) (λ x y h. Prim.search rules)) };
+        (λ x y h. Prim.search rules) (λ x y h. Prim.search rules) (λ x y h. Prim.search rules)) };
 }
 
-impl RunMut for Dump {
+impl RunMut<Emitter> for Dump {
     type Needs = Global;
 
     fn run(
@@ -75,7 +75,7 @@ fn recorded(sink: Constraint<EmitterCall, ()>, parts: &[u8]) -> Option<usize> {
 /// Emits texts, each followed by `1`, and checks the results.
 #[derive(Drop)]
 struct Emitting {
-    cache: CacheData<MemoOf<Dump>>,
+    cache: CacheData<Dump>,
     emitter: Emitter,
     tally: Tally,
 }
@@ -153,7 +153,7 @@ impl Emitting {
 
 /// Evicts with a bound, checks the number of entries, and returns their ages.
 fn evict(
-    cache: &mut CacheData<MemoOf<Dump>>,
+    cache: &mut CacheData<Dump>,
     tally: &mut Tally,
     kept: [Option<usize>; 3],
     max_age: usize,
@@ -205,7 +205,9 @@ struct AddsThree;
 impl Function for AddsThree {
     type Key = ();
 
-    type Of = Counter;
+    type Call = CounterCall;
+
+    type Answer = u64;
 
     type Out = ();
 
@@ -215,11 +217,10 @@ impl Function for AddsThree {
 
     ghost writes = { λ _ _ _ W. W ≡ Add 3 ∷ [] };
 
-    ghost laws = { exact_laws (λ x y h. Prim.search rules) (λ x y h. Prim.search rules)
-        (λ x y h. Prim.search rules) (λ a b h. Prim.search rules) };
+    ghost laws = { exact_laws (Prim.search rules) };
 }
 
-impl RunMut for AddsThree {
+impl RunMut<Counter> for AddsThree {
     type Needs = ();
 
     fn run(
@@ -238,7 +239,9 @@ struct AddsByAnother;
 impl Function for AddsByAnother {
     type Key = u64;
 
-    type Of = Counter;
+    type Call = CounterCall;
+
+    type Answer = u64;
 
     type Out = ();
 
@@ -248,17 +251,16 @@ impl Function for AddsByAnother {
 
     ghost writes = { λ _ _ _ W. W ≡ Add 3 ∷ [] };
 
-    ghost laws = { exact_laws (λ x y h. Prim.search rules) (λ x y h. Prim.search rules)
-        (λ x y h. Prim.search rules) (λ a b h. Prim.search rules) };
+    ghost laws = { exact_laws (Prim.search rules) };
 }
 
-impl RunMut for AddsByAnother {
-    type Needs = CacheData<MemoOf<AddsThree>>;
+impl RunMut<Counter> for AddsByAnother {
+    type Needs = CacheData<AddsThree>;
 
     fn run(
         _number: &u64,
         counter: &mut RecorderMut<'_, '_, Counter>,
-        kept: &mut CacheData<MemoOf<AddsThree>>,
+        kept: &mut CacheData<AddsThree>,
     ) -> Result<(), Fault> {
         counter.call_mut(kept, &mut (), ())?;
         Ok(())
@@ -276,8 +278,8 @@ fn has_added(sink: Constraint<CounterCall, u64>, is_sure: bool) -> bool {
 /// entry, returns whether there is one afterwards.
 fn add_by_another(
     alloc: Global,
-    cache: &mut CacheData<MemoOf<AddsByAnother>>,
-    inner: &mut CacheData<MemoOf<AddsThree>>,
+    cache: &mut CacheData<AddsByAnother>,
+    inner: &mut CacheData<AddsThree>,
     tally: &mut Tally,
     number: u64,
     was_kept: bool,
@@ -305,7 +307,7 @@ fn add_by_another(
 
 /// Whether a hit repeats the writes of a function that its run called.
 fn a_hit_writes_what_was_written_within(alloc: Global) -> Result<bool, Broken> {
-    let mut cache: CacheData<MemoOf<AddsByAnother>> = CacheData::new(alloc);
+    let mut cache: CacheData<AddsByAnother> = CacheData::new(alloc);
     let mut inner = CacheData::new(alloc);
     let mut tally = Tally::new();
     let zero = add_by_another(alloc, &mut cache, &mut inner, &mut tally, 0, false);

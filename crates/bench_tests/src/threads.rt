@@ -7,7 +7,7 @@ use bench_workers::{
 };
 use comemo::internal::evictors::evict;
 use comemo::internal::{Evict, Evictor, Hashed, register_evictor};
-use comemo::{Cache, CacheData, Hold, How, Memo, MemoOf, memoized};
+use comemo::{Cache, CacheData, Function, Hold, How, memoized};
 use comemo_guide::double::Double;
 use comemo_guide::shared::warmths;
 use comemo_guide::warmth::Warmth;
@@ -21,7 +21,7 @@ use std::thread::join;
 fn a_holder_that_neither_looks_nor_stores_is_found(rt: HostRuntime) {
     let alloc = rt.alloc();
     for dead in [Step::Look, Step::Store] {
-        let cache: Cache<MemoOf<Double>> = Cache::new(alloc);
+        let cache: Cache<Double> = Cache::new(alloc);
         let held = cache.hold(&rt);
         let left = Dead { alloc, held, dead };
         let held = cache.hold(&rt);
@@ -34,7 +34,7 @@ fn a_holder_that_neither_looks_nor_stores_is_found(rt: HostRuntime) {
 #[test]
 fn a_lock_that_is_held_over_a_run_is_found(rt: HostRuntime) -> Result<(), Fail> {
     let alloc = rt.alloc();
-    let lock: RwLock<CacheData<MemoOf<Double>>> = RwLock::new(CacheData::new(alloc));
+    let lock: RwLock<CacheData<Double>> = RwLock::new(CacheData::new(alloc));
     let gate = Meeting::new(&rt, 2, 100);
     let (left, right) = join(
         &rt,
@@ -56,10 +56,10 @@ impl Evict for Idle {
 #[test]
 fn an_evictor_that_evicts_nothing_is_found(rt: HostRuntime) {
     let alloc = rt.alloc();
-    let cache: Cache<MemoOf<Null>> = Cache::new(alloc);
+    let cache: Cache<Null> = Cache::new(alloc);
     let reached = evictions_reach_a_cache(alloc, &mut cache.hold(&rt), &Idle);
     assert!(rt; matches!(reached, Ok(false)));
-    let cache: Cache<MemoOf<Double>> = Cache::new(alloc);
+    let cache: Cache<Double> = Cache::new(alloc);
     let reached = evictions_reach_all_keys(alloc, &mut cache.hold(&rt), &Idle);
     assert!(rt; matches!(reached, Ok(false)));
 }
@@ -67,7 +67,7 @@ fn an_evictor_that_evicts_nothing_is_found(rt: HostRuntime) {
 #[test]
 fn an_eviction_reaches_all_keys(rt: HostRuntime) -> Result<(), Fail> {
     let alloc = rt.alloc();
-    let cache: Arc<Cache<MemoOf<Double>>, Global> = Arc::new(alloc, Cache::new(alloc))?;
+    let cache: Arc<Cache<Double>, Global> = Arc::new(alloc, Cache::new(alloc))?;
     let evictor = Evictor::new(Arc::try_clone(&cache)?, rt.clone()?);
     let reached = evictions_reach_all_keys(alloc, &mut cache.hold(&rt), &evictor);
     assert!(rt; matches!(reached, Ok(true)));
@@ -75,7 +75,7 @@ fn an_eviction_reaches_all_keys(rt: HostRuntime) -> Result<(), Fail> {
 }
 
 /// Whether a call returns the double of 7, and ends as `how`.
-fn doubles_seven<H: Hold<MemoOf<Double>>>(alloc: Global, held: &mut H, how: How) -> bool {
+fn doubles_seven<H: Hold<Double>>(alloc: Global, held: &mut H, how: How) -> bool {
     let nothing = ();
     match memoized(alloc, held, 7, &nothing) {
         Ok(reply) => reply.output == 14 && reply.how == how,
@@ -84,7 +84,7 @@ fn doubles_seven<H: Hold<MemoOf<Double>>>(alloc: Global, held: &mut H, how: How)
 }
 
 /// The age of the entry for the double of 7.
-fn age_of_seven<H: Hold<MemoOf<Double>>>(cache: &mut H) -> Option<usize> {
+fn age_of_seven<H: Hold<Double>>(cache: &mut H) -> Option<usize> {
     match cache.look(&7, &mut Hashed(7)) {
         Ok(Some(found)) => Some(found.age),
         _ => None,
@@ -94,7 +94,7 @@ fn age_of_seven<H: Hold<MemoOf<Double>>>(cache: &mut H) -> Option<usize> {
 #[test]
 fn each_share_finds_what_another_kept(rt: HostRuntime) {
     let alloc = rt.alloc();
-    let cache: Cache<MemoOf<Double>> = Cache::new(alloc);
+    let cache: Cache<Double> = Cache::new(alloc);
     assert!(rt; doubles_seven(alloc, &mut cache.hold(&rt), How::Stored));
     for _ in 1..9_u32 {
         assert!(rt; doubles_seven(alloc, &mut cache.hold(&rt), How::Hit));
@@ -108,7 +108,7 @@ fn each_share_finds_what_another_kept(rt: HostRuntime) {
 #[test]
 fn a_table_is_made_by_threads(rt: HostRuntime) -> Result<(), Fail> {
     let alloc = rt.alloc();
-    let cache: Cache<MemoOf<Warmth>> = Cache::new(alloc);
+    let cache: Cache<Warmth> = Cache::new(alloc);
     let people = 900;
     let towns = vec![in alloc;
         Town {
@@ -131,7 +131,7 @@ fn a_table_is_made_by_threads(rt: HostRuntime) -> Result<(), Fail> {
 #[test]
 fn a_holder_that_does_not_touch_is_found(rt: HostRuntime) -> Result<(), Fail> {
     let alloc = rt.alloc();
-    let cache: Arc<Cache<MemoOf<Null>>, Global> = Arc::new(alloc, Cache::new(alloc))?;
+    let cache: Arc<Cache<Null>, Global> = Arc::new(alloc, Cache::new(alloc))?;
     let evictor = Evictor::new(Arc::try_clone(&cache)?, rt.clone()?);
     let mut held = Dead {
         alloc,
@@ -145,21 +145,21 @@ fn a_holder_that_does_not_touch_is_found(rt: HostRuntime) -> Result<(), Fail> {
 
 /// Evicts a cache, and then appends its number to a list.
 #[derive(Drop)]
-struct Numbered<M: Memo, R: Wait + Drop> {
+struct Numbered<M: Function, R: Wait + Drop> {
     evictor: Evictor<M, R>,
     number: u32,
     list: Arc<Mutex<Vec<u32>>, Global>,
     rt: R,
 }
 
-impl<M: Memo, R: Wait + Drop> Evict for Numbered<M, R> {
+impl<M: Function, R: Wait + Drop> Evict for Numbered<M, R> {
     fn evict(&self, max_age: usize) {
         self.evictor.evict(max_age);
         let _ = self.list.lock(&self.rt).push(self.number);
     }
 }
 
-impl<M: Memo, R: Wait + Drop + Clone> Numbered<M, R> {
+impl<M: Function, R: Wait + Drop + Clone> Numbered<M, R> {
     /// An evictor of this cache with this number.
     fn new(
         rt: &R,
@@ -177,7 +177,7 @@ impl<M: Memo, R: Wait + Drop + Clone> Numbered<M, R> {
 }
 
 /// Whether a call of `Null` returns its output, and ends as `how`.
-fn gives_nothing<H: Hold<MemoOf<Null>>>(alloc: Global, held: &mut H, how: How) -> bool {
+fn gives_nothing<H: Hold<Null>>(alloc: Global, held: &mut H, how: How) -> bool {
     let nothing = ();
     match memoized(alloc, held, (), &nothing) {
         Ok(reply) => reply.output == 0 && reply.how == how,
@@ -189,8 +189,8 @@ fn gives_nothing<H: Hold<MemoOf<Null>>>(alloc: Global, held: &mut H, how: How) -
 fn registered_evictors_evict_in_order(rt: HostRuntime) -> Result<(), Fail> {
     let alloc = rt.alloc();
     let list: Arc<Mutex<Vec<u32>>, Global> = Arc::new(alloc, Mutex::new(Vec::new(alloc)))?;
-    let doubles: Arc<Cache<MemoOf<Double>>, Global> = Arc::new(alloc, Cache::new(alloc))?;
-    let nulls: Arc<Cache<MemoOf<Null>>, Global> = Arc::new(alloc, Cache::new(alloc))?;
+    let doubles: Arc<Cache<Double>, Global> = Arc::new(alloc, Cache::new(alloc))?;
+    let nulls: Arc<Cache<Null>, Global> = Arc::new(alloc, Cache::new(alloc))?;
     let mut evictors: Vec<Box<dyn Evict>> = Vec::new(alloc);
     let first = Numbered::new(&rt, &doubles, 1, &list)?;
     register_evictor(&mut evictors, Box::new(alloc, first)?)?;
@@ -210,7 +210,7 @@ fn registered_evictors_evict_in_order(rt: HostRuntime) -> Result<(), Fail> {
 #[test]
 fn an_eviction_that_overtakes_a_hit_comes_before_or_after_its_touch(rt: HostRuntime) {
     let alloc = rt.alloc();
-    let cache: Cache<MemoOf<Double>> = Cache::new(alloc);
+    let cache: Cache<Double> = Cache::new(alloc);
     let held = &mut cache.hold(&rt);
     assert!(rt; doubles_seven(alloc, held, How::Stored));
     let overtaken = &mut Overtaken {

@@ -3,14 +3,14 @@ ghost use Rattle.std.specs.Prelude.{◌≡◌, ◌+◌, ◌%◌, ◌^◌, IfOk, 
 
 use crate::gate::{Gate, Meeting, Open, TURNS};
 use comemo::internal::{Evict, Keyed};
-use comemo::{Begun, Fault, Hold, How, MemoOf, Reply, Top, Track, begin};
+use comemo::{Begun, Fault, Hold, How, Reply, Top, Track, begin};
 use comemo_guide::double::Double;
 use std::alloc::Global;
 use std::rt::Clock;
 use std::thread::{Threads, join};
 
 /// The double of a number, memoized; `None` if a gate of the run didn't open. It holds no lock while it runs.
-pub fn doubled<H: Hold<MemoOf<Double>>, G: Gate>(
+pub fn doubled<H: Hold<Double>, G: Gate>(
     alloc: Global,
     cache: &mut H,
     number: u32,
@@ -48,7 +48,7 @@ pub fn doubled<H: Hold<MemoOf<Double>>, G: Gate>(
 
 /// Runs the same key on two threads at once. True if one run is stored, the other gets `AlreadyExists`, and a third
 /// call hits.
-pub fn two_runs_of_one_key<R: Threads + Clock + Sync, H: Hold<MemoOf<Double>> + Send + Drop>(
+pub fn two_runs_of_one_key<R: Threads + Clock + Sync, H: Hold<Double> + Send + Drop>(
     rt: &R,
     alloc: Global,
     mut left: H,
@@ -79,7 +79,7 @@ pub fn two_runs_of_one_key<R: Threads + Clock + Sync, H: Hold<MemoOf<Double>> + 
 const NUMBERS: u32 = 100;
 
 /// Whether a round of calls, one for each number, ends like this, except like that for one number.
-fn round_ends<H: Hold<MemoOf<Double>>>(
+fn round_ends<H: Hold<Double>>(
     alloc: Global,
     cache: &mut H,
     how: How,
@@ -100,7 +100,7 @@ fn round_ends<H: Hold<MemoOf<Double>>>(
 
 /// Whether an eviction with bound 0 drops the entries of all numbers, and later ones with bound 1 leave only the entry
 /// that was hit between them.
-pub fn evictions_reach_all_keys<H: Hold<MemoOf<Double>>, E: Evict>(
+pub fn evictions_reach_all_keys<H: Hold<Double>, E: Evict>(
     alloc: Global,
     cache: &mut H,
     evictor: &E,

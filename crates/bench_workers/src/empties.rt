@@ -1,10 +1,10 @@
 //! Simultaneous runs of one function that ask different questions.
-ghost use Rattle.std.specs.Prelude.{◌≡◌, []};
+ghost use Rattle.std.specs.Prelude.{◌≡◌, [], ⊤};
 ghost use Rattle.std.proofs.Common.{rules};
 
 use crate::gate::{Gate, Meeting, TURNS};
 use comemo::internal::Keyed;
-use comemo::{Begun, Cache, Fault, Hold, How, Memo, Reply, Top, Track, begin};
+use comemo::{Begun, Cache, Fault, Function, Hold, How, Reply, Top, Track, begin};
 use comemo_samples::{Context, ContextCall};
 use std::alloc::Global;
 use std::rt::Clock;
@@ -14,7 +14,7 @@ use std::thread::{Threads, join};
 /// Returns the empty text, whatever it asked.
 struct Empty;
 
-impl Memo for Empty {
+impl Function for Empty {
     type Call = ContextCall;
 
     type Key = ();
@@ -25,7 +25,9 @@ impl Memo for Empty {
 
     ghost use Rattle.std.specs.Prelude.{string_bytes};
 
-    ghost def = { λ _ _ out _. string_bytes out ≡ [] };
+    ghost means = { λ _ _ out. string_bytes out ≡ [] };
+
+    ghost writes = { λ _ _ _ _. ⊤ };
 
     ghost laws = { Prim.search rules };
 }

@@ -2,10 +2,10 @@
 //!
 //! ```rust
 //! use bench_workers::threads;
-//! use comemo::{Cache, MemoOf};
+//! use comemo::Cache;
 //! use comemo_guide::double::Double;
 //!
-//! let cache: Cache<MemoOf<Double>> = Cache::new(alloc);
+//! let cache: Cache<Double> = Cache::new(alloc);
 //! assert_eq!(rt; threads(&rt, alloc, &cache, 4, 100), Ok(true));
 //! ```
 #![tactic(auto)]

@@ -3,7 +3,7 @@ ghost use Rattle.std.specs.Prelude.{◌≡◌};
 ghost use Rattle.std.proofs.Common.{rules};
 
 use comemo::internal::Evict;
-use comemo::{Fault, Function, Hold, How, MemoOf, Recorder, Run, memoized};
+use comemo::{Fault, Function, Hold, How, Recorder, Run, memoized};
 use std::alloc::Global;
 
 /// Returns 0.
@@ -12,7 +12,9 @@ pub struct Null;
 impl Function for Null {
     type Key = ();
 
-    type Of = ();
+    type Call = ();
+
+    type Answer = ();
 
     type Out = u64;
 
@@ -21,7 +23,7 @@ impl Function for Null {
     ghost laws = { Prim.search rules };
 }
 
-impl Run for Null {
+impl Run<()> for Null {
     type Needs = ();
 
     fn run(_key: &(), _of: &mut Recorder<'_, ()>, _needs: &mut ()) -> Result<u64, Fault> {
@@ -31,7 +33,7 @@ impl Run for Null {
 
 /// Whether an eviction drops entries as old as its bound, and a hit refreshes its entry, in a cache with one holder and
 /// one evictor.
-pub fn evictions_reach_a_cache<H: Hold<MemoOf<Null>>, E: Evict>(
+pub fn evictions_reach_a_cache<H: Hold<Null>, E: Evict>(
     alloc: Global,
     cache: &mut H,
     evictor: &E,

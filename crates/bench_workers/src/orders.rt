@@ -4,7 +4,7 @@ ghost use Rattle.std.proofs.Common.{rules};
 
 use crate::gate::{Gate, Meeting, TURNS};
 use comemo::internal::Keyed;
-use comemo::{Begun, Cache, Fault, Hold, How, Memo, Reply, Top, Track, begin};
+use comemo::{Begun, Cache, Fault, Function, Hold, How, Reply, Top, Track, begin};
 use comemo_samples::{Context, ContextCall};
 use std::alloc::Global;
 use std::rt::Clock;
@@ -14,7 +14,7 @@ use std::thread::{Threads, join};
 /// Returns nothing, and asks a context where it is and how it is set.
 struct Whole;
 
-impl Memo for Whole {
+impl Function for Whole {
     type Call = ContextCall;
 
     type Key = ();
@@ -25,7 +25,9 @@ impl Memo for Whole {
 
     ghost use Rattle.comemo.specs.Meaning.{names};
 
-    ghost def = { λ _ _ _ _. ⊤ };
+    ghost means = { λ _ _ _. ⊤ };
+
+    ghost writes = { λ _ _ _ _. ⊤ };
 
     // both calls are asked, whatever the answers are
     ghost naming = { names (λ _ _ _. ⊤) };

@@ -2,14 +2,14 @@
 
 use crate::doubling::doubled;
 use crate::gate::Open;
-use comemo::{Cache, MemoOf};
+use comemo::Cache;
 use comemo_guide::double::Double;
 use std::alloc::{AllocError, Global};
 use std::sync::Wait;
 use std::thread::{Threads, join, map_indices};
 
 /// Whether a worker's calls were all right: it doubles each call's number modulo 16.
-fn works<R: Wait>(rt: &R, alloc: Global, cache: &Cache<MemoOf<Double>>, calls: u32) -> bool {
+fn works<R: Wait>(rt: &R, alloc: Global, cache: &Cache<Double>, calls: u32) -> bool {
     for call in 0..calls {
         let number = call % 16;
         match doubled(alloc, &mut cache.hold(rt), number, &Open) {
@@ -24,7 +24,7 @@ fn works<R: Wait>(rt: &R, alloc: Global, cache: &Cache<MemoOf<Double>>, calls: u
 pub fn threads<R: Threads + Wait + Sync>(
     rt: &R,
     alloc: Global,
-    cache: &Cache<MemoOf<Double>>,
+    cache: &Cache<Double>,
     workers: usize,
     calls: u32,
 ) -> Result<bool, AllocError> {
@@ -36,7 +36,7 @@ pub fn threads<R: Threads + Wait + Sync>(
 pub fn workers_beside_evictions<R: Threads + Wait + Sync>(
     rt: &R,
     alloc: Global,
-    cache: &Cache<MemoOf<Double>>,
+    cache: &Cache<Double>,
 ) -> Result<bool, AllocError> {
     let (worked, ()) = join(
         rt,

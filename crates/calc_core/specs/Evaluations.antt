@@ -1,8 +1,8 @@
 -- The outcome of a script and what it reads, by the answers of its files.
-use Rattle.std.specs.Prelude.{◌≡◌, ⊤, ℕ, List, ℤ, String, string_bytes, bytes_eq}
+use Rattle.std.specs.Prelude.{◌≡◌, ⊤, ℕ, List, [], ℤ, String, string_bytes, bytes_eq}
 use Rattle.std.specs.Global.{Global}
 use Rattle.comemo.specs.Cache.{Entries}
-use Rattle.comemo.specs.Meaning.{Meaning, names, reading}
+use Rattle.comemo.specs.Meaning.{Meaning, names, IsRight}
 use Rattle.comemo.specs.Multi.{second_call, second_answer, OnCall}
 use Rattle.calc_core.specs.Asked.{Asks, AsksIn, PartAsks}
 use Rattle.calc_core.specs.Meaning.{Means, PartMeans, Deep}
@@ -60,7 +60,7 @@ CallsDeep m part limit = (path text : List ℕ) × IsEval part path × At m path
 
 -- the meaning of the memoized function: no writes, and the script's outcome
 abbrev pub IsOutcome : List ℕ × ⊤ → (JoinedCall → JoinedAnswer) → Outcome → List JoinedCall → Type 0
-IsOutcome = reading (λ key m outcome. Comes m key.0 outcome)
+IsOutcome = IsRight (λ key m outcome. Comes m key.0 outcome) (λ _ _ _ writes. writes ≡ [])
 
 abbrev pub evaluating : Meaning (List ℕ × ⊤) JoinedCall JoinedAnswer Outcome
 evaluating = record (joined bytes_eq IsOutcome) { naming = names EvalAsks }

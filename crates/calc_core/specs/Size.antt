@@ -2,7 +2,7 @@
 use Rattle.std.specs.Prelude.{◌≡◌, ◌≢◌, ⊤, ℕ, List, [], ◌∷◌, String, string_bytes, string_eq, length}
 use Rattle.std.specs.Global.{Global}
 use Rattle.comemo.specs.Cache.{Entries}
-use Rattle.comemo.specs.Meaning.{Meaning, reading}
+use Rattle.comemo.specs.Meaning.{Meaning, IsRight}
 use Rattle.comemo.specs.Called.{IsReply}
 use Rattle.comemo.specs.Multi.{second_call, second_answer}
 use Rattle.comemo.specs.declared.pending.How.TheVariants as how
@@ -19,7 +19,7 @@ IsSize path m out = out ≡ length (m (Read path))
 
 -- the meaning of the memoized function: no writes, and that length, at the files' answers only
 abbrev pub IsSizeOf : String Global × ⊤ → (JoinedCall → JoinedAnswer) → ℕ → List JoinedCall → Type 0
-IsSizeOf = reading (λ key answers out. OnFiles (λ m. IsSize key.0 m out) answers)
+IsSizeOf = IsRight (λ key answers out. OnFiles (λ m. IsSize key.0 m out) answers) (λ _ _ _ writes. writes ≡ [])
 
 abbrev pub sizing : Meaning (String Global × ⊤) JoinedCall JoinedAnswer ℕ
 sizing = joined string_eq IsSizeOf

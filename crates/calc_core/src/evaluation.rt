@@ -35,7 +35,7 @@ ghost use Rattle.calc_core.specs.Joined.{same_call, same_answer, touches, with_f
 ghost use Rattle.calc_core.specs.Files.{Reads, text_at, answers_of, with_key};
 ghost use Rattle.comemo.specs.Meaning.{names};
 ghost use Rattle.comemo.specs.Settling.{Settles, nothing_left};
-ghost use Rattle.calc_core.specs.Evaluations.{At, Comes, ComesTo, PartComes, CallsDeep, IsOutcome, EvalAsks, ScriptAsks, APartAsks, evaluating};
+ghost use Rattle.calc_core.specs.Evaluations.{At, Comes, ComesTo, PartComes, CallsDeep, EvalAsks, ScriptAsks, APartAsks, evaluating};
 ghost use Rattle.calc_core.specs.Joined.{FilesFit};
 ghost use Rattle.calc_core.specs.EvaluationCalls.{moves, EvalReply, OnlyTouches};
 
@@ -43,7 +43,8 @@ use crate::files::{FileCall, Files, JoinedAnswer, JoinedCall, Text};
 use crate::scripts::{CalcFault, Outcome, Part, Parts, Total};
 use comemo::internal::{Breaking, Hashed, Multi, Pending};
 use comemo::{
-    Begun, CacheData, Constraint, How, Memo, MultiAnswer, MultiCall, Reply, Sink, Tracked, begin,
+    Begun, CacheData, Constraint, Function, How, MultiAnswer, MultiCall, Reply, Sink, Tracked,
+    begin,
 };
 use std::alloc::Global;
 
@@ -53,7 +54,7 @@ use std::alloc::Global;
 /// reads of files.
 pub struct Eval;
 
-impl Memo for Eval {
+impl Function for Eval {
     type Call = MultiCall<(), FileCall>;
 
     type Key = (Text, ());
@@ -62,7 +63,7 @@ impl Memo for Eval {
 
     type Out = Outcome;
 
-    ghost def = { IsOutcome };
+    ghost means = { λ key m outcome. Comes m key.0 outcome };
 
     ghost naming = { names EvalAsks };
 

@@ -173,11 +173,11 @@ module _ {C D R Q : Type 0} (eq : C → C → Bool) (same : R → R → Bool) (e
         pub part_read_begun : HasBegun (Done wrote w touches like answers) like answers t
         part_read_begun = part_begun k k.gives.are_sent nothing
 
-        pub tells_read_part : TellsMut (Goes (Done wrote w touches like answers) touches like answers) (Fits eqd like) s t (Ok reply.output) (λ output n. OnPart f g n (λ part. def key part output []))
-        tells_read_part = record {
+        pub tells_read_part : {P : O → (C → R) → Type 0} → ((part : C → R) → def key part reply.output k.writes → P reply.output part) → TellsMut (Goes (Done wrote w touches like answers) touches like answers) (Fits eqd like) s t (Ok reply.output) (λ output n. OnPart f g n (P output))
+        tells_read_part so = record {
           goes = part_goes k k.gives.are_sent nothing;
           before = part_before k k.gives.are_sent nothing;
-          told = λ n fits part e. subst (λ W. def key part reply.output W) none (part_told k k.gives.are_sent nothing n fits part e);
+          told = λ n fits part e. so part (part_told k k.gives.are_sent nothing n fits part e);
           whole = k.gives.are_sent.whole;
           fault = tt;
         }
@@ -414,16 +414,16 @@ module _ {S U V X Y P Q : Type 0} (j : Joined S U V X Y P Q) where
       pub read_first_begun : HasBegun Did j.parts.likes Answers t
       read_first_begun = part_read_begun j.parts.first_calls j.parts.first_likes j.parts.calls j.parts.likes first_call first_answer j.parts.by_calls.firsts j.parts.by_likes.firsts j.wrote are_writes touch Answers equal alike respects s t place same_recording has (j.parts.first_answers (j.first_of s.value.now)) (λ c. refl) eqk j.parts.first_writes cloned def naming kinds all key reply value reads k
 
-      pub tells_read_first : TellsMut (Goes Did touch j.parts.likes Answers) (Fits j.parts.calls j.parts.likes) s t (Ok reply.output) (λ output n. OnPart first_call first_answer n (λ part. def key part output []))
-      tells_read_first = tells_read_part j.parts.first_calls j.parts.first_likes j.parts.calls j.parts.likes first_call first_answer j.parts.by_calls.firsts j.parts.by_likes.firsts j.wrote are_writes touch Answers equal alike respects s t place same_recording has (j.parts.first_answers (j.first_of s.value.now)) (λ c. refl) eqk j.parts.first_writes cloned def naming kinds all key reply value reads k
+      pub tells_read_first : {T : O → (X → P) → Type 0} → ((part : X → P) → def key part reply.output k.writes → T reply.output part) → TellsMut (Goes Did touch j.parts.likes Answers) (Fits j.parts.calls j.parts.likes) s t (Ok reply.output) (λ output n. OnPart first_call first_answer n (T output))
+      tells_read_first so = tells_read_part j.parts.first_calls j.parts.first_likes j.parts.calls j.parts.likes first_call first_answer j.parts.by_calls.firsts j.parts.by_likes.firsts j.wrote are_writes touch Answers equal alike respects s t place same_recording has (j.parts.first_answers (j.first_of s.value.now)) (λ c. refl) eqk j.parts.first_writes cloned def naming kinds all key reply value reads k so
 
     -- after a call of a function of the second, which reads
     module _ {K O : Type 0} (eqk : K → K → Bool) (cloned : O → O → Type 0) (def : K → (Y → Q) → O → List Y → Type 0) (naming : Naming K Y Q) (all : All (λ p. are_writes p.0 ≡ false) t.recording.now.pairs) (key : K) {es mid es' : Entries K Y Q O} (reply : Reply O) (value : t.value.now ≡ s.value.now) (reads : (o : Y → Q) (writes : List Y) → def key o reply.output writes → writes ≡ []) (k : IsReply (record { same_call = j.parts.second_calls; same_answer = j.parts.second_likes; same_key = eqk; is_write = j.parts.second_writes; is_clone = cloned; def = def; naming = naming }) (invocation key (j.parts.second_answers (j.second_of s.value.now)) true) es mid (Through second_call second_answer (Took j.parts.calls touch s.recording.now t.recording.now)) reply es') where
       pub read_second_begun : HasBegun Did j.parts.likes Answers t
       read_second_begun = part_read_begun j.parts.second_calls j.parts.second_likes j.parts.calls j.parts.likes second_call second_answer j.parts.by_calls.seconds j.parts.by_likes.seconds j.wrote are_writes touch Answers equal alike respects s t place same_recording has (j.parts.second_answers (j.second_of s.value.now)) (λ c. refl) eqk j.parts.second_writes cloned def naming kinds all key reply value reads k
 
-      pub tells_read_second : TellsMut (Goes Did touch j.parts.likes Answers) (Fits j.parts.calls j.parts.likes) s t (Ok reply.output) (λ output n. OnPart second_call second_answer n (λ part. def key part output []))
-      tells_read_second = tells_read_part j.parts.second_calls j.parts.second_likes j.parts.calls j.parts.likes second_call second_answer j.parts.by_calls.seconds j.parts.by_likes.seconds j.wrote are_writes touch Answers equal alike respects s t place same_recording has (j.parts.second_answers (j.second_of s.value.now)) (λ c. refl) eqk j.parts.second_writes cloned def naming kinds all key reply value reads k
+      pub tells_read_second : {T : O → (Y → Q) → Type 0} → ((part : Y → Q) → def key part reply.output k.writes → T reply.output part) → TellsMut (Goes Did touch j.parts.likes Answers) (Fits j.parts.calls j.parts.likes) s t (Ok reply.output) (λ output n. OnPart second_call second_answer n (T output))
+      tells_read_second so = tells_read_part j.parts.second_calls j.parts.second_likes j.parts.calls j.parts.likes second_call second_answer j.parts.by_calls.seconds j.parts.by_likes.seconds j.wrote are_writes touch Answers equal alike respects s t place same_recording has (j.parts.second_answers (j.second_of s.value.now)) (λ c. refl) eqk j.parts.second_writes cloned def naming kinds all key reply value reads k so
 
     -- after a call of a function of the first, which writes
     module _ {K O : Type 0} (eqk : K → K → Bool) (cloned : O → O → Type 0) (def : K → (X → P) → O → List X → Type 0) (naming : Naming K X P) (all : All (λ p. are_writes p.0 ≡ false) t.recording.now.pairs) (key : K) {es mid es' : Entries K X P O} (reply : Reply O) (k : IsReplyMut (record { same_call = j.parts.first_calls; same_answer = j.parts.first_likes; same_key = eqk; is_write = j.parts.first_writes; is_clone = cloned; def = def; naming = naming }) (invocation key (j.parts.first_answers (j.first_of s.value.now)) true) j.parts.first_touches es mid (λ late. Through first_call first_answer (λ L W. TookAs (Took j.parts.calls touch) MarkedLate late s.recording.now t.recording.now L W × Did s.value.now t.value.now W)) reply es') where

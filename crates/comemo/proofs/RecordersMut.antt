@@ -9,6 +9,9 @@ use Rattle.comemo_base.specs.Answers.{Respects, Agrees}
 use Rattle.comemo_base.specs.Sequence.{held, absorbed}
 use Rattle.comemo_base.proofs.Pairs.{held-push}
 use Rattle.comemo_base.proofs.Paths.{turned, joined, Agrees-same, IsSamePath-turned}
+use Rattle.comemo_track.specs.Multi.{OnParts}
+use Rattle.comemo_track.specs.declared.multi.MultiAnswer.{MultiAnswer}
+use Rattle.comemo_track.specs.declared.multi.MultiCall.{MultiCall}
 use Rattle.comemo_track.specs.Recording.{Recording, Took, Spoiled, MarkedLate}
 use Rattle.comemo_track.specs.RecordingLaws.{held-absorbed}
 use Rattle.comemo_track.specs.Sending.{Asks, BreaksOff, SpoiledAfter, TookAs}
@@ -25,6 +28,10 @@ use Rattle.comemo.specs.FunctionMut.{Lent, Began, HasBegun, NoneTouches, Goes, T
 use Rattle.comemo.specs.declared.pending.Fault.{Fault}
 use Rattle.comemo.specs.declared.pending.Fault.TheVariants as fault
 use Rattle.comemo.proofs.Recorders.{was_whole, in_time, agrees_from, fitted_from, taken_from}
+
+-- for authors of functions of two values that write: output and writes, both right by the parts' answers
+pub right_on_parts : {X Y P Q : Type 0} {right written : (X → P) → (Y → Q) → Type 0} (m : MultiCall X Y → MultiAnswer P Q) → OnParts m (λ a b. right a b × written a b) → OnParts m written × OnParts m right
+right_on_parts m both = (λ a b p q. (both a b p q).1, λ a b p q. (both a b p q).0)
 
 or_true : (a : Bool) → (a || true) ≡ true
 or_true true = refl
@@ -286,11 +293,11 @@ module _ {V K C R O : Type 0} (M : Meaning K C R O) (wrote : V → C → V → T
       pub read_begun : HasBegun (Done wrote w touches M.same_answer answers) M.same_answer answers t
       read_begun = has_begun_on wrote w touches M.same_answer answers calls laws alike s t k.gives.given k.writes k.gives.are_sent read_reads read_agreed nothing has
 
-      pub tells_read : TellsMut (Goes (Done wrote w touches M.same_answer answers) touches M.same_answer answers) (Fits M.same_call M.same_answer) s t (Ok reply.output) (λ output n. M.def key n output [])
-      tells_read = record {
+      pub tells_read : {P : O → (C → R) → Type 0} → ((n : C → R) → M.def key n reply.output k.writes → P reply.output n) → TellsMut (Goes (Done wrote w touches M.same_answer answers) touches M.same_answer answers) (Fits M.same_call M.same_answer) s t (Ok reply.output) (λ output n. P output n)
+      tells_read so = record {
         goes = goes_on wrote w touches M.same_answer answers calls laws alike s t k.gives.given k.writes k.gives.are_sent read_reads read_agreed place same_recording nothing;
         before = fitted_mut wrote w touches M.same_answer answers calls laws alike s t k.gives.given k.writes k.gives.are_sent read_reads read_agreed has;
-        told = λ n f. subst (λ W. M.def key n reply.output W) none (k.stands n f.respects ((k.gives.agreeing n f.respects).0 (taken_mut wrote w touches M.same_answer answers calls laws alike s t k.gives.given k.writes k.gives.are_sent read_reads read_agreed has n f)));
+        told = λ n f. so n (k.stands n f.respects ((k.gives.agreeing n f.respects).0 (taken_mut wrote w touches M.same_answer answers calls laws alike s t k.gives.given k.writes k.gives.are_sent read_reads read_agreed has n f)));
         whole = k.gives.are_sent.whole;
         fault = tt;
       }

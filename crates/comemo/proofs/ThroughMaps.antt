@@ -47,15 +47,14 @@ module _ {C D R Q : Type 0} (eq : C → C → Bool) (same : R → R → Bool) (e
     }
 
     -- and what the run around it learnt
-    pub tells_through : {V : Type 0} {s t : Recorded V D Q} → t.value ≡ s.value → (s.recording.whole ≡ true → Agrees like n s.recording.pairs) → IsReply (record { same_call = eq; same_answer = same; same_key = eqk; is_write = w; is_clone = cloned; def = def; naming = naming }) (invocation key m true) es mid (Through f g (Took eqd touches s.recording t.recording)) reply es' → (reads : (m : C → R) (writes : List C) → def key m reply.output writes → writes ≡ []) → Tells (Fits eqd like) s t (Ok reply.output) (λ output o. OnPart f g o (λ part. def key part output []))
-    tells_through {s = s} {t = t} value before k reads = record {
+    pub tells_through : {V : Type 0} {s t : Recorded V D Q} → t.value ≡ s.value → (s.recording.whole ≡ true → Agrees like n s.recording.pairs) → IsReply (record { same_call = eq; same_answer = same; same_key = eqk; is_write = w; is_clone = cloned; def = def; naming = naming }) (invocation key m true) es mid (Through f g (Took eqd touches s.recording t.recording)) reply es' → {P : O → (C → R) → Type 0} → ((m : C → R) (writes : List C) → def key m reply.output writes → P reply.output m) → Tells (Fits eqd like) s t (Ok reply.output) (λ output o. OnPart f g o (P output))
+    tells_through {s = s} {t = t} value before k so = record {
       same_value = value;
       before = fitted calls answers n respects (mapped_pairs f g k.gives.given) (map f k.writes) k.gives.are_sent (given_agrees before k) before;
       told = λ o fits part e.
           let r = part_respects o part e fits.respects in
           let all = fits_taken calls answers n respects (mapped_pairs f g k.gives.given) (map f k.writes) k.gives.are_sent (given_agrees before k) before o fits in
-          let right = k.stands part r ((k.gives.agreeing part r).0 (agrees_part o part e k.gives.given all)) in
-          subst (λ ws. def key part reply.output ws) (reads part k.writes right) right;
+          so part k.writes (k.stands part r ((k.gives.agreeing part r).0 (agrees_part o part e k.gives.given all)));
       whole = k.gives.are_sent.whole;
       fault = tt;
     }

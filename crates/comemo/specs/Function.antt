@@ -36,11 +36,12 @@ module _ {C R : Type 0} (eq : C → C → Bool) (same : R → R → Bool) where
     pub before : (m : C → R) → Fits t m → Fits s m
     pub told : (m : C → R) → Fits t m → P m
 
-  -- a clone of a key is equal; the meaning treats equal keys alike, and an output like its clone
-  pub record Laws {K O : Type 0} (eqk : K → K → Bool) (key_clone : K → K → Type 0) (cloned : O → O → Type 0) (means : K → (C → R) → O → Type 0) : Type 0 where
+  -- clones of keys and answers are equal; the meaning treats equal keys alike, and an output like its clone
+  pub record Laws {K O : Type 0} (eqk : K → K → Bool) (key_clone : K → K → Type 0) (answer_clone : R → R → Type 0) (cloned : O → O → Type 0) (means : K → (C → R) → O → Type 0) : Type 0 where
     pub outputs : (key : K) (m : C → R) (a b : O) → Respects eq same m → cloned a b → means key m a → means key m b
     pub keys : (j k : K) (m : C → R) (output : O) → Respects eq same m → IsTrue (eqk j k) → means j m output → means k m output
-    pub clones : (x y : K) → key_clone x y → IsTrue (eqk x y)
+    pub key_clones : (x y : K) → key_clone x y → IsTrue (eqk x y)
+    pub answer_clones : (x y : R) → answer_clone x y → IsTrue (same x y)
 
 -- if the asked calls are named, a run under the key that returned an output has recorded these, unless its recording is
 -- incomplete or late: its pairs are causal and complete
@@ -67,15 +68,11 @@ pub record Tells {V C R X : Type 0} (fits : Recording C R → (C → R) → Type
 abbrev pub OnPart : {C D R Q : Type 0} → (C → D) → (R → Q) → (D → Q) → ((C → R) → Type 0) → Type 0
 OnPart {C} {D} {R} f g m holds = (part : C → R) → ((c : C) → m (f c) ≡ g (part c)) → holds part
 
--- what a function means, where these outputs and these writes are right: one of each
-abbrev pub writing : {K C R O : Type 0} → (K → (C → R) → O → Type 0) → (K → (C → R) → O → List C → Type 0) → K → (C → R) → O → List C → Type 0
-writing means writes key m output W = writes key m output W × means key m output
-
--- what is right has no writes
+-- only no writes are right
 abbrev pub ReadsAlone : {K C R O : Type 0} → (K → (C → R) → O → List C → Type 0) → Type 0
-ReadsAlone {K} {C} {R} {O} def = (key : K) (m : C → R) (output : O) (W : List C) → def key m output W → W ≡ []
+ReadsAlone {K} {C} {R} {O} writes = (key : K) (m : C → R) (output : O) (W : List C) → writes key m output W → W ≡ []
 
--- none are right, and no others
+-- to write nothing is right, and nothing else
 pub record WritesNone {K C R O : Type 0} (writes : K → (C → R) → O → List C → Type 0) : Type 0 where
   pub alone : ReadsAlone writes
   pub none : (key : K) (m : C → R) (output : O) → writes key m output []

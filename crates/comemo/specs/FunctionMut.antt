@@ -1,22 +1,15 @@
 -- What a memoized function that writes means, and what its run does and learns.
 use Rattle.std.specs.Prelude.{◌≡◌, ◌⊎◌, ◌++◌, Bool, true, false, IsTrue, List, map, Result, IfOk, OnOk, IfErr}
 use Rattle.std.specs.Borrow.{MutBor}
-use Rattle.comemo_base.specs.Answers.{Respects, Agrees}
+use Rattle.comemo_base.specs.Answers.{Agrees}
 use Rattle.comemo_track.specs.Recording.{Recording}
-use Rattle.comemo_cache.specs.Meaning.{Meaning, Invocation, SameWrites}
+use Rattle.comemo_cache.specs.Meaning.{Meaning, Invocation}
 use Rattle.comemo_cache.specs.Cache.{Entries, Touches}
 use Rattle.comemo.specs.Begin.{Reaches, IsStopped}
 use Rattle.comemo.specs.Called.{IsOfRun}
 use Rattle.comemo.specs.Function.{OnPart}
 use Rattle.comemo.specs.declared.pending.Fault.{Fault}
 use Rattle.comemo.specs.declared.pending.Fault.TheVariants as fault
-
--- a clone of a key is equal; the meaning treats equal keys and equal writes alike, and an output like its clone
-pub record LawsMut {C R K O : Type 0} (eq : C → C → Bool) (same : R → R → Bool) (eqk : K → K → Bool) (key_clone : K → K → Type 0) (cloned : O → O → Type 0) (means : K → (C → R) → O → List C → Type 0) : Type 0 where
-  pub outputs : (key : K) (m : C → R) (a b : O) (writes : List C) → Respects eq same m → cloned a b → means key m a writes → means key m b writes
-  pub keys : (j k : K) (m : C → R) (output : O) (writes : List C) → Respects eq same m → IsTrue (eqk j k) → means j m output writes → means k m output writes
-  pub writes : (key : K) (m : C → R) (output : O) (V W : List C) → Respects eq same m → SameWrites eq V W → means key m output V → means key m output W
-  pub clones : (x y : K) → key_clone x y → IsTrue (eqk x y)
 
 -- what a recorder that writes was lent: the value, and the recording of what it was asked and what was written to it
 pub record Lent (V C R : Type 0) : Type 0 where

@@ -1,10 +1,9 @@
 -- Laws of what functions mean, which traits require. No reader needs to believe them.
 use Rattle.std.proofs.Common.{◌≡◌, ◌∙◌, Bool, List, [], ◌∷◌, IsTrue, map, refl, sym, ap, subst}
 use Rattle.std.specs.Bool.{⊤}
-use Rattle.comemo_cache.specs.Meaning.{SameWrites}
-use Rattle.comemo_cache.specs.Cache.{MemoLaws}
-use Rattle.comemo.specs.Function.{Laws, writing}
-use Rattle.comemo.specs.FunctionMut.{LawsMut}
+use Rattle.comemo_cache.specs.Meaning.{IsRight, SameWrites}
+use Rattle.comemo_cache.specs.Cache.{FunctionLaws}
+use Rattle.comemo.specs.Function.{Laws}
 
 -- if there are no writes, there are no equal ones
 pub none_alike : {C : Type 0} (eq : C → C → Bool) (V W : List C) → SameWrites eq V W → V ≡ [] → W ≡ []
@@ -26,39 +25,40 @@ map_writes f alike [] (w ∷ W) same = absurd same
 map_writes f alike (v ∷ V) [] same = absurd same
 map_writes f alike (v ∷ V) (w ∷ W) same = rw (alike v w same.0, map_writes f alike V W same.1) refl
 
--- the laws of any meaning, if equal calls and equal keys are the same, and a clone is its original
-module _ {C R K O : Type 0} {eq : C → C → Bool} {same : R → R → Bool} {eqk : K → K → Bool} {key_clone : K → K → Type 0} {cloned : O → O → Type 0} {def : K → (C → R) → O → List C → Type 0} (calls : (x y : C) → IsTrue (eq x y) → y ≡ x) (keys : (x y : K) → IsTrue (eqk x y) → y ≡ x) (clones : (x y : K) → key_clone x y → IsTrue (eqk x y)) (outputs : (a b : O) → cloned a b → b ≡ a) where
-  pub exact_laws : LawsMut eq same eqk key_clone cloned def
-  exact_laws = record {
-    outputs = λ key m a b writes respects is right. subst (λ o. def key m o writes) (sym (outputs a b is)) right;
-    keys = λ j k m output writes respects is right. subst (λ i. def i m output writes) (sym (keys j k is)) right;
-    writes = λ key m output V W respects is right. subst (λ ws. def key m output ws) (sym (same_writes calls V W is)) right;
-    clones = clones;
-  }
+-- equal calls and equal keys are the same, a clone of an output is the output, and clones of keys and answers are equal
+pub record IsExact {C R K O : Type 0} (eq : C → C → Bool) (same : R → R → Bool) (eqk : K → K → Bool) (key_clone : K → K → Type 0) (answer_clone : R → R → Type 0) (cloned : O → O → Type 0) : Type 0 where
+  pub calls : (x y : C) → IsTrue (eq x y) → y ≡ x
+  pub keys : (x y : K) → IsTrue (eqk x y) → y ≡ x
+  pub outputs : (a b : O) → cloned a b → b ≡ a
+  pub key_clones : (x y : K) → key_clone x y → IsTrue (eqk x y)
+  pub answer_clones : (x y : R) → answer_clone x y → IsTrue (same x y)
 
-  pub exact_memo_laws : {answer_clone : R → R → Type 0} → ((x y : R) → answer_clone x y → IsTrue (same x y)) → MemoLaws eq same eqk key_clone answer_clone cloned def
-  exact_memo_laws answers = record {
-    outputs = λ key m a b writes respects is right. subst (λ o. def key m o writes) (sym (outputs a b is)) right;
-    keys = λ j k m output writes respects is right. subst (λ i. def i m output writes) (sym (keys j k is)) right;
-    writes = λ key m output V W respects is right. subst (λ ws. def key m output ws) (sym (same_writes calls V W is)) right;
-    key_clones = clones;
-    answer_clones = answers;
-  }
+-- the laws of any meaning over such types
+pub exact_laws : {C R K O : Type 0} {eq : C → C → Bool} {same : R → R → Bool} {eqk : K → K → Bool} {key_clone : K → K → Type 0} {answer_clone : R → R → Type 0} {cloned : O → O → Type 0} {def : K → (C → R) → O → List C → Type 0} → IsExact eq same eqk key_clone answer_clone cloned → FunctionLaws eq same eqk key_clone answer_clone cloned def
+exact_laws {def = def} e = record {
+  outputs = λ key m a b writes respects is right. subst (λ o. def key m o writes) (sym (e.outputs a b is)) right;
+  keys = λ j k m output writes respects is right. subst (λ i. def i m output writes) (sym (e.keys j k is)) right;
+  writes = λ key m output V W respects is right. subst (λ ws. def key m output ws) (sym (same_writes e.calls V W is)) right;
+  key_clones = e.key_clones;
+  answer_clones = e.answer_clones;
+}
 
 -- the laws of what a function that writes nothing means
-pub reads_laws : {C R K O : Type 0} {eq : C → C → Bool} {same : R → R → Bool} {eqk : K → K → Bool} {key_clone : K → K → Type 0} {cloned : O → O → Type 0} {means : K → (C → R) → O → Type 0} → Laws eq same eqk key_clone cloned means → LawsMut eq same eqk key_clone cloned (writing means (λ _ _ _ W. W ≡ []))
+pub reads_laws : {C R K O : Type 0} {eq : C → C → Bool} {same : R → R → Bool} {eqk : K → K → Bool} {key_clone : K → K → Type 0} {answer_clone : R → R → Type 0} {cloned : O → O → Type 0} {means : K → (C → R) → O → Type 0} → Laws eq same eqk key_clone answer_clone cloned means → FunctionLaws eq same eqk key_clone answer_clone cloned (IsRight means (λ _ _ _ W. W ≡ []))
 reads_laws {eq = eq} l = record {
   outputs = λ key m a b writes respects is right. (right.0, l.outputs key m a b respects is right.1);
   keys = λ j k m output writes respects is right. (right.0, l.keys j k m output respects is right.1);
   writes = λ key m output V W respects is right. (none_alike eq V W is right.0, right.1);
-  clones = l.clones;
+  key_clones = l.key_clones;
+  answer_clones = l.answer_clones;
 }
 
 -- the laws of a function that is what it writes, whatever it gives
-pub writing_laws : {C R K O : Type 0} {eq : C → C → Bool} {same : R → R → Bool} {eqk : K → K → Bool} {key_clone : K → K → Type 0} {cloned : O → O → Type 0} {writes : K → (C → R) → O → List C → Type 0} → LawsMut eq same eqk key_clone cloned writes → LawsMut eq same eqk key_clone cloned (writing (λ _ _ _. ⊤) writes)
+pub writing_laws : {C R K O : Type 0} {eq : C → C → Bool} {same : R → R → Bool} {eqk : K → K → Bool} {key_clone : K → K → Type 0} {answer_clone : R → R → Type 0} {cloned : O → O → Type 0} {writes : K → (C → R) → O → List C → Type 0} → FunctionLaws eq same eqk key_clone answer_clone cloned writes → FunctionLaws eq same eqk key_clone answer_clone cloned (IsRight (λ _ _ _. ⊤) writes)
 writing_laws l = record {
   outputs = λ key m a b W respects is right. (l.outputs key m a b W respects is right.0, tt);
   keys = λ j k m output W respects is right. (l.keys j k m output W respects is right.0, tt);
   writes = λ key m output V W respects is right. (l.writes key m output V W respects is right.0, tt);
-  clones = l.clones;
+  key_clones = l.key_clones;
+  answer_clones = l.answer_clones;
 }

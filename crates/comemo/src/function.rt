@@ -1,24 +1,22 @@
-//! What a memoized function of a key and a tracked value means, and the run and the calls of one that only reads. A hit
-//! costs what `begin` costs; any other call costs what `begin`, the run and `Pending::finish` cost.
+//! The run and the calls of a memoized function of a key and a tracked value that only reads. A hit costs what `begin`
+//! costs; any other call costs what `begin`, the run and `Pending::finish` cost.
 ghost use Rattle.std.specs.Prelude.{◌≡◌, ◌⊎◌, [], List, Bool, true, false, IsTrue, IfOk, IfErr, OnOk, OnErr, ⊤};
-ghost use Rattle.comemo_cache.specs.Meaning.{Naming, unnamed, invocation};
-ghost use Rattle.comemo.specs.FunctionMut.{LawsMut};
+ghost use Rattle.comemo_cache.specs.Meaning.{invocation};
 ghost use Rattle.comemo.specs.Called.{RanAs, IsOfRun, HeldReply};
 ghost use Rattle.comemo_cache.specs.Held.{Held, Leads, Stays};
 ghost use Rattle.comemo.specs.Finish.{BrokeOff};
 ghost use Rattle.comemo_track.specs.Recording.{Recording, Took, Spoiled};
 ghost use Rattle.comemo_track.specs.Sending.{Asks, BreaksOff};
-ghost use Rattle.comemo.specs.Function.{Recorded, Fits, Tells, ReadsAlone, SettlesRun, writing};
+ghost use Rattle.comemo.specs.Function.{Recorded, Fits, Tells, WritesNone, SettlesRun};
 
 use crate::pending::{Begun, Fault, How, Pending, Reply, look_up};
-use comemo_cache::cache::{Meant, Memo};
+use comemo_cache::cache::{Function, Meant};
 use comemo_cache::hold::Hold;
 use comemo_track::constraint::Constraint;
 use comemo_track::input::Keyed;
 use comemo_track::track::{Breaking, Call, Sink, Top, Track, Tracked};
 use std::alloc::Global;
-use std::hash::Hash;
-use std::marker::{Model, PhantomData};
+use std::marker::Model;
 
 /// What a recorder states of a tracked value's answers, for contracts, as `⟦<T as Told>⟧.fits`. There is nothing to
 /// implement.
@@ -44,41 +42,14 @@ impl<T: Track> Told for T {
         (BreaksOff (Took T.Call.eq T.Call.touches) Spoiled s.recording t.recording) };
 }
 
-/// What a memoized function of a key and a tracked value means: which outputs, and which writes, are right.
+/// How a function that only reads is done, on a tracked value.
 ///
-/// Several untracked arguments form one key, as a tuple. A `Run` or a `RunMut` does the function; one that calls itself
-/// has neither. The checker finds the laws if keys and outputs are plain values.
-pub trait Function {
-    /// The untracked arguments, under which a call is cached.
-    type Key: Clone + Eq + Hash;
-
-    /// The tracked value that a run asks, or `()`.
-    type Of: Track;
-
-    /// The output.
-    type Out: Clone;
-
-    // at this key and these answers, this output is right
-    ghost means: { Self.Key → (Self.Of.Call → Self.Of.Answer) → Self.Out → Type 0 };
-
-    // and these writes: none, by default
-    ghost writes: { Self.Key → (Self.Of.Call → Self.Of.Answer) → Self.Out
-        → List Self.Of.Call → Type 0 } = { λ _ _ _ W. W ≡ [] };
-
-    // which calls are asked at a key and at answers, if the function names them; then no run goes unstored because of
-    // another order of its calls
-    ghost naming: { Naming Self.Key Self.Of.Call Self.Of.Answer } = { unnamed };
-
-    // clones of keys are equal; the meaning treats equal keys and equal writes alike, and an output like its clone
-    ghost laws: { LawsMut Self.Of.Call.eq Self.Of.Answer.eq Self.Key.eq Self.Key.is_clone
-        Self.Out.is_clone (writing means writes) };
-}
-
-/// How a function that only reads is done.
-pub trait Run: Function {
+/// The value may borrow: several values as one, by `Both`, or a view of the user's own type. The meaning names no value, so
+/// the cache outlives it. A function that calls itself has no `Run`.
+pub trait Run<T: Track>: Function<Call = T::Call, Answer = T::Answer> {
     /// What a run needs besides its arguments: the caches of the functions that it calls, or `()`.
     ///
-    /// They can't hold the function's own cache, which the checker refuses: a function that calls itself has no `Run`.
+    /// They can't hold the function's own cache, which the checker refuses.
     type Needs;
 
     /// Does the function, and asks the value through the recorder.
@@ -87,16 +58,14 @@ pub trait Run: Function {
     /// recording is incomplete.
     fn run(
         key: &Self::Key,
-        of: &mut Recorder<'_, Self::Of>,
+        of: &mut Recorder<'_, T>,
         needs: &mut Self::Needs,
     ) -> Result<Self::Out, Fault>
         ensures same { of.new.value ≡ of.old.value }
-        ensures right { IfOk result (λ output. (m : Self.Of.Call → Self.Of.Answer)
-            → ⟦<Self::Of as Told>⟧.fits of.new.recording m → Self.means key.now m output) }
-        ensures none { (m : Self.Of.Call → Self.Of.Answer) (output : Self.Out)
-            → Self.writes key.now m output [] }
-        ensures settled { SettlesRun Self.Key.eq Self.Of.Call.eq Self.Of.Answer.eq
-            Self.naming key.now of.old.recording of.new.recording result }
+        ensures right { IfOk result (λ output. (m : T.Call → T.Answer)
+            → ⟦<T as Told>⟧.fits of.new.recording m → Self.means key.now m output) }
+        ensures settled { SettlesRun Self.Key.eq T.Call.eq T.Answer.eq Self.naming key.now
+            of.old.recording of.new.recording result }
         ensures fault { IfErr result
             (λ fault. fault ≡ Fault.Incomplete → of.new.recording.whole ≡ false) };
 }
@@ -153,15 +122,15 @@ impl<'a, T: Track> Recorder<'a, T> {
 
     /// Calls another memoized function of the same value, as `memoized_with`, with the recording as its sink. After a
     /// fault the run can't be finished.
-    pub fn call<G: FunctionOf<T>, H: Hold<G>>(
+    pub fn call<G: Run<T>, H: Hold<G>>(
         &mut self,
         cache: &mut H,
         needs: &mut G::Needs,
         key: G::Key,
     ) -> Result<G::Out, Fault>
-        requires { ReadsAlone G.def }
+        requires { WritesNone G.writes }
         ensures tells { Tells ⟦<T as Told>⟧.fits self.old self.new result
-            (λ output m. G.def key m output []) }
+            (λ output m. G.means key m output) }
         ensures reply { IfOk result (λ output. (reply : Reply G.Out) × (reply.output ≡ output)
             × HeldReply ⟦<G as Meant>⟧.meaning (invocation key (T.answers self.old.value) true)
             (H.entries cache.old)
@@ -174,16 +143,16 @@ impl<'a, T: Track> Recorder<'a, T> {
     }
 
     /// As `call`, with the reply. With `enabled` false it neither looks up nor stores.
-    pub fn call_reply<G: FunctionOf<T>, H: Hold<G>>(
+    pub fn call_reply<G: Run<T>, H: Hold<G>>(
         &mut self,
         cache: &mut H,
         needs: &mut G::Needs,
         key: G::Key,
         enabled: bool,
     ) -> Result<Reply<G::Out>, Fault>
-        requires { ReadsAlone G.def }
+        requires { WritesNone G.writes }
         ensures tells { Tells ⟦<T as Told>⟧.fits self.old self.new result
-            (λ reply m. G.def key m reply.output []) }
+            (λ reply m. G.means key m reply.output) }
         ensures reply { IfOk result (λ reply. HeldReply ⟦<G as Meant>⟧.meaning
             (invocation key (T.answers self.old.value) enabled)
             (H.entries cache.old)
@@ -204,74 +173,9 @@ impl<'a, T: Track> Recorder<'a, T> {
     }
 }
 
-/// The `Memo` of a `Function`: `CacheData<MemoOf<F>>` is the cache of `F`. It has no values.
-pub struct MemoOf<F> {
-    function: PhantomData<F>,
-}
-
-impl<F: Function> Memo for MemoOf<F> {
-    type Call = <F::Of as Track>::Call;
-
-    type Key = F::Key;
-
-    type Answer = <F::Of as Track>::Answer;
-
-    type Out = F::Out;
-
-    ghost def = { writing F.means F.writes };
-
-    ghost naming = { F.naming };
-
-    ghost laws = { record {
-      outputs = F.laws.outputs;
-      keys = F.laws.keys;
-      writes = F.laws.writes;
-      key_clones = F.laws.clones;
-      answer_clones = F.Of.clones;
-    } };
-}
-
-/// A memoized function of a key and `T`, which may borrow: several tracked values as one, by `Both`, or a view of the
-/// user's own type.
-///
-/// The meaning is that of its `Memo`, which names no lifetime, so its cache outlives the values. The `MemoOf` of each
-/// `Run` is one already.
-pub trait FunctionOf<T: Track>: Memo<Call = T::Call, Answer = T::Answer> {
-    /// What a run needs besides its arguments: the caches of the functions that it calls, or `()`.
-    ///
-    /// They can't hold the function's own cache, which the checker refuses: a function that calls itself has no run.
-    type Needs;
-
-    /// Does the function, under the same terms as `Run::run`.
-    fn run(
-        key: &Self::Key,
-        of: &mut Recorder<'_, T>,
-        needs: &mut Self::Needs,
-    ) -> Result<Self::Out, Fault>
-        ensures same { of.new.value ≡ of.old.value }
-        ensures right { IfOk result (λ output. (m : T.Call → T.Answer)
-            → ⟦<T as Told>⟧.fits of.new.recording m → Self.def key.now m output []) }
-        ensures settled { SettlesRun Self.Key.eq T.Call.eq T.Answer.eq Self.naming key.now
-            of.old.recording of.new.recording result }
-        ensures fault { IfErr result
-            (λ fault. fault ≡ Fault.Incomplete → of.new.recording.whole ≡ false) };
-}
-
-impl<F: Run> FunctionOf<F::Of> for MemoOf<F> {
-    type Needs = F::Needs;
-
-    fn run(
-        key: &F::Key,
-        of: &mut Recorder<'_, F::Of>,
-        needs: &mut F::Needs,
-    ) -> Result<F::Out, Fault> {
-        F::run(key, of, needs)
-    }
-}
-
 /// How a call goes that takes a holder and a sink from these to those, for contracts, as
 /// `⟦<M as Answering<H, T, S>>⟧.replies`. There is nothing to implement.
-pub trait Answering<H, T, S>: Memo<Call = T::Call, Answer = T::Answer>
+pub trait Answering<H, T, S>: Function<Call = T::Call, Answer = T::Answer>
 where
     H: Hold<Self>,
     T: Track,
@@ -287,7 +191,7 @@ where
     ghost fails: { Bool → Self.Key → T → H → S → S → Fault → Type 0 };
 }
 
-impl<M: Memo<Call = T::Call, Answer = T::Answer>, H, T, S> Answering<H, T, S> for M
+impl<M: Function<Call = T::Call, Answer = T::Answer>, H, T, S> Answering<H, T, S> for M
 where
     H: Hold<M>,
     T: Track,
@@ -307,7 +211,7 @@ where
 ///
 /// The sink takes what was asked: it is the recording of the outer run, or `Top`. With `enabled` false there is no
 /// look-up, and nothing is stored.
-pub fn memoized_with<M: FunctionOf<T>, H: Hold<M>, T: Track, S>(
+pub fn memoized_with<M: Run<T>, H: Hold<M>, T: Track, S>(
     alloc: Global,
     cache: &mut H,
     needs: &mut M::Needs,
@@ -318,8 +222,8 @@ pub fn memoized_with<M: FunctionOf<T>, H: Hold<M>, T: Track, S>(
 ) -> Result<Reply<M::Out>, Fault>
 where
     S: Sink<Call = T::Call, Answer = T::Answer>,
-    requires { ReadsAlone M.def }
-    ensures right { IfOk result (λ reply. M.def key (T.answers of.now) reply.output []) }
+    requires { WritesNone M.writes }
+    ensures right { IfOk result (λ reply. M.means key (T.answers of.now) reply.output) }
     ensures reply { IfOk result (⟦<M as Answering<H, T, S>>⟧.replies
         enabled key of.now cache.old cache.new sink.old sink.new) }
     ensures fault { IfErr result (⟦<M as Answering<H, T, S>>⟧.fails
@@ -332,7 +236,7 @@ where
 }
 
 /// As `memoized_with`, for a view of the value.
-pub(crate) fn memoized_view<M: FunctionOf<T>, H: Hold<M>, T: Track, S>(
+pub(crate) fn memoized_view<M: Run<T>, H: Hold<M>, T: Track, S>(
     alloc: Global,
     cache: &mut H,
     needs: &mut M::Needs,
@@ -343,8 +247,8 @@ pub(crate) fn memoized_view<M: FunctionOf<T>, H: Hold<M>, T: Track, S>(
 ) -> Result<Reply<M::Out>, Fault>
 where
     S: Sink<Call = T::Call, Answer = T::Answer>,
-    requires { ReadsAlone M.def }
-    ensures right { IfOk result (λ reply. M.def key (T.answers of.now) reply.output []) }
+    requires { WritesNone M.writes }
+    ensures right { IfOk result (λ reply. M.means key (T.answers of.now) reply.output) }
     ensures reply { IfOk result (⟦<M as Answering<H, T, S>>⟧.replies
         enabled key of.now cache.old cache.new sink.old sink.new) }
     ensures fault { IfErr result (⟦<M as Answering<H, T, S>>⟧.fails
@@ -372,7 +276,7 @@ where
 
 /// Runs a function under the cache's clone of the key. Not inlined, so that a hit makes no room for a run.
 #[inline(never)]
-fn run_kept<M: FunctionOf<T>, H: Hold<M>, T: Track, S: Sink<Call = T::Call, Answer = T::Answer>>(
+fn run_kept<M: Run<T>, H: Hold<M>, T: Track, S: Sink<Call = T::Call, Answer = T::Answer>>(
     alloc: Global,
     cache: &mut H,
     needs: &mut M::Needs,
@@ -381,6 +285,7 @@ fn run_kept<M: FunctionOf<T>, H: Hold<M>, T: Track, S: Sink<Call = T::Call, Answ
     sink: &mut S,
     enabled: bool,
 ) -> Result<Reply<M::Out>, Fault>
+    requires { WritesNone M.writes }
     ensures ran { IfOk result (λ reply.
         Leads (H.entries cache.old) (H.entries cache.new) (λ es es'.
         RanAs ⟦<M as Meant>⟧.meaning (invocation key (T.answers of.now) enabled) es
@@ -408,14 +313,14 @@ fn run_kept<M: FunctionOf<T>, H: Hold<M>, T: Track, S: Sink<Call = T::Call, Answ
 }
 
 /// Calls a memoized function without needs, outside of any run. A hit of an entry of age 0 clones only the output.
-pub fn memoized<M: FunctionOf<T, Needs = ()>, H: Hold<M>, T: Track>(
+pub fn memoized<M: Run<T, Needs = ()>, H: Hold<M>, T: Track>(
     alloc: Global,
     cache: &mut H,
     key: M::Key,
     of: &T,
 ) -> Result<Reply<M::Out>, Fault>
-    requires { ReadsAlone M.def }
-    ensures right { IfOk result (λ reply. M.def key (T.answers of.now) reply.output []) }
+    requires { WritesNone M.writes }
+    ensures right { IfOk result (λ reply. M.means key (T.answers of.now) reply.output) }
     ensures reply { IfOk result (λ reply. HeldReply ⟦<M as Meant>⟧.meaning
         (invocation key (T.answers of.now) true) (H.entries cache.old)
         (λ _ _. ⊤) reply (H.entries cache.new)) }

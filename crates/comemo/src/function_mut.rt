@@ -2,11 +2,11 @@
 //! what `begin` costs; any other call costs what `begin`, the run and `Pending::finish` cost.
 ghost use Rattle.std.specs.Prelude.{◌≡◌, Result, [], ◌∷◌, ◌++◌, ◌⊎◌, List, Bool, true, false, IsTrue, IfOk, IfErr, OnOk, OnErr, ⊤};
 ghost use Rattle.comemo.specs.Called.{HeldReply, HeldReplyMut};
-ghost use Rattle.comemo_cache.specs.Meaning.{invocation};
+ghost use Rattle.comemo_cache.specs.Meaning.{IsRight, invocation};
 ghost use Rattle.comemo_cache.specs.Held.{Leads, Stays};
 ghost use Rattle.comemo.specs.Begin.{Reaches};
 ghost use Rattle.comemo.specs.Finish.{BrokeOff};
-ghost use Rattle.comemo.specs.Function.{ReadsAlone, SettlesAs, SettlesRun, writing};
+ghost use Rattle.comemo.specs.Function.{SettlesAs, SettlesRun, WritesNone};
 ghost use Rattle.std.specs.Borrow.{MutBor};
 ghost use Rattle.comemo.specs.RecursiveMut.{Within};
 ghost use Rattle.comemo.specs.FunctionMut.{Lent, lent, HasBegun, NoneTouches, Goes, TellsMut, TellsWrites, WasStopped, IsFailed, FailsBy};
@@ -15,9 +15,9 @@ ghost use Rattle.comemo_track.specs.Recording.{Recording, Took, Spoiled, MarkedL
 ghost use Rattle.comemo_track.specs.Writing.{Done};
 ghost use Rattle.comemo_track.specs.Sending.{Asks, BreaksOff, SpoiledAfter, TookAs};
 
-use crate::function::{Function, FunctionOf, MemoOf, Told, memoized_view};
+use crate::function::{Run, Told, memoized_view};
 use crate::pending::{Begun, Fault, How, Reply, begin};
-use comemo_cache::cache::{Meant, Memo};
+use comemo_cache::cache::{Function, Meant};
 use comemo_cache::hold::Hold;
 use comemo_track::constraint::Constraint;
 use comemo_track::input::KeyedMut;
@@ -47,34 +47,6 @@ impl<T: Track> ToldMut for T {
         T.Call.touches T.Answer.eq T.answers };
 
     ghost took = { Took T.Call.eq T.Call.touches };
-}
-
-/// How a function that also writes is done. Its `writes` states which writes are right.
-pub trait RunMut: Function {
-    /// What a run needs besides its arguments: the caches of the functions that it calls, or `()`.
-    type Needs;
-
-    /// Does the function, and asks the value and writes to it through the recorder.
-    ///
-    /// Output and writes must be right for all answers that agree with the recording. `Incomplete` may be returned only
-    /// if the recording is incomplete.
-    fn run(
-        key: &Self::Key,
-        of: &mut RecorderMut<'_, '_, Self::Of>,
-        needs: &mut Self::Needs,
-    ) -> Result<Self::Out, Fault>
-        requires begins { of.now.recording.now.writes ≡ [] }
-        requires agrees { ⟦<Self::Of as ToldMut>⟧.agrees (lent of.now.value of.now.recording) }
-        ensures agrees { ⟦<Self::Of as ToldMut>⟧.agrees (lent of.new.value of.new.recording) }
-        ensures goes { ⟦<Self::Of as ToldMut>⟧.goes
-            (lent of.old.value of.old.recording) (lent of.new.value of.new.recording) }
-        ensures right { IfOk result (λ output. (m : Self.Of.Call → Self.Of.Answer)
-            → ⟦<Self::Of as Told>⟧.fits of.new.recording.now m
-            → writing Self.means Self.writes key.now m output of.new.recording.now.writes) }
-        ensures settled { SettlesRun Self.Key.eq Self.Of.Call.eq Self.Of.Answer.eq
-            Self.naming key.now of.old.recording.now of.new.recording.now result }
-        ensures fault { IfErr result
-            (λ fault. fault ≡ Fault.Incomplete → of.new.recording.now.whole ≡ false) };
 }
 
 /// What a recorder that writes knows, and what it does from one state to another, for contracts, as
@@ -279,17 +251,17 @@ impl<'a, 'b, T: Track> RecorderMut<'a, 'b, T> {
 
     /// Calls another memoized function of the same value, which only reads, and records what it asked, as
     /// `Recorder::call`.
-    pub fn call<G: FunctionOf<T>, H: Hold<G>>(
+    pub fn call<G: Run<T>, H: Hold<G>>(
         &mut self,
         cache: &mut H,
         needs: &mut G::Needs,
         key: G::Key,
     ) -> Result<G::Out, Fault>
-        requires reads { ReadsAlone G.def }
+        requires reads { WritesNone G.writes }
         requires agrees { ⟦<Self as Records>⟧.agrees self.old }
         ensures agrees { ⟦<Self as Records>⟧.agrees self.new }
         ensures tells { ⟦<Self as Records>⟧.tells self.old self.new result
-            (λ output m. G.def key m output []) }
+            (λ output m. G.means key m output) }
         ensures writes { OnOk result
             (self.new.recording.now.writes ≡ self.old.recording.now.writes) }
         ensures value { self.new.value ≡ self.old.value }
@@ -310,7 +282,7 @@ impl<'a, 'b, T: Track> RecorderMut<'a, 'b, T> {
 
     /// Calls another memoized function of the same value, as `memoized_mut_with`, with the recording as its sink. After
     /// a fault the run can't be finished.
-    pub fn call_mut<G: FunctionMutOf<T>, H: Hold<G>>(
+    pub fn call_mut<G: RunMut<T>, H: Hold<G>>(
         &mut self,
         cache: &mut H,
         needs: &mut G::Needs,
@@ -320,7 +292,7 @@ impl<'a, 'b, T: Track> RecorderMut<'a, 'b, T> {
         ensures agrees { ⟦<Self as Records>⟧.agrees self.new }
         ensures tells { ⟦<Self as Writes>⟧.tells
             (lent self.old.value self.old.recording) self.new result
-            (λ output m writes. G.def key m output writes) }
+            (λ output m writes. IsRight G.means G.writes key m output writes) }
         ensures reply { IfOk result (λ output. (reply : Reply G.Out) × (reply.output ≡ output)
             × ⟦<G as AnsweringMut<H, T, Constraint<T::Call, T::Answer>>>⟧.replies true key
             self.old.value.now self.new.value.now cache.old cache.new
@@ -345,16 +317,17 @@ impl<'a, 'b, T: Track> RecorderMut<'a, 'b, T> {
     }
 }
 
-/// A memoized function of a key and `T`, which it reads and writes. `T` may borrow: several tracked values as one, by
-/// `BothMut` or `ReadAndWrite`, or the user's own type.
+/// How a function that also writes is done, on a tracked value. Its `writes` states which writes are right.
 ///
-/// The meaning is that of its `Memo`, which names no lifetime, so its cache outlives the values. The `MemoOf` of each
-/// `RunMut` is one already.
-pub trait FunctionMutOf<T: Track>: Memo<Call = T::Call, Answer = T::Answer> {
+/// The value may borrow: several values as one, by `BothMut` or `ReadAndWrite`, or the user's own type.
+pub trait RunMut<T: Track>: Function<Call = T::Call, Answer = T::Answer> {
     /// What a run needs besides its arguments: the caches of the functions that it calls, or `()`.
     type Needs;
 
-    /// Does the function, under the same terms as `RunMut::run`.
+    /// Does the function, and asks the value and writes to it through the recorder.
+    ///
+    /// Output and writes must be right for all answers that agree with the recording. `Incomplete` may be returned only
+    /// if the recording is incomplete.
     fn run(
         key: &Self::Key,
         of: &mut RecorderMut<'_, '_, T>,
@@ -367,34 +340,23 @@ pub trait FunctionMutOf<T: Track>: Memo<Call = T::Call, Answer = T::Answer> {
             (lent of.old.value of.old.recording) (lent of.new.value of.new.recording) }
         ensures right { IfOk result (λ output. (m : T.Call → T.Answer)
             → ⟦<T as Told>⟧.fits of.new.recording.now m
-            → Self.def key.now m output of.new.recording.now.writes) }
+            → IsRight Self.means Self.writes key.now m output of.new.recording.now.writes) }
         ensures settled { SettlesRun Self.Key.eq T.Call.eq T.Answer.eq Self.naming key.now
             of.old.recording.now of.new.recording.now result }
         ensures fault { IfErr result
             (λ fault. fault ≡ Fault.Incomplete → of.new.recording.now.whole ≡ false) };
 }
 
-impl<F: RunMut> FunctionMutOf<F::Of> for MemoOf<F> {
-    type Needs = F::Needs;
-
-    fn run(
-        key: &F::Key,
-        of: &mut RecorderMut<'_, '_, F::Of>,
-        needs: &mut F::Needs,
-    ) -> Result<F::Out, Fault> {
-        F::run(key, of, needs)
-    }
-}
-
 /// Runs a function on a value. Returns the run's result, and its recording.
-fn run_recorded<M: FunctionMutOf<T>, T: Track>(
+fn run_recorded<M: RunMut<T>, T: Track>(
     alloc: Global,
     key: &M::Key,
     of: &mut T,
     needs: &mut M::Needs,
 ) -> (Result<M::Out, Fault>, Constraint<T::Call, T::Answer>)
     ensures right { IfOk result.0 (λ output. (m : T.Call → T.Answer)
-        → ⟦<T as Told>⟧.fits result.1 m → M.def key.now m output result.1.writes) }
+        → ⟦<T as Told>⟧.fits result.1 m
+        → IsRight M.means M.writes key.now m output result.1.writes) }
     ensures settled { SettlesAs M.Key.eq T.Call.eq T.Answer.eq M.naming key.now
         result.1 result.0 }
     ensures fault { IfErr result.0
@@ -419,7 +381,7 @@ fn run_recorded<M: FunctionMutOf<T>, T: Track>(
 
 /// How a call of a function that writes goes, from these states to those, for contracts, as
 /// `⟦<M as AnsweringMut<H, T, S>>⟧.replies`. There is nothing to implement.
-pub trait AnsweringMut<H, T, S>: Memo<Call = T::Call, Answer = T::Answer>
+pub trait AnsweringMut<H, T, S>: Function<Call = T::Call, Answer = T::Answer>
 where
     H: Hold<Self>,
     T: Track,
@@ -438,7 +400,7 @@ where
     ghost breaks: { Bool → Self.Key → T → T → H → H → S → S → Type 0 };
 }
 
-impl<M: Memo<Call = T::Call, Answer = T::Answer>, H, T, S> AnsweringMut<H, T, S> for M
+impl<M: Function<Call = T::Call, Answer = T::Answer>, H, T, S> AnsweringMut<H, T, S> for M
 where
     H: Hold<M>,
     T: Track,
@@ -462,7 +424,7 @@ where
 
 /// Calls a memoized function that writes: does the writes of an entry that agrees and returns its output, or runs the
 /// function and stores the run. Sink and `enabled` are as in `memoized_with`.
-pub fn memoized_mut_with<M: FunctionMutOf<T>, H: Hold<M>, T: Track, S>(
+pub fn memoized_mut_with<M: RunMut<T>, H: Hold<M>, T: Track, S>(
     alloc: Global,
     cache: &mut H,
     needs: &mut M::Needs,
@@ -474,7 +436,8 @@ pub fn memoized_mut_with<M: FunctionMutOf<T>, H: Hold<M>, T: Track, S>(
 where
     S: Sink<Call = T::Call, Answer = T::Answer>,
     ensures right { IfOk result (λ reply. (reply.how ≡ How.Late → ⊥)
-        → (writes : List T.Call) × M.def key (T.answers of.old) reply.output writes
+        → (writes : List T.Call)
+        × IsRight M.means M.writes key (T.answers of.old) reply.output writes
         × ⟦<T as Written>⟧.did of.old of.new writes) }
     ensures reply { IfOk result (⟦<M as AnsweringMut<H, T, S>>⟧.replies
         enabled key of.old of.new cache.old cache.new sink.old sink.new) }
@@ -508,14 +471,15 @@ where
 }
 
 /// Calls a memoized function that writes and has no needs, outside of any run.
-pub fn memoized_mut<M: FunctionMutOf<T, Needs = ()>, H: Hold<M>, T: Track>(
+pub fn memoized_mut<M: RunMut<T, Needs = ()>, H: Hold<M>, T: Track>(
     alloc: Global,
     cache: &mut H,
     key: M::Key,
     of: &mut T,
 ) -> Result<Reply<M::Out>, Fault>
     ensures right { IfOk result (λ reply. (reply.how ≡ How.Late → ⊥)
-        → (writes : List T.Call) × M.def key (T.answers of.old) reply.output writes
+        → (writes : List T.Call)
+        × IsRight M.means M.writes key (T.answers of.old) reply.output writes
         × ⟦<T as Written>⟧.did of.old of.new writes) }
     ensures reply { IfOk result (λ reply. HeldReplyMut ⟦<M as Meant>⟧.meaning T.Call.touches
         (invocation key (T.answers of.old) true) (H.entries cache.old)

@@ -5,13 +5,13 @@
 //! live there now, and the third is not:
 //!
 //! ```rust
-//! use comemo::{CacheData, How, MemoOf, memoized};
+//! use comemo::{CacheData, How, memoized};
 //! use comemo_samples::Town;
 //! use std::test::Fail;
 //!
 //! fn a_town_that_grows_is_as_warm(rt: HostRuntime) -> Result<(), Fail> {
 //!     let alloc = rt.alloc();
-//!     let mut cache: CacheData<MemoOf<Warmth>> = CacheData::new(alloc);
+//!     let mut cache: CacheData<Warmth> = CacheData::new(alloc);
 //!     let calls = [
 //!         (900, 21, How::Stored),
 //!         (1000, 21, How::Hit),
@@ -45,12 +45,12 @@ mod recursive_mut;
 
 pub use closure::memoize;
 pub use comemo_base::{Prehashed, hash};
-pub use comemo_cache::{Cache, CacheData, Caches, Contents, Explanation, Hold, Memo};
+pub use comemo_cache::{Cache, CacheData, Caches, Contents, Explanation, Function, Hold};
 pub use comemo_track::{
     Both, BothMut, Call, Constraint, MultiAnswer, MultiCall, ReadAndWrite, Sink, Top, Track,
     Tracked,
 };
 pub use explanation::explain;
-pub use function::{Function, FunctionOf, MemoOf, Recorder, Run, memoized, memoized_with};
-pub use function_mut::{FunctionMutOf, RecorderMut, RunMut, memoized_mut, memoized_mut_with};
+pub use function::{Recorder, Run, memoized, memoized_with};
+pub use function_mut::{RecorderMut, RunMut, memoized_mut, memoized_mut_with};
 pub use pending::{Begun, Fault, How, Reply, begin};

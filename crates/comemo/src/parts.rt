@@ -5,9 +5,9 @@ ghost use Rattle.comemo_cache.specs.Meaning.{invocation};
 ghost use Rattle.comemo_cache.specs.Held.{Stays};
 ghost use Rattle.comemo_track.specs.Sending.{Asks};
 ghost use Rattle.comemo_track.specs.Mapped.{Through};
-ghost use Rattle.comemo.specs.Function.{Tells, OnPart, ReadsAlone};
+ghost use Rattle.comemo.specs.Function.{Tells, OnPart, WritesNone};
 
-use crate::function::{FunctionOf, Recorder, Told, memoized_view};
+use crate::function::{Recorder, Run, Told, memoized_view};
 use crate::pending::{Fault, Reply};
 use comemo_cache::cache::Meant;
 use comemo_cache::hold::Hold;
@@ -18,7 +18,7 @@ use comemo_track::track::{Track, Tracked};
 
 impl<'a, T: Track> Recorder<'a, T> {
     /// As `call`, for a function of a part of the value: what it asked is recorded, renamed by a map.
-    fn call_through<A: Track, G: FunctionOf<A>, H: Hold<G>, P>(
+    fn call_through<A: Track, G: Run<A>, H: Hold<G>, P>(
         &mut self,
         cache: &mut H,
         needs: &mut G::Needs,
@@ -29,12 +29,12 @@ impl<'a, T: Track> Recorder<'a, T> {
     where
         P: CallMap<From = A::Call, FromAnswer = A::Answer, To = T::Call, ToAnswer = T::Answer>
             + Drop,
-        requires reads { ReadsAlone G.def }
+        requires reads { WritesNone G.writes }
         requires through { (c : A.Call)
             → T.answers self.old.value (P.maps map c) ≡ P.maps_answer map (A.answers of.now c) }
         ensures tells { Tells ⟦<T as Told>⟧.fits self.old self.new result
             (λ output m. OnPart (P.maps map) (P.maps_answer map) m
-            (λ part. G.def key part output [])) }
+            (λ part. G.means key part output)) }
         ensures reply { IfOk result (λ output. (reply : Reply G.Out) × (reply.output ≡ output)
             × HeldReply ⟦<G as Meant>⟧.meaning
             (invocation key (A.answers of.now) true) (H.entries cache.old)
@@ -97,15 +97,15 @@ impl<'a, 'b, A: Track, B: Track> Recorder<'a, Both<'b, A, B>> {
     }
 
     /// Calls a memoized function of the first value, and records what it asked, as `call`.
-    pub fn call_first<G: FunctionOf<A>, H: Hold<G>>(
+    pub fn call_first<G: Run<A>, H: Hold<G>>(
         &mut self,
         cache: &mut H,
         needs: &mut G::Needs,
         key: G::Key,
     ) -> Result<G::Out, Fault>
-        requires { ReadsAlone G.def }
+        requires { WritesNone G.writes }
         ensures tells { Tells ⟦<Both<'b, A, B> as Told>⟧.fits self.old self.new result
-            (λ output m. OnPart first_call first_answer m (λ part. G.def key part output [])) }
+            (λ output m. OnPart first_call first_answer m (λ part. G.means key part output)) }
         ensures reply { IfOk result (λ output. (reply : Reply G.Out) × (reply.output ≡ output)
             × HeldReply ⟦<G as Meant>⟧.meaning
             (invocation key (A.answers self.old.value.first) true)
@@ -120,15 +120,15 @@ impl<'a, 'b, A: Track, B: Track> Recorder<'a, Both<'b, A, B>> {
     }
 
     /// Calls a memoized function of the second value, and records what it asked, as `call`.
-    pub fn call_second<G: FunctionOf<B>, H: Hold<G>>(
+    pub fn call_second<G: Run<B>, H: Hold<G>>(
         &mut self,
         cache: &mut H,
         needs: &mut G::Needs,
         key: G::Key,
     ) -> Result<G::Out, Fault>
-        requires { ReadsAlone G.def }
+        requires { WritesNone G.writes }
         ensures tells { Tells ⟦<Both<'b, A, B> as Told>⟧.fits self.old self.new result
-            (λ output m. OnPart second_call second_answer m (λ part. G.def key part output [])) }
+            (λ output m. OnPart second_call second_answer m (λ part. G.means key part output)) }
         ensures reply { IfOk result (λ output. (reply : Reply G.Out) × (reply.output ≡ output)
             × HeldReply ⟦<G as Meant>⟧.meaning
             (invocation key (B.answers self.old.value.second) true)

@@ -2,15 +2,15 @@
 ghost use Rattle.std.specs.Prelude.{◌≡◌, [], ◌∷◌, true, false, IsTrue, IfOk, IfErr, OnOk, OnErr, map, ⊤};
 ghost use Rattle.comemo.specs.Called.{HeldReply, HeldReplyMut};
 ghost use Rattle.comemo.specs.Finish.{BrokeOff};
-ghost use Rattle.comemo_cache.specs.Meaning.{invocation};
+ghost use Rattle.comemo_cache.specs.Meaning.{IsRight, invocation};
 ghost use Rattle.comemo_cache.specs.Held.{Leads, Stays};
-ghost use Rattle.comemo.specs.Function.{OnPart, ReadsAlone};
+ghost use Rattle.comemo.specs.Function.{OnPart, WritesNone};
 ghost use Rattle.comemo.specs.FunctionMut.{lent, OnPartWrites, IsFailed};
 ghost use Rattle.comemo_track.specs.Mapped.{Through, mapped_pairs};
 ghost use Rattle.comemo_track.specs.Sending.{Asks};
 
-use crate::function::{Answering, FunctionOf, memoized_with};
-use crate::function_mut::{FunctionMutOf, RecorderMut, Records, Writes, memoized_mut_with};
+use crate::function::{Answering, Run, memoized_with};
+use crate::function_mut::{RecorderMut, Records, RunMut, Writes, memoized_mut_with};
 use crate::pending::{Fault, Reply};
 use comemo_cache::cache::Meant;
 use comemo_cache::hold::Hold;
@@ -113,17 +113,17 @@ impl<'a, 'b, 'c, A: Track, B: Track> RecorderMut<'a, 'b, BothMut<'c, A, B>> {
     }
 
     /// Calls a memoized function of the first value, which only reads, and records its calls, as `RecorderMut::call`.
-    pub fn call_first<G: FunctionOf<A>, H: Hold<G>>(
+    pub fn call_first<G: Run<A>, H: Hold<G>>(
         &mut self,
         cache: &mut H,
         needs: &mut G::Needs,
         key: G::Key,
     ) -> Result<G::Out, Fault>
-        requires reads { ReadsAlone G.def }
+        requires reads { WritesNone G.writes }
         requires agrees { ⟦<Self as Records>⟧.agrees self.old }
         ensures agrees { ⟦<Self as Records>⟧.agrees self.new }
         ensures tells { ⟦<Self as Records>⟧.tells self.old self.new result
-            (λ output m. OnPart first_call first_answer m (λ part. G.def key part output [])) }
+            (λ output m. OnPart first_call first_answer m (λ part. G.means key part output)) }
         ensures writes { OnOk result
             (self.new.recording.now.writes ≡ self.old.recording.now.writes) }
         ensures value { self.new.value ≡ self.old.value }
@@ -145,17 +145,17 @@ impl<'a, 'b, 'c, A: Track, B: Track> RecorderMut<'a, 'b, BothMut<'c, A, B>> {
     }
 
     /// Calls a memoized function of the second value, which only reads, and records its calls, as `RecorderMut::call`.
-    pub fn call_second<G: FunctionOf<B>, H: Hold<G>>(
+    pub fn call_second<G: Run<B>, H: Hold<G>>(
         &mut self,
         cache: &mut H,
         needs: &mut G::Needs,
         key: G::Key,
     ) -> Result<G::Out, Fault>
-        requires reads { ReadsAlone G.def }
+        requires reads { WritesNone G.writes }
         requires agrees { ⟦<Self as Records>⟧.agrees self.old }
         ensures agrees { ⟦<Self as Records>⟧.agrees self.new }
         ensures tells { ⟦<Self as Records>⟧.tells self.old self.new result
-            (λ output m. OnPart second_call second_answer m (λ part. G.def key part output [])) }
+            (λ output m. OnPart second_call second_answer m (λ part. G.means key part output)) }
         ensures writes { OnOk result
             (self.new.recording.now.writes ≡ self.old.recording.now.writes) }
         ensures value { self.new.value ≡ self.old.value }
@@ -178,7 +178,7 @@ impl<'a, 'b, 'c, A: Track, B: Track> RecorderMut<'a, 'b, BothMut<'c, A, B>> {
 
     /// Calls a memoized function of the first value, which may write, and records its calls and writes, as
     /// `RecorderMut::call_mut`.
-    pub fn call_mut_first<G: FunctionMutOf<A>, H: Hold<G>>(
+    pub fn call_mut_first<G: RunMut<A>, H: Hold<G>>(
         &mut self,
         cache: &mut H,
         needs: &mut G::Needs,
@@ -189,7 +189,7 @@ impl<'a, 'b, 'c, A: Track, B: Track> RecorderMut<'a, 'b, BothMut<'c, A, B>> {
         ensures tells { ⟦<Self as Writes>⟧.tells
             (lent self.old.value self.old.recording) self.new result
             (λ output m writes. OnPartWrites first_call first_answer m writes
-            (λ part own. G.def key part output own)) }
+            (λ part own. IsRight G.means G.writes key part output own)) }
         ensures reply { IfOk result (λ output. (reply : Reply G.Out) × (reply.output ≡ output)
             × HeldReplyMut ⟦<G as Meant>⟧.meaning A.Call.touches
             (invocation key (A.answers self.old.value.now.first.now) true) (H.entries cache.old)
@@ -223,7 +223,7 @@ impl<'a, 'b, 'c, A: Track, B: Track> RecorderMut<'a, 'b, BothMut<'c, A, B>> {
 
     /// Calls a memoized function of the second value, which may write, and records its calls and writes, as
     /// `RecorderMut::call_mut`.
-    pub fn call_mut_second<G: FunctionMutOf<B>, H: Hold<G>>(
+    pub fn call_mut_second<G: RunMut<B>, H: Hold<G>>(
         &mut self,
         cache: &mut H,
         needs: &mut G::Needs,
@@ -234,7 +234,7 @@ impl<'a, 'b, 'c, A: Track, B: Track> RecorderMut<'a, 'b, BothMut<'c, A, B>> {
         ensures tells { ⟦<Self as Writes>⟧.tells
             (lent self.old.value self.old.recording) self.new result
             (λ output m writes. OnPartWrites second_call second_answer m writes
-            (λ part own. G.def key part output own)) }
+            (λ part own. IsRight G.means G.writes key part output own)) }
         ensures reply { IfOk result (λ output. (reply : Reply G.Out) × (reply.output ≡ output)
             × HeldReplyMut ⟦<G as Meant>⟧.meaning B.Call.touches
             (invocation key (B.answers self.old.value.now.second.now) true) (H.entries cache.old)
@@ -268,7 +268,7 @@ impl<'a, 'b, 'c, A: Track, B: Track> RecorderMut<'a, 'b, BothMut<'c, A, B>> {
 }
 
 /// Calls a memoized function that only reads, of a value that is lent to be written.
-fn memoized_part<G: FunctionOf<T>, H: Hold<G>, T: Track, S>(
+fn memoized_part<G: Run<T>, H: Hold<G>, T: Track, S>(
     alloc: Global,
     cache: &mut H,
     needs: &mut G::Needs,
@@ -278,7 +278,7 @@ fn memoized_part<G: FunctionOf<T>, H: Hold<G>, T: Track, S>(
 ) -> Result<Reply<G::Out>, Fault>
 where
     S: Sink<Call = T::Call, Answer = T::Answer>,
-    requires reads { ReadsAlone G.def }
+    requires reads { WritesNone G.writes }
     ensures reply { IfOk result (⟦<G as Answering<H, T, S>>⟧.replies
         true key of.old cache.old cache.new sink.old sink.new) }
     ensures same { of.new ≡ of.old }

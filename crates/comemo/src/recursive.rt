@@ -3,38 +3,16 @@ ghost use Rattle.std.specs.Prelude.{◌≡◌, ◌↔◌, [], true, false, List,
 ghost use Rattle.comemo.specs.Called.{HeldReply};
 ghost use Rattle.comemo_cache.specs.Meaning.{IsNamedRun, invocation, run};
 ghost use Rattle.comemo_cache.specs.Held.{Held, Leads, Stays};
-ghost use Rattle.comemo.specs.Function.{ReadsAlone, WritesNone, writing};
+ghost use Rattle.comemo.specs.Function.{WritesNone};
 ghost use Rattle.comemo.specs.Recursive.{TellsOwn, TellsFrom, OnCallBegun, Starts, FinishedAs};
 
-use crate::function::{Function, FunctionOf, MemoOf, Recorder, Told};
+use crate::function::{Recorder, Run, Told};
 use crate::pending::{Begun, Fault, How, Pending, Reply, look_up};
-use comemo_cache::cache::{Meant, Memo};
+use comemo_cache::cache::{Function, Meant};
 use comemo_cache::hold::Hold;
 use comemo_track::input::Keyed;
 use comemo_track::track::{Call, Track};
 use std::hash::Hash;
-
-/// What a memoized function means, in two parts: which outputs are right, and which writes. The `MemoOf` of each
-/// `Function` has it. A `Memo` of several values that calls itself states it.
-pub trait MeansAndWrites: Memo {
-    // at this key and these answers, this output is right
-    ghost means: { Self.Key → (Self.Call → Self.Answer) → Self.Out → Type 0 };
-
-    // and these writes
-    ghost writes: { Self.Key → (Self.Call → Self.Answer) → Self.Out → List Self.Call → Type 0 };
-
-    // by `def` both are right, and nothing else
-    ghost parts: { (key : Self.Key) (m : Self.Call → Self.Answer) (output : Self.Out)
-        (W : List Self.Call) → Self.Memo.def key m output W ↔ writing means writes key m output W };
-}
-
-impl<F: Function> MeansAndWrites for MemoOf<F> {
-    ghost means = { F.means };
-
-    ghost writes = { F.writes };
-
-    ghost parts = { λ key m output W. (λ right. right, λ right. right) };
-}
 
 /// A nested run, with a recorder of its own. If it is dropped, as by `?`, nothing is stored, and the recorder around it
 /// takes nothing.
@@ -49,7 +27,7 @@ pub struct Inner<'a, K, T: Track> {
 impl<'a, T: Track> Recorder<'a, T> {
     /// Begins a nested call: returns the output of an entry that agrees, or a run with a recorder of its own. On a hit
     /// this recorder takes the entry's path.
-    pub fn begin<G: MeansAndWrites<Call = T::Call, Answer = T::Answer>, H: Hold<G>>(
+    pub fn begin<G: Function<Call = T::Call, Answer = T::Answer>, H: Hold<G>>(
         &mut self,
         cache: &mut H,
         key: &G::Key,
@@ -92,7 +70,7 @@ impl<'a, T: Track> Recorder<'a, T> {
     /// Finishes a nested run with its output, and stores it. This recorder takes what the run recorded.
     ///
     /// The output must be right for all answers that agree with the run's recording, which must be complete.
-    pub fn finish<G: MeansAndWrites<Call = T::Call, Answer = T::Answer>, H: Hold<G>>(
+    pub fn finish<G: Function<Call = T::Call, Answer = T::Answer>, H: Hold<G>>(
         &mut self,
         cache: &mut H,
         key: &G::Key,
@@ -122,7 +100,7 @@ impl<'a, T: Track> Recorder<'a, T> {
     }
 
     /// As `finish`, with the reply: whether the run was stored, or why not.
-    pub fn finish_reply<G: MeansAndWrites<Call = T::Call, Answer = T::Answer>, H: Hold<G>>(
+    pub fn finish_reply<G: Function<Call = T::Call, Answer = T::Answer>, H: Hold<G>>(
         &mut self,
         cache: &mut H,
         key: &G::Key,
@@ -165,15 +143,15 @@ impl<'a, T: Track> Recorder<'a, T> {
 
     /// As `call`, for a function that calls itself: `Incomplete` is returned as `Memory`, since the fault may end a run
     /// whose own recording is complete.
-    pub fn call_other<G: FunctionOf<T>, H: Hold<G>>(
+    pub fn call_other<G: Run<T>, H: Hold<G>>(
         &mut self,
         cache: &mut H,
         needs: &mut G::Needs,
         key: G::Key,
     ) -> Result<G::Out, Fault>
-        requires { ReadsAlone G.def }
+        requires { WritesNone G.writes }
         ensures tells { TellsOwn ⟦<T as Told>⟧.fits self.old self.new result
-            (λ output m. G.def key m output []) }
+            (λ output m. G.means key m output) }
         ensures reply { IfOk result (λ output. (reply : Reply G.Out) × (reply.output ≡ output)
             × HeldReply ⟦<G as Meant>⟧.meaning (invocation key (T.answers self.old.value) true)
             (H.entries cache.old)

@@ -8,14 +8,14 @@ ghost use Rattle.comemo.specs.Function.{Fits};
 ghost use Rattle.comemo.specs.FunctionMut.{WasStopped, lent};
 ghost use Rattle.comemo.specs.Recursive.{OnCallBegun, FinishedAs};
 ghost use Rattle.comemo.specs.RecursiveMut.{IsEmpty, StartsMut};
-ghost use Rattle.comemo_cache.specs.Meaning.{IsNamedRun, invocation, run};
+ghost use Rattle.comemo_cache.specs.Meaning.{IsRight, IsNamedRun, invocation, run};
 ghost use Rattle.comemo_cache.specs.Held.{Held, Leads, Stays};
 ghost use Rattle.comemo_track.specs.Recording.{Recording, Took, Spoiled, MarkedLate};
 ghost use Rattle.comemo_track.specs.Sending.{BreaksOff, TookAs};
 
 use crate::function_mut::{RecorderMut, Records, Writes};
 use crate::pending::{Begun, Fault, How, Pending, Reply, look_up};
-use comemo_cache::cache::{Meant, Memo};
+use comemo_cache::cache::{Function, Meant};
 use comemo_cache::hold::Hold;
 use comemo_track::constraint::Constraint;
 use comemo_track::input::KeyedMut;
@@ -33,7 +33,7 @@ pub struct InnerMut<K, T: Track> {
 
 /// How a nested call of a function that writes goes, for contracts, as `⟦<G as Nesting<H, Self>>⟧.begins`. There is
 /// nothing to implement.
-pub trait Nesting<H, R>: Memo
+pub trait Nesting<H, R>: Function
 where
     H: Hold<Self>,
     R: Records<Call = Self::Call, Answer = Self::Answer>,
@@ -64,7 +64,7 @@ where
     ghost breaks: { H → H → Recording Self.Call Self.Answer → R → R → Type 0 };
 }
 
-impl<M: Memo, H, R> Nesting<H, R> for M
+impl<M: Function, H, R> Nesting<H, R> for M
 where
     H: Hold<M>,
     R: Records<Call = M::Call, Answer = M::Answer>,
@@ -88,7 +88,7 @@ where
 
     ghost right = { λ key s output. (m : M.Call → M.Answer)
         → Fits M.Call.eq M.Answer.eq (R.recording s) m
-        → M.def key m output (R.recording s).writes };
+        → IsRight M.means M.writes key m output (R.recording s).writes };
 
     ghost named = { λ key s. (R.recording s).whole ≡ true → (R.recording s).late ≡ false
         → IsNamedRun ⟦<M as Meant>⟧.meaning key (R.recording s).pairs };
@@ -112,7 +112,7 @@ impl<'a, 'b, T: Track> RecorderMut<'a, 'b, T> {
     ///
     /// On a hit this recorder takes the entry's path and writes. A run has an empty recording; that of this recorder is
     /// set aside until `finish`.
-    pub fn begin<G: Memo<Call = T::Call, Answer = T::Answer>, H: Hold<G>>(
+    pub fn begin<G: Function<Call = T::Call, Answer = T::Answer>, H: Hold<G>>(
         &mut self,
         cache: &mut H,
         key: &G::Key,
@@ -121,7 +121,8 @@ impl<'a, 'b, T: Track> RecorderMut<'a, 'b, T> {
         ensures agrees { ⟦<Self as Records>⟧.agrees self.new }
         ensures tells { OnCallBegun result (λ reply. ⟦<Self as Writes>⟧.tells
             (lent self.old.value self.old.recording) self.new reply
-            (λ output m writes. G.def key.now m output writes)) (λ inner. ⟦<Self as Records>⟧.within
+            (λ output m writes. IsRight G.means G.writes key.now m output writes))
+            (λ inner. ⟦<Self as Records>⟧.within
             (lent self.old.value self.old.recording) self.new inner.around) }
         ensures hit { OnCallBegun result (λ told. IfOk told (⟦<G as Nesting<H, Self>>⟧.hits
             key.now cache.old cache.new self.old self.new)) (λ _. ⊤) }
@@ -151,7 +152,7 @@ impl<'a, 'b, T: Track> RecorderMut<'a, 'b, T> {
 
     /// Finishes a nested run by its result: stores its output, or returns its fault. The recording that was set aside
     /// is back, and takes the run's. Output and writes must be right as in `RunMut::run`.
-    pub fn finish<G: Memo<Call = T::Call, Answer = T::Answer>, H: Hold<G>>(
+    pub fn finish<G: Function<Call = T::Call, Answer = T::Answer>, H: Hold<G>>(
         &mut self,
         cache: &mut H,
         key: &G::Key,
@@ -165,7 +166,8 @@ impl<'a, 'b, T: Track> RecorderMut<'a, 'b, T> {
         ensures agrees { ⟦<Self as Records>⟧.began self.old inner.around
             (λ _. ⟦<Self as Records>⟧.agrees self.new) }
         ensures tells { ⟦<Self as Records>⟧.began self.old inner.around (λ s.
-            ⟦<Self as Writes>⟧.tells s self.new result (λ out m W. G.def key.now m out W)) }
+            ⟦<Self as Writes>⟧.tells s self.new result
+            (λ out m W. IsRight G.means G.writes key.now m out W)) }
         ensures finished { IfOk result (λ output. (ran ≡ Ok output) × (became : How)
             × ⟦<G as Nesting<H, Self>>⟧.ends cache.old cache.new inner.own inner.around
             self.old self.new output became) }
@@ -182,7 +184,7 @@ impl<'a, 'b, T: Track> RecorderMut<'a, 'b, T> {
     }
 
     /// As `finish`, with the reply: whether the run was stored, or why not.
-    pub fn finish_reply<G: Memo<Call = T::Call, Answer = T::Answer>, H: Hold<G>>(
+    pub fn finish_reply<G: Function<Call = T::Call, Answer = T::Answer>, H: Hold<G>>(
         &mut self,
         cache: &mut H,
         key: &G::Key,
@@ -196,7 +198,8 @@ impl<'a, 'b, T: Track> RecorderMut<'a, 'b, T> {
         ensures agrees { ⟦<Self as Records>⟧.began self.old inner.around
             (λ _. ⟦<Self as Records>⟧.agrees self.new) }
         ensures tells { ⟦<Self as Records>⟧.began self.old inner.around (λ s.
-            ⟦<Self as Writes>⟧.tells s self.new result (λ r m W. G.def key.now m r.output W)) }
+            ⟦<Self as Writes>⟧.tells s self.new result
+            (λ reply m W. IsRight G.means G.writes key.now m reply.output W)) }
         ensures finished { IfOk result (λ r. (ran ≡ Ok r.output) × ⟦<G as Nesting<H, Self>>⟧.ends
             cache.old cache.new inner.own inner.around self.old self.new r.output r.how) }
         ensures value { self.new.value ≡ self.old.value }

@@ -47,9 +47,9 @@ exactly M = record M { is_clone = λ a b. b ≡ a }
 abbrev pub SameWrites : {C : Type 0} → (C → C → Bool) → List C → List C → Type 0
 SameWrites eq V W = AllZip (λ a b. IsTrue (eq a b)) V W
 
--- the meaning of a function that only reads: no writes, and one of these outputs
-abbrev pub reading : {K C R O : Type 0} → (K → (C → R) → O → Type 0) → K → (C → R) → O → List C → Type 0
-reading right key m output writes = (writes ≡ []) × right key m output
+-- the output and the writes are right, where these outputs and these writes are
+abbrev pub IsRight : {K C R O : Type 0} → (K → (C → R) → O → Type 0) → (K → (C → R) → O → List C → Type 0) → K → (C → R) → O → List C → Type 0
+IsRight means writes key m output W = writes key m output W × means key m output
 
 -- a call of a memoized function: its key, its input's answers, and whether the cache is looked up and the run stored
 pub record Invocation (K C R : Type 0) : Type 0 where

@@ -5,9 +5,9 @@ ghost use Rattle.std.specs.List.{All, Any};
 ghost use Rattle.comemo_base.specs.Answers.{Agrees};
 ghost use Rattle.comemo_base.specs.Lookup.{under, IsAsked, IsRefused, FindsAgreeing, FindsAgreeingPath};
 ghost use Rattle.comemo_base.specs.Insertion.{IsReason};
-ghost use Rattle.comemo_cache.specs.Meaning.{Meaning, Naming, unnamed, IsNamed, IsNamedRun, exactly, invocation, run};
+ghost use Rattle.comemo_cache.specs.Meaning.{Meaning, Naming, unnamed, IsNamed, IsNamedRun, exactly, invocation, run, IsRight};
 ghost use Rattle.comemo_base.specs.declared.insertion.InsertError.TheVariants.{MissingCall};
-ghost use Rattle.comemo_cache.specs.Cache.{MemoLaws, Stands, HasNone, Has, HasAged, IsPeeked, IsMiss, IsRefusedLook, TouchesAt, Evicts};
+ghost use Rattle.comemo_cache.specs.Cache.{FunctionLaws, Stands, HasNone, Has, HasAged, IsPeeked, IsMiss, IsRefusedLook, TouchesAt, Evicts};
 ghost use Rattle.comemo_base.specs.Tree.{IsTree};
 ghost use Rattle.comemo_cache.specs.Storing.{Stores};
 
@@ -19,12 +19,12 @@ use std::alloc::{AllocError, Global};
 use std::hash::Hash;
 use std::marker::Model;
 
-/// A memoized function: its types, and which outputs and writes are right at a key and at answers, by `def`.
+/// What a memoized function means: which outputs, and which writes, are right at a key and at answers.
 ///
-/// `def` doesn't depend on a cache. By its laws it treats equal keys, equal writes and clones alike, under answers that
-/// treat equal calls alike.
-pub trait Memo {
-    /// What a run can ask.
+/// Several untracked arguments form one key, as a tuple. A run is written for any tracked value that has these calls and
+/// answers. The checker finds the laws if keys, calls, answers and outputs are plain values.
+pub trait Function {
+    /// What a run can ask, and write.
     type Call: Call;
 
     /// The untracked arguments, under which a call is cached.
@@ -36,46 +36,50 @@ pub trait Memo {
     /// The output.
     type Out: Clone;
 
-    // at this key and these answers, this output and these writes are right
-    ghost def: { Self.Key → (Self.Call → Self.Answer) → Self.Out → List Self.Call → Type 0 };
+    // at this key and these answers, this output is right
+    ghost means: { Self.Key → (Self.Call → Self.Answer) → Self.Out → Type 0 };
 
-    // the calls that are asked at a key and answers, if the function names them; then each path in a cache is causal
+    // and these writes: none, by default
+    ghost writes: { Self.Key → (Self.Call → Self.Answer) → Self.Out
+        → List Self.Call → Type 0 } = { λ _ _ _ W. W ≡ [] };
+
+    // which calls are asked at a key and at answers, if the function names them; then each path in a cache is causal
     // and complete, and storing a run never fails with `MissingCall`
     ghost naming: { Naming Self.Key Self.Call Self.Answer } = { unnamed };
 
-    // clones of keys and answers are equal; the definition treats equal keys, equal writes, and an output and its clone
-    // alike
-    ghost laws: { MemoLaws Self.Call.eq Self.Answer.eq Self.Key.eq
-        Self.Key.is_clone Self.Answer.is_clone Self.Out.is_clone def };
+    // clones of keys and answers are equal; the meaning treats equal keys and equal writes alike, and an output like its
+    // clone
+    ghost laws: { FunctionLaws Self.Call.eq Self.Answer.eq Self.Key.eq
+        Self.Key.is_clone Self.Answer.is_clone Self.Out.is_clone (IsRight means writes) };
 }
 
 /// What a memoized function means, as one value, for contracts: `⟦<M as Meant>⟧.meaning`. There is nothing to
 /// implement.
-pub trait Meant: Memo {
+pub trait Meant: Function {
     ghost meaning: { Meaning Self.Key Self.Call Self.Answer Self.Out };
 }
 
-impl<M: Memo> Meant for M {
+impl<M: Function> Meant for M {
     ghost meaning = { record {
       same_call = M.Call.eq;
       same_answer = M.Answer.eq;
       same_key = M.Key.eq;
       is_write = M.Call.is_write;
       is_clone = M.Out.is_clone;
-      def = M.def;
+      def = IsRight M.means M.writes;
       naming = M.naming;
     } };
 }
 
 /// The result of a run, as the cache holds it.
 #[derive(Drop)]
-pub(crate) struct KeptRun<M: Memo> {
+pub(crate) struct KeptRun<M: Function> {
     output: M::Out,
     writes: Vec<M::Call>,
     pub(crate) age: usize,
 }
 
-impl<M: Memo> Model for KeptRun<M> {
+impl<M: Function> Model for KeptRun<M> {
     ghost use Rattle.comemo_cache.specs.Cache.{Kept, kept_code};
 
     ghost Value = { Kept M.Out M.Call };
@@ -91,16 +95,17 @@ impl<M: Memo> Model for KeptRun<M> {
 /// right at its key for all answers that agree with its path. Entries under one key share one copy of it; paths with an
 /// equal prefix share its calls and answers. Only `evict` drops entries.
 #[derive(Drop)]
-pub struct CacheData<M: Memo> {
+pub struct CacheData<M: Function> {
     pub(crate) tree: CallTree<M::Key, M::Call, M::Answer, KeptRun<M>>,
 }
 
-impl<M: Memo> Model for CacheData<M> {
+impl<M: Function> Model for CacheData<M> {
     ghost use Rattle.std.specs.Prelude.{List};
     ghost use Rattle.std.specs.List.{All, Any};
     ghost use Rattle.std.specs.Coded.{coded_list};
     ghost use Rattle.comemo_base.specs.Tree.{Stored, stored_code};
     ghost use Rattle.comemo_cache.specs.Cache.{Kept, kept_code, IsLegal};
+    ghost use Rattle.comemo_cache.specs.Meaning.{IsRight};
 
     ghost Value = { List (Stored M.Key M.Call M.Answer (Kept M.Out M.Call)) };
 
@@ -115,14 +120,14 @@ impl<M: Memo> Model for CacheData<M> {
       same_key = M.Key.eq;
       is_write = M.Call.is_write;
       is_clone = M.Out.is_clone;
-      def = M.def;
+      def = IsRight M.means M.writes;
       naming = M.naming;
     })) s.tree };
 }
 
 /// What a look-up found: the entry's path, output and writes, cloned.
 #[derive(Drop)]
-pub struct Found<M: Memo> {
+pub struct Found<M: Function> {
     /// The calls of the path, in order, with the answers of this look-up, which equal the stored ones.
     pub pairs: Vec<(M::Call, M::Answer)>,
     /// The output.
@@ -135,7 +140,7 @@ pub struct Found<M: Memo> {
 
 /// What a peek found: as `Found`, without the path.
 #[derive(Drop)]
-pub struct Peeked<M: Memo> {
+pub struct Peeked<M: Function> {
     /// The output.
     pub output: M::Out,
     /// The run's writes, in order.
@@ -212,7 +217,7 @@ fn get_agreeing<'a, K: Clone + Eq + Hash, In: Input, T>(
     )
 }
 
-impl<M: Memo> CacheData<M> {
+impl<M: Function> CacheData<M> {
     /// An empty cache. Does not allocate.
     pub fn new(alloc: Global) -> Self
         ensures { result ≡ [] }

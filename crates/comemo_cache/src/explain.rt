@@ -7,7 +7,7 @@ ghost use Rattle.comemo_base.specs.Tree.{IsSamePath};
 ghost use Rattle.comemo_cache.specs.Meaning.{invocation};
 ghost use Rattle.comemo_cache.specs.Explaining.{Explains};
 
-use crate::cache::{CacheData, Meant, Memo};
+use crate::cache::{CacheData, Function, Meant};
 use comemo_track::input::Input;
 use comemo_track::track::Call;
 use comemo_tree::CallTree;
@@ -79,7 +79,7 @@ fn note_agreeing<'a, K: Clone + Eq + Hash, In: Input, T>(
     )
 }
 
-impl<M: Memo> CacheData<M> {
+impl<M: Function> CacheData<M> {
     /// Says why a call finds an entry or none. Nothing changes.
     ///
     /// It asks what a look-up asks, and clones each call and each answer.

@@ -15,7 +15,7 @@ pub mod hold;
 pub mod shared;
 pub mod steps;
 
-pub use cache::{CacheData, Found, Meant, Memo, Peeked};
+pub use cache::{CacheData, Found, Function, Meant, Peeked};
 pub use contents::Contents;
 pub use eviction::{Caches, Evict, Evictor};
 pub use evictors::register_evictor;

@@ -12,7 +12,7 @@ ghost use Rattle.comemo_cache.specs.Cache.{Entries, Evicts, Stands, TouchesAt};
 ghost use Rattle.comemo_cache.specs.Storing.{Stores};
 ghost use Rattle.comemo_cache.specs.Held.{ChangesBehind, Held, Leads, Stays};
 
-use crate::cache::{CacheData, Found, Meant, Memo, Peeked};
+use crate::cache::{CacheData, Found, Function, Meant, Peeked};
 use crate::contents::Contents;
 use crate::explain::Explanation;
 use crate::hold::{Hold, Reads};
@@ -34,11 +34,11 @@ const PARTS: usize = 64;
 
 /// A reference to the entries of a part, or to none if the part never had one.
 #[derive(Drop)]
-struct Way<M: Memo> {
+struct Way<M: Function> {
     data: Option<Arc<CacheData<M>>>,
 }
 
-impl<M: Memo> Model for Way<M> {
+impl<M: Function> Model for Way<M> {
     ghost use Rattle.std.specs.Prelude.{Option};
     ghost use Rattle.std.specs.Option.{option_map};
     ghost use Rattle.std.specs.Arc.{arc_value};
@@ -54,7 +54,7 @@ impl<M: Memo> Model for Way<M> {
     ghost view = { λ s. option_map arc_value s.data };
 }
 
-impl<M: Memo> Way<M> {
+impl<M: Function> Way<M> {
     /// A reference to none.
     fn new() -> Self
         ensures { result ≡ None }
@@ -149,13 +149,13 @@ impl<M: Memo> Way<M> {
 /// A look-up locks only its own lane, for reading. So look-ups in different lanes write no memory in common, and don't
 /// wait for each other's processors.
 #[derive(Drop)]
-struct Lane<M: Memo> {
+struct Lane<M: Function> {
     way: RwLock<Way<M>>,
     // Padding to 128 bytes, which processors fetch at once, so that lanes don't disturb each other.
     apart: [u64; 10],
 }
 
-impl<M: Memo> Lane<M> {
+impl<M: Function> Lane<M> {
     /// A lane of a part without entries.
     fn new() -> Self {
         Lane {
@@ -172,14 +172,14 @@ impl<M: Memo> Lane<M> {
 
 /// All lanes of a part, locked for writing: no look-up is under way.
 #[derive(Drop)]
-struct Alone<'a, M: Memo> {
+struct Alone<'a, M: Function> {
     first: RwLockWriteGuard<'a, Way<M>>,
     second: RwLockWriteGuard<'a, Way<M>>,
     third: RwLockWriteGuard<'a, Way<M>>,
     fourth: RwLockWriteGuard<'a, Way<M>>,
 }
 
-impl<'a, M: Memo> Alone<'a, M> {
+impl<'a, M: Function> Alone<'a, M> {
     /// Locks a part's lanes in their order, so that no two callers wait for each other.
     fn new<R: Wait>(rt: &R, part: &'a [Lane<M>; LANES]) -> Self {
         Alone {
@@ -191,7 +191,7 @@ impl<'a, M: Memo> Alone<'a, M> {
     }
 }
 
-impl<M: Memo> Alone<'_, M> {
+impl<M: Function> Alone<'_, M> {
     /// Leaves the first lane's reference as the only one, so that the entries can be changed.
     fn close(&mut self)
         ensures first { write_guard_value self.new.first ≡ write_guard_value self.old.first }
@@ -227,14 +227,14 @@ impl<M: Memo> Alone<'_, M> {
 /// different lanes don't disturb each other. Its type ensures that entries are right, whichever thread stored them. It
 /// takes 32 KiB in place.
 #[derive(Drop)]
-pub struct Cache<M: Memo> {
+pub struct Cache<M: Function> {
     alloc: Global,
     parts: [[Lane<M>; LANES]; PARTS],
     // The number of shares made, which distributes them over the lanes.
     shares: AtomicU64,
 }
 
-impl<M: Memo> Cache<M> {
+impl<M: Function> Cache<M> {
     /// An empty cache. Does not allocate.
     pub fn new(alloc: Global) -> Self {
         // The checker only covers a closure that returns lanes if it holds something of their type.
@@ -293,7 +293,7 @@ impl<M: Memo> Cache<M> {
 ///
 /// A call locks one part only and evictions lock in one order, so there is no deadlock. A part is evicted after all
 /// later parts were locked, and then unlocked.
-fn evict_parts<M: Memo, R: Wait>(rt: &R, parts: &[[Lane<M>; LANES]], max_age: usize) {
+fn evict_parts<M: Function, R: Wait>(rt: &R, parts: &[[Lane<M>; LANES]], max_age: usize) {
     let Some((part, rest)) = parts.split_first() else {
         return;
     };
@@ -309,14 +309,14 @@ fn evict_parts<M: Memo, R: Wait>(rt: &R, parts: &[[Lane<M>; LANES]], max_age: us
 ///
 /// Its entries aren't known, since other threads may change them between two steps.
 #[derive(Drop)]
-pub struct Shared<'a, M: Memo, R: Wait> {
+pub struct Shared<'a, M: Function, R: Wait> {
     cache: &'a Cache<M>,
     // Its number, which chooses the lane of its look-ups.
     share: usize,
     rt: &'a R,
 }
 
-impl<M: Memo, R: Wait> Hold<M> for Shared<'_, M, R> {
+impl<M: Function, R: Wait> Hold<M> for Shared<'_, M, R> {
     ghost entries = { λ _. None };
 
     fn look<In: Input<Call = M::Call, Key = M::Key, Answer = M::Answer>>(

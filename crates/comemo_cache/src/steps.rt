@@ -6,14 +6,14 @@ ghost use Rattle.comemo_track.specs.InputLaws.{equal_if_one};
 ghost use Rattle.comemo_cache.specs.Steps.{listed, Takes, TakesEach, IsStep};
 ghost use Rattle.comemo_cache.specs.StepLaws.{listed_alike};
 
-use crate::cache::{CacheData, Found, Meant, Memo};
+use crate::cache::{CacheData, Found, Function, Meant};
 use comemo_base::{CallSequence, InsertError};
 use comemo_track::input::Input;
 use std::alloc::{AllocError, Global};
 
 /// A step of a cache, with its arguments.
 #[derive(Drop)]
-pub enum Step<M: Memo> {
+pub enum Step<M: Function> {
     /// Looks for an entry.
     Look {
         /// The key.
@@ -50,7 +50,7 @@ pub enum Step<M: Memo> {
 
 /// The result of a step.
 #[derive(Drop)]
-pub enum StepReply<M: Memo> {
+pub enum StepReply<M: Function> {
     /// A look-up found this entry.
     Found(Found<M>),
     /// A look-up found nothing.
@@ -69,13 +69,13 @@ pub enum StepReply<M: Memo> {
 
 /// An input that answers from a list: the key and the answers of a `Step::Look`.
 #[derive(Drop)]
-struct Listed<'a, M: Memo> {
+struct Listed<'a, M: Function> {
     key: &'a M::Key,
     answers: &'a [(M::Call, M::Answer)],
     other: &'a M::Answer,
 }
 
-impl<'a, M: Memo> Input for Listed<'a, M> {
+impl<'a, M: Function> Input for Listed<'a, M> {
     type Call = M::Call;
 
     type Key = M::Key;
@@ -118,7 +118,7 @@ impl<'a, M: Memo> Input for Listed<'a, M> {
     }
 }
 
-impl<M: Memo> CacheData<M> {
+impl<M: Function> CacheData<M> {
     /// Does steps in turn, and returns the result of each, to compare a cache with a list.
     ///
     /// Fails, before the first step, if the list of results can't be allocated. A step that runs out of memory changes

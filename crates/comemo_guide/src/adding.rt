@@ -3,7 +3,7 @@ ghost use Rattle.std.specs.Prelude.{◌≡◌, ◌+◌, ◌%◌, ◌^◌, [], �
 ghost use Rattle.std.proofs.Common.{rules};
 ghost use Rattle.comemo.specs.MeaningLaws.{exact_laws};
 
-use comemo::{CacheData, Fault, Function, MemoOf, RecorderMut, RunMut};
+use comemo::{CacheData, Fault, Function, RecorderMut, RunMut};
 use comemo_samples::{Counter, CounterCall};
 
 /// Adds a number to a counter, and then 1. Returns their sum, which wraps at 64 bits.
@@ -12,7 +12,9 @@ pub struct Adds;
 impl Function for Adds {
     type Key = u64;
 
-    type Of = Counter;
+    type Call = CounterCall;
+
+    type Answer = u64;
 
     type Out = u64;
 
@@ -25,7 +27,7 @@ impl Function for Adds {
     ghost laws = { Prim.search rules };
 }
 
-impl RunMut for Adds {
+impl RunMut<Counter> for Adds {
     type Needs = ();
 
     fn run(
@@ -45,7 +47,9 @@ pub struct AddsTwice;
 impl Function for AddsTwice {
     type Key = u64;
 
-    type Of = Counter;
+    type Call = CounterCall;
+
+    type Answer = u64;
 
     type Out = u64;
 
@@ -55,17 +59,16 @@ impl Function for AddsTwice {
 
     ghost writes = { λ n _ _ W. W ≡ Add n ∷ Add 1 ∷ Add ((n + 1) % 2 ^ 64) ∷ Add 1 ∷ [] };
 
-    ghost laws = { exact_laws (λ x y h. Prim.search rules) (λ x y h. Prim.search rules)
-        (λ x y h. Prim.search rules) (λ a b h. Prim.search rules) };
+    ghost laws = { exact_laws (Prim.search rules) };
 }
 
-impl RunMut for AddsTwice {
-    type Needs = CacheData<MemoOf<Adds>>;
+impl RunMut<Counter> for AddsTwice {
+    type Needs = CacheData<Adds>;
 
     fn run(
         n: &u64,
         counter: &mut RecorderMut<'_, '_, Counter>,
-        kept: &mut CacheData<MemoOf<Adds>>,
+        kept: &mut CacheData<Adds>,
     ) -> Result<u64, Fault> {
         let once = counter.call_mut(kept, &mut (), *n)?;
         let twice = counter.call_mut(kept, &mut (), once)?;

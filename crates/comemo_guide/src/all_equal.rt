@@ -1,19 +1,18 @@
 //! A function of two values that only reads them and calls itself.
-ghost use Rattle.std.specs.Prelude.{◌≡◌, [], refl};
+ghost use Rattle.std.specs.Prelude.{◌≡◌};
 ghost use Rattle.std.proofs.Common.{rules};
-ghost use Rattle.comemo.specs.Meaning.{reading};
 ghost use Rattle.comemo.specs.Multi.{OnParts};
 ghost use Rattle.comemo.specs.Recursive.{TellsOwn};
 ghost use Rattle.comemo_guide.specs.Compared.{all_equal};
 
-use comemo::internal::{MeansAndWrites, Told};
-use comemo::{Begun, Both, Fault, Hold, Memo, MultiAnswer, MultiCall, Recorder};
+use comemo::internal::Told;
+use comemo::{Begun, Both, Fault, Function, Hold, MultiAnswer, MultiCall, Recorder};
 use comemo_samples::{Cells, Get};
 
 /// Whether the first cells of two values are equal, place by place.
 pub struct AllEqual;
 
-impl Memo for AllEqual {
+impl Function for AllEqual {
     type Call = MultiCall<Get, Get>;
 
     type Key = u32;
@@ -22,18 +21,9 @@ impl Memo for AllEqual {
 
     type Out = bool;
 
-    ghost def = { reading (λ count m out.
-        OnParts m (λ one other. out ≡ all_equal one other count)) };
-
-    ghost laws = { Prim.search rules };
-}
-
-impl MeansAndWrites for AllEqual {
     ghost means = { λ count m out. OnParts m (λ one other. out ≡ all_equal one other count) };
 
-    ghost writes = { λ _ _ _ W. W ≡ [] };
-
-    ghost parts = { λ count m out W. (λ right. right, λ right. right) };
+    ghost laws = { Prim.search rules };
 }
 
 /// Whether the first `count` cells of two values are equal, through a cache, by the cells before them.

@@ -26,7 +26,9 @@ pub struct BothPass;
 impl Function for BothPass {
     type Key = u64;
 
-    type Of = Town;
+    type Call = TownCall;
+
+    type Answer = u64;
 
     type Out = bool;
 
@@ -35,7 +37,7 @@ impl Function for BothPass {
     ghost laws = { Prim.search rules };
 }
 
-impl Run for BothPass {
+impl Run<Town> for BothPass {
     type Needs = ();
 
     fn run(n: &u64, town: &mut Recorder<'_, Town>, _needs: &mut ()) -> Result<bool, Fault> {

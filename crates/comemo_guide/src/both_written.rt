@@ -1,18 +1,16 @@
 //! A function that reads and writes two values, a counter and a notebook.
 ghost use Rattle.std.specs.Prelude.{◌≡◌, [], ◌∷◌};
 ghost use Rattle.std.proofs.Common.{rules};
-ghost use Rattle.comemo.specs.MeaningLaws.{exact_memo_laws};
+ghost use Rattle.comemo.specs.MeaningLaws.{exact_laws};
 
 use crate::adding::Adds;
-use comemo::{
-    BothMut, CacheData, Fault, FunctionMutOf, Memo, MemoOf, MultiAnswer, MultiCall, RecorderMut,
-};
+use comemo::{BothMut, CacheData, Fault, Function, MultiAnswer, MultiCall, RecorderMut, RunMut};
 use comemo_samples::{Counter, CounterCall, Notebook, NotebookCall};
 
 /// Notes the number of a counter in a notebook, and adds to the counter by `Adds`. Returns the noted number.
 pub struct NotesAndAdds;
 
-impl Memo for NotesAndAdds {
+impl Function for NotesAndAdds {
     type Call = MultiCall<CounterCall, NotebookCall>;
 
     type Key = u64;
@@ -25,20 +23,21 @@ impl Memo for NotesAndAdds {
     ghost use Rattle.comemo_samples.specs.declared.counter.CounterCall.TheVariants.{Get, Add};
     ghost use Rattle.comemo_samples.specs.declared.notebook.NotebookCall.TheVariants.{Note};
 
-    ghost def = { λ n m out writes. OnParts m (λ counter _. (out ≡ counter Get) × (writes
-        ≡ second_call (Note (counter Get)) ∷ first_call (Add n) ∷ first_call (Add 1) ∷ [])) };
+    ghost means = { λ _ m out. OnParts m (λ counter _. out ≡ counter Get) };
 
-    ghost laws = { exact_memo_laws (λ x y h. Prim.search rules) (λ x y h. Prim.search rules)
-        (λ x y h. Prim.search rules) (λ a b h. Prim.search rules) (λ x y h. Prim.search rules) };
+    ghost writes = { λ n m _ W. OnParts m (λ counter _. W
+        ≡ second_call (Note (counter Get)) ∷ first_call (Add n) ∷ first_call (Add 1) ∷ []) };
+
+    ghost laws = { exact_laws (Prim.search rules) };
 }
 
-impl<'a> FunctionMutOf<BothMut<'a, Counter, Notebook>> for NotesAndAdds {
-    type Needs = CacheData<MemoOf<Adds>>;
+impl<'a> RunMut<BothMut<'a, Counter, Notebook>> for NotesAndAdds {
+    type Needs = CacheData<Adds>;
 
     fn run(
         n: &u64,
         both: &mut RecorderMut<'_, '_, BothMut<'a, Counter, Notebook>>,
-        kept: &mut CacheData<MemoOf<Adds>>,
+        kept: &mut CacheData<Adds>,
     ) -> Result<u64, Fault> {
         let number = both.ask_first(CounterCall::Get)?;
         both.write_second(NotebookCall::Note(number))?;

@@ -1,10 +1,9 @@
 //! Chains of numbers, linked by plain references, and a function that asks a chain for a number.
 ghost use Rattle.std.specs.Prelude.{◌≡◌, ℕ, ◌||◌, false, nat_eq, refl};
 ghost use Rattle.std.proofs.Common.{rules};
-ghost use Rattle.comemo.specs.Meaning.{reading};
 ghost use Rattle.comemo_guide.specs.Chains.{has};
 
-use comemo::{Call, Fault, FunctionOf, Memo, Recorder, Track};
+use comemo::{Call, Fault, Function, Recorder, Run, Track};
 use std::alloc::AllocError;
 
 /// What can be asked of a chain.
@@ -96,7 +95,7 @@ impl<'a> Track for Chain<'a> {
 /// Whether a number is in a chain. Asks the chain for that number alone.
 pub struct IsInChain;
 
-impl Memo for IsInChain {
+impl Function for IsInChain {
     type Call = ChainCall;
 
     type Key = u32;
@@ -107,12 +106,12 @@ impl Memo for IsInChain {
 
     ghost use Rattle.comemo_guide.specs.declared.chains.ChainCall.TheVariants.{Contains};
 
-    ghost def = { reading (λ n m out. out ≡ m (Contains n)) };
+    ghost means = { λ n m out. out ≡ m (Contains n) };
 
     ghost laws = { Prim.search rules };
 }
 
-impl<'a> FunctionOf<Chain<'a>> for IsInChain {
+impl<'a> Run<Chain<'a>> for IsInChain {
     type Needs = ();
 
     fn run(n: &u32, chain: &mut Recorder<'_, Chain<'a>>, _needs: &mut ()) -> Result<bool, Fault> {

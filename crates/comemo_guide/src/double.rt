@@ -10,7 +10,9 @@ pub struct Double;
 impl Function for Double {
     type Key = u32;
 
-    type Of = ();
+    type Call = ();
+
+    type Answer = ();
 
     type Out = u32;
 
@@ -19,7 +21,7 @@ impl Function for Double {
     ghost laws = { Prim.search rules };
 }
 
-impl Run for Double {
+impl Run<()> for Double {
     type Needs = ();
 
     fn run(n: &u32, _of: &mut Recorder<'_, ()>, _needs: &mut ()) -> Result<u32, Fault> {

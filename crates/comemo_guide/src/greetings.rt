@@ -11,7 +11,9 @@ pub struct World;
 impl Function for World {
     type Key = ();
 
-    type Of = ();
+    type Call = ();
+
+    type Answer = ();
 
     type Out = String;
 
@@ -20,7 +22,7 @@ impl Function for World {
     ghost laws = { Prim.search rules };
 }
 
-impl Run for World {
+impl Run<()> for World {
     type Needs = Global;
 
     fn run(_key: &(), _of: &mut Recorder<'_, ()>, alloc: &mut Global) -> Result<String, Fault> {
@@ -59,7 +61,9 @@ pub struct SaysHello;
 impl Function for SaysHello {
     type Key = ();
 
-    type Of = Greeting;
+    type Call = ();
+
+    type Answer = bool;
 
     type Out = bool;
 
@@ -68,7 +72,7 @@ impl Function for SaysHello {
     ghost laws = { Prim.search rules };
 }
 
-impl Run for SaysHello {
+impl Run<Greeting> for SaysHello {
     type Needs = ();
 
     fn run(_key: &(), text: &mut Recorder<'_, Greeting>, _needs: &mut ()) -> Result<bool, Fault> {

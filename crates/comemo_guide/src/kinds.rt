@@ -81,7 +81,9 @@ pub struct Selfie;
 impl Function for Selfie {
     type Key = ();
 
-    type Of = Text;
+    type Call = TextCall;
+
+    type Answer = TextAnswer;
 
     type Out = String;
 
@@ -90,7 +92,7 @@ impl Function for Selfie {
     ghost laws = { Prim.search rules };
 }
 
-impl Run for Selfie {
+impl Run<Text> for Selfie {
     type Needs = ();
 
     fn run(_key: &(), text: &mut Recorder<'_, Text>, _needs: &mut ()) -> Result<String, Fault> {
@@ -108,7 +110,9 @@ pub struct IsLong;
 impl Function for IsLong {
     type Key = ();
 
-    type Of = Text;
+    type Call = TextCall;
+
+    type Answer = TextAnswer;
 
     type Out = bool;
 
@@ -117,7 +121,7 @@ impl Function for IsLong {
     ghost laws = { Prim.search rules };
 }
 
-impl Run for IsLong {
+impl Run<Text> for IsLong {
     type Needs = ();
 
     fn run(_key: &(), text: &mut Recorder<'_, Text>, _needs: &mut ()) -> Result<bool, Fault> {

@@ -3,10 +3,7 @@ ghost use Rattle.std.specs.Prelude.{◌≡◌, [], ◌∷◌, ⊤};
 ghost use Rattle.std.proofs.Common.{rules};
 ghost use Rattle.comemo.specs.MeaningLaws.{exact_laws};
 
-use comemo::{
-    BothMut, Fault, Function, FunctionMutOf, Hold, Memo, MemoOf, MultiAnswer, MultiCall,
-    RecorderMut, RunMut,
-};
+use comemo::{BothMut, Fault, Function, Hold, MultiAnswer, MultiCall, RecorderMut, RunMut};
 use comemo_samples::{Counter, CounterCall};
 use std::marker::PhantomData;
 
@@ -16,7 +13,9 @@ pub struct Bump;
 impl Function for Bump {
     type Key = u64;
 
-    type Of = Counter;
+    type Call = CounterCall;
+
+    type Answer = u64;
 
     type Out = u64;
 
@@ -26,11 +25,10 @@ impl Function for Bump {
 
     ghost writes = { λ k _ _ W. W ≡ Add k ∷ [] };
 
-    ghost laws = { exact_laws (λ x y h. Prim.search rules) (λ x y h. Prim.search rules)
-        (λ x y h. Prim.search rules) (λ a b h. Prim.search rules) };
+    ghost laws = { exact_laws (Prim.search rules) };
 }
 
-impl RunMut for Bump {
+impl RunMut<Counter> for Bump {
     type Needs = ();
 
     fn run(
@@ -50,7 +48,9 @@ pub struct Readback;
 impl Function for Readback {
     type Key = u64;
 
-    type Of = Counter;
+    type Call = CounterCall;
+
+    type Answer = u64;
 
     type Out = u64;
 
@@ -60,11 +60,10 @@ impl Function for Readback {
 
     ghost writes = { λ k _ _ W. W ≡ Add k ∷ [] };
 
-    ghost laws = { exact_laws (λ x y h. Prim.search rules) (λ x y h. Prim.search rules)
-        (λ x y h. Prim.search rules) (λ a b h. Prim.search rules) };
+    ghost laws = { exact_laws (Prim.search rules) };
 }
 
-impl RunMut for Readback {
+impl RunMut<Counter> for Readback {
     type Needs = ();
 
     fn run(
@@ -83,10 +82,12 @@ pub struct Twice<H> {
     held: PhantomData<H>,
 }
 
-impl<H: Hold<MemoOf<Bump>>> Function for Twice<H> {
+impl<H: Hold<Bump>> Function for Twice<H> {
     type Key = u64;
 
-    type Of = Counter;
+    type Call = CounterCall;
+
+    type Answer = u64;
 
     type Out = u64;
 
@@ -96,11 +97,10 @@ impl<H: Hold<MemoOf<Bump>>> Function for Twice<H> {
 
     ghost writes = { λ k _ _ W. W ≡ Add k ∷ Add k ∷ [] };
 
-    ghost laws = { exact_laws (λ x y h. Prim.search rules) (λ x y h. Prim.search rules)
-        (λ x y h. Prim.search rules) (λ a b h. Prim.search rules) };
+    ghost laws = { exact_laws (Prim.search rules) };
 }
 
-impl<H: Hold<MemoOf<Bump>>> RunMut for Twice<H> {
+impl<H: Hold<Bump>> RunMut<Counter> for Twice<H> {
     type Needs = H;
 
     fn run(
@@ -117,7 +117,7 @@ impl<H: Hold<MemoOf<Bump>>> RunMut for Twice<H> {
 /// Adds 1 to the first of two counters. Returns the number of the second.
 pub struct AddsAndGets;
 
-impl Memo for AddsAndGets {
+impl Function for AddsAndGets {
     type Call = MultiCall<CounterCall, CounterCall>;
 
     type Key = ();
@@ -127,18 +127,16 @@ impl Memo for AddsAndGets {
     type Out = u64;
 
     ghost use Rattle.comemo.specs.Multi.{first_call, second_call, second_answer};
-    ghost use Rattle.comemo.specs.MeaningLaws.{exact_memo_laws};
     ghost use Rattle.comemo_samples.specs.declared.counter.CounterCall.TheVariants.{Get, Add};
 
-    ghost def = { λ _ m out writes. (m (second_call Get) ≡ second_answer out)
-        × (writes ≡ first_call (Add 1) ∷ []) };
+    ghost means = { λ _ m out. m (second_call Get) ≡ second_answer out };
 
-    ghost laws = { exact_memo_laws (λ x y h. Prim.search rules) (λ x y h. Prim.search rules)
-        (λ x y h. Prim.search rules) (λ a b h. Prim.search rules)
-        (λ x y h. Prim.search rules) };
+    ghost writes = { λ _ _ _ W. W ≡ first_call (Add 1) ∷ [] };
+
+    ghost laws = { exact_laws (Prim.search rules) };
 }
 
-impl<'a> FunctionMutOf<BothMut<'a, Counter, Counter>> for AddsAndGets {
+impl<'a> RunMut<BothMut<'a, Counter, Counter>> for AddsAndGets {
     type Needs = ();
 
     fn run(

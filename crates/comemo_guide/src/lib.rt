@@ -4,11 +4,11 @@
 //! How warm a town is, asked before it grows and after:
 //!
 //! ```rust
-//! use comemo::{CacheData, How, MemoOf, memoized};
+//! use comemo::{CacheData, How, memoized};
 //! use comemo_guide::warmth::Warmth;
 //! use comemo_samples::Town;
 //!
-//! let mut cache: CacheData<MemoOf<Warmth>> = CacheData::new(alloc);
+//! let mut cache: CacheData<Warmth> = CacheData::new(alloc);
 //! let mut town = Town { people: 900, degrees: 21 };
 //! let first = memoized(alloc, &mut cache, (), &town)?;
 //! assert_eq!(rt; (first.output, first.how), (21, How::Stored));

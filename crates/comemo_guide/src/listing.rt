@@ -15,7 +15,9 @@ pub struct Listing;
 impl Function for Listing {
     type Key = Vec<String>;
 
-    type Of = Log;
+    type Call = LogCall;
+
+    type Answer = ();
 
     type Out = ();
 
@@ -28,11 +30,12 @@ impl Function for Listing {
       keys = λ j k m output writes r e right. (right.0 ∙ bytes_in_turn j.items k.items e, tt);
       writes = λ key m output V W r same right.
           (sym (map_writes logged logged_alike V W same) ∙ right.0, tt);
-      clones = λ x y h. Prim.search (rules, texts_clone);
+      key_clones = λ x y h. Prim.search (rules, texts_clone);
+      answer_clones = Prim.search rules;
     } };
 }
 
-impl RunMut for Listing {
+impl RunMut<Log> for Listing {
     type Needs = ();
 
     fn run(

@@ -79,19 +79,21 @@ pub struct Contents<L> {
 impl<L: Loader> Function for Contents<L> {
     type Key = String;
 
-    type Of = Library<L>;
+    type Call = LibraryCall;
+
+    type Answer = Vec<u8>;
 
     type Out = Vec<u8>;
 
     ghost use Rattle.comemo_guide.specs.declared.loader.LibraryCall.TheVariants.{Load};
-    ghost use Rattle.comemo_guide.specs.LoadLaws.{same_bytes};
+    ghost use Rattle.comemo_guide.specs.LoadLaws.{equal_bytes, same_bytes};
 
     ghost means = { λ path m out. out.items ≡ (m (Load path)).items };
 
-    ghost laws = { Prim.search (rules, each_same, same_bytes) };
+    ghost laws = { Prim.search (rules, each_same, same_bytes, equal_bytes) };
 }
 
-impl<L: Loader> Run for Contents<L> {
+impl<L: Loader> Run<Library<L>> for Contents<L> {
     type Needs = ();
 
     fn run(path: &String, of: &mut Recorder<'_, Library<L>>, _: &mut ()) -> Result<Vec<u8>, Fault> {

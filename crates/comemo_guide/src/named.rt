@@ -3,7 +3,7 @@ ghost use Rattle.std.specs.Prelude.{◌≡◌, ◌+◌, ◌%◌, ◌^◌, ⊤, n
 ghost use Rattle.std.proofs.Common.{rules};
 ghost use Rattle.comemo.specs.Meaning.{names};
 
-use comemo::{CacheData, Fault, Function, MemoOf, Recorder, Run};
+use comemo::{CacheData, Fault, Function, Recorder, Run};
 use comemo_samples::{Context, ContextCall};
 
 /// The sum of a context's location and its styles, which wraps at 64 bits.
@@ -14,7 +14,9 @@ pub struct Sum;
 impl Function for Sum {
     type Key = ();
 
-    type Of = Context;
+    type Call = ContextCall;
+
+    type Answer = u64;
 
     type Out = u64;
 
@@ -28,7 +30,7 @@ impl Function for Sum {
     ghost laws = { Prim.search rules };
 }
 
-impl Run for Sum {
+impl Run<Context> for Sum {
     type Needs = ContextCall;
 
     fn run(
@@ -60,7 +62,9 @@ pub struct IsOver;
 impl Function for IsOver {
     type Key = u64;
 
-    type Of = Context;
+    type Call = ContextCall;
+
+    type Answer = u64;
 
     type Out = bool;
 
@@ -74,13 +78,13 @@ impl Function for IsOver {
     ghost laws = { Prim.search rules };
 }
 
-impl Run for IsOver {
-    type Needs = (CacheData<MemoOf<Sum>>, ContextCall);
+impl Run<Context> for IsOver {
+    type Needs = (CacheData<Sum>, ContextCall);
 
     fn run(
         n: &u64,
         context: &mut Recorder<'_, Context>,
-        (kept, first): &mut (CacheData<MemoOf<Sum>>, ContextCall),
+        (kept, first): &mut (CacheData<Sum>, ContextCall),
     ) -> Result<bool, Fault> {
         let sum = context.call(kept, first, ())?;
         Ok(sum > *n)

@@ -13,7 +13,9 @@ pub struct Identity;
 impl Function for Identity {
     type Key = u64;
 
-    type Of = ();
+    type Call = ();
+
+    type Answer = ();
 
     type Out = u64;
 
@@ -22,7 +24,7 @@ impl Function for Identity {
     ghost laws = { Prim.search rules };
 }
 
-impl Run for Identity {
+impl Run<()> for Identity {
     type Needs = ();
 
     fn run(n: &u64, _of: &mut Recorder<'_, ()>, _needs: &mut ()) -> Result<u64, Fault> {
@@ -36,7 +38,9 @@ pub struct Sum;
 impl Function for Sum {
     type Key = (u32, u32);
 
-    type Of = ();
+    type Call = ();
+
+    type Answer = ();
 
     type Out = u32;
 
@@ -45,7 +49,7 @@ impl Function for Sum {
     ghost laws = { Prim.search rules };
 }
 
-impl Run for Sum {
+impl Run<()> for Sum {
     type Needs = ();
 
     fn run(key: &(u32, u32), _of: &mut Recorder<'_, ()>, _needs: &mut ()) -> Result<u32, Fault> {
@@ -70,7 +74,9 @@ pub struct SumBelow;
 impl Function for SumBelow {
     type Key = u32;
 
-    type Of = ();
+    type Call = ();
+
+    type Answer = ();
 
     type Out = u64;
 
@@ -79,7 +85,7 @@ impl Function for SumBelow {
     ghost laws = { Prim.search rules };
 }
 
-impl Run for SumBelow {
+impl Run<()> for SumBelow {
     type Needs = ();
 
     fn run(n: &u32, _of: &mut Recorder<'_, ()>, _needs: &mut ()) -> Result<u64, Fault> {
@@ -105,7 +111,9 @@ pub struct DoubleFlat;
 impl Function for DoubleFlat {
     type Key = Flat;
 
-    type Of = ();
+    type Call = ();
+
+    type Answer = ();
 
     type Out = u32;
 
@@ -114,7 +122,7 @@ impl Function for DoubleFlat {
     ghost laws = { Prim.search rules };
 }
 
-impl Run for DoubleFlat {
+impl Run<()> for DoubleFlat {
     type Needs = ();
 
     fn run(n: &Flat, _of: &mut Recorder<'_, ()>, _needs: &mut ()) -> Result<u32, Fault> {

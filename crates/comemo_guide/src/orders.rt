@@ -23,7 +23,9 @@ pub struct Either;
 impl Function for Either {
     type Key = ();
 
-    type Of = Town;
+    type Call = TownCall;
+
+    type Answer = u64;
 
     type Out = u64;
 
@@ -32,7 +34,7 @@ impl Function for Either {
     ghost laws = { Prim.search rules };
 }
 
-impl Run for Either {
+impl Run<Town> for Either {
     type Needs = Turn;
 
     fn run(_key: &(), town: &mut Recorder<'_, Town>, turn: &mut Turn) -> Result<u64, Fault> {
@@ -51,7 +53,9 @@ pub struct Both;
 impl Function for Both {
     type Key = ();
 
-    type Of = Town;
+    type Call = TownCall;
+
+    type Answer = u64;
 
     type Out = (u64, u64);
 
@@ -62,7 +66,7 @@ impl Function for Both {
     ghost laws = { Prim.search rules };
 }
 
-impl Run for Both {
+impl Run<Town> for Both {
     type Needs = Turn;
 
     fn run(_key: &(), town: &mut Recorder<'_, Town>, turn: &mut Turn) -> Result<(u64, u64), Fault> {
@@ -88,7 +92,9 @@ pub struct Exceeds;
 impl Function for Exceeds {
     type Key = u64;
 
-    type Of = Town;
+    type Call = TownCall;
+
+    type Answer = u64;
 
     type Out = bool;
 
@@ -99,7 +105,7 @@ impl Function for Exceeds {
     ghost laws = { Prim.search rules };
 }
 
-impl Run for Exceeds {
+impl Run<Town> for Exceeds {
     type Needs = ();
 
     fn run(n: &u64, town: &mut Recorder<'_, Town>, _needs: &mut ()) -> Result<bool, Fault> {

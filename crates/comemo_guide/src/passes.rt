@@ -13,7 +13,9 @@ pub struct Passes;
 impl Function for Passes {
     type Key = u64;
 
-    type Of = Town;
+    type Call = TownCall;
+
+    type Answer = u64;
 
     type Out = bool;
 
@@ -24,7 +26,7 @@ impl Function for Passes {
     ghost laws = { Prim.search rules };
 }
 
-impl Run for Passes {
+impl Run<Town> for Passes {
     type Needs = ();
 
     fn run(n: &u64, town: &mut Recorder<'_, Town>, _needs: &mut ()) -> Result<bool, Fault> {

@@ -1,13 +1,12 @@
 //! Functions that read one value, a town, and write another, a counter.
 ghost use Rattle.std.specs.Prelude.{◌≡◌, ◌+◌, ◌%◌, ◌^◌, [], ◌∷◌};
 ghost use Rattle.std.proofs.Common.{rules};
-ghost use Rattle.comemo.specs.MeaningLaws.{exact_memo_laws};
+ghost use Rattle.comemo.specs.MeaningLaws.{exact_laws};
 
 use crate::adding::Adds;
 use crate::warmth::Warmth;
 use comemo::{
-    CacheData, Fault, FunctionMutOf, Memo, MemoOf, MultiAnswer, MultiCall, ReadAndWrite,
-    RecorderMut,
+    CacheData, Fault, Function, MultiAnswer, MultiCall, ReadAndWrite, RecorderMut, RunMut,
 };
 use comemo_samples::{Counter, CounterCall, Town, TownCall};
 
@@ -16,7 +15,7 @@ use comemo_samples::{Counter, CounterCall, Town, TownCall};
 /// The run calls `Warmth` for the degrees.
 pub struct TallyWarmth;
 
-impl Memo for TallyWarmth {
+impl Function for TallyWarmth {
     type Call = MultiCall<TownCall, CounterCall>;
 
     type Key = ();
@@ -29,20 +28,20 @@ impl Memo for TallyWarmth {
     ghost use Rattle.comemo_samples.specs.declared.town.TownCall.TheVariants.{Degrees};
     ghost use Rattle.comemo_samples.specs.declared.counter.CounterCall.TheVariants.{Add};
 
-    ghost def = { λ _ m out writes. OnParts m (λ town _. (out ≡ town Degrees)
-        × (writes ≡ second_call (Add (town Degrees)) ∷ [])) };
+    ghost means = { λ _ m out. OnParts m (λ town _. out ≡ town Degrees) };
 
-    ghost laws = { exact_memo_laws (λ x y h. Prim.search rules) (λ x y h. Prim.search rules)
-        (λ x y h. Prim.search rules) (λ a b h. Prim.search rules) (λ x y h. Prim.search rules) };
+    ghost writes = { λ _ _ out W. W ≡ second_call (Add out) ∷ [] };
+
+    ghost laws = { exact_laws (Prim.search rules) };
 }
 
-impl<'a> FunctionMutOf<ReadAndWrite<'a, Town, Counter>> for TallyWarmth {
-    type Needs = CacheData<MemoOf<Warmth>>;
+impl<'a> RunMut<ReadAndWrite<'a, Town, Counter>> for TallyWarmth {
+    type Needs = CacheData<Warmth>;
 
     fn run(
         _: &(),
         both: &mut RecorderMut<'_, '_, ReadAndWrite<'a, Town, Counter>>,
-        kept: &mut CacheData<MemoOf<Warmth>>,
+        kept: &mut CacheData<Warmth>,
     ) -> Result<u64, Fault> {
         let degrees = both.call_first(kept, &mut (), ())?;
         both.write_second(CounterCall::Add(degrees))?;
@@ -53,7 +52,7 @@ impl<'a> FunctionMutOf<ReadAndWrite<'a, Town, Counter>> for TallyWarmth {
 /// Adds the degrees of a town to a counter, and returns the number that the counter had before.
 pub struct AddsDegrees;
 
-impl Memo for AddsDegrees {
+impl Function for AddsDegrees {
     type Call = MultiCall<TownCall, CounterCall>;
 
     type Key = ();
@@ -66,14 +65,15 @@ impl Memo for AddsDegrees {
     ghost use Rattle.comemo_samples.specs.declared.town.TownCall.TheVariants.{Degrees};
     ghost use Rattle.comemo_samples.specs.declared.counter.CounterCall.TheVariants.{Get, Add};
 
-    ghost def = { λ _ m out writes. OnParts m (λ town counter. (out ≡ counter Get)
-        × (writes ≡ second_call (Add (town Degrees)) ∷ [])) };
+    ghost means = { λ _ m out. OnParts m (λ _ counter. out ≡ counter Get) };
 
-    ghost laws = { exact_memo_laws (λ x y h. Prim.search rules) (λ x y h. Prim.search rules)
-        (λ x y h. Prim.search rules) (λ a b h. Prim.search rules) (λ x y h. Prim.search rules) };
+    ghost writes = { λ _ m _ W.
+        OnParts m (λ town _. W ≡ second_call (Add (town Degrees)) ∷ []) };
+
+    ghost laws = { exact_laws (Prim.search rules) };
 }
 
-impl<'a> FunctionMutOf<ReadAndWrite<'a, Town, Counter>> for AddsDegrees {
+impl<'a> RunMut<ReadAndWrite<'a, Town, Counter>> for AddsDegrees {
     type Needs = ();
 
     fn run(
@@ -91,7 +91,7 @@ impl<'a> FunctionMutOf<ReadAndWrite<'a, Town, Counter>> for AddsDegrees {
 /// Adds the degrees of a town to a counter, and then 1, by `Adds`. Returns the output of `Adds`.
 pub struct AddsOneMore;
 
-impl Memo for AddsOneMore {
+impl Function for AddsOneMore {
     type Call = MultiCall<TownCall, CounterCall>;
 
     type Key = ();
@@ -104,20 +104,21 @@ impl Memo for AddsOneMore {
     ghost use Rattle.comemo_samples.specs.declared.town.TownCall.TheVariants.{Degrees};
     ghost use Rattle.comemo_samples.specs.declared.counter.CounterCall.TheVariants.{Add};
 
-    ghost def = { λ _ m out writes. OnParts m (λ town _. (out ≡ (town Degrees + 1) % 2 ^ 64)
-        × (writes ≡ second_call (Add (town Degrees)) ∷ second_call (Add 1) ∷ [])) };
+    ghost means = { λ _ m out. OnParts m (λ town _. out ≡ (town Degrees + 1) % 2 ^ 64) };
 
-    ghost laws = { exact_memo_laws (λ x y h. Prim.search rules) (λ x y h. Prim.search rules)
-        (λ x y h. Prim.search rules) (λ a b h. Prim.search rules) (λ x y h. Prim.search rules) };
+    ghost writes = { λ _ m _ W. OnParts m
+        (λ town _. W ≡ second_call (Add (town Degrees)) ∷ second_call (Add 1) ∷ []) };
+
+    ghost laws = { exact_laws (Prim.search rules) };
 }
 
-impl<'a> FunctionMutOf<ReadAndWrite<'a, Town, Counter>> for AddsOneMore {
-    type Needs = CacheData<MemoOf<Adds>>;
+impl<'a> RunMut<ReadAndWrite<'a, Town, Counter>> for AddsOneMore {
+    type Needs = CacheData<Adds>;
 
     fn run(
         _: &(),
         both: &mut RecorderMut<'_, '_, ReadAndWrite<'a, Town, Counter>>,
-        kept: &mut CacheData<MemoOf<Adds>>,
+        kept: &mut CacheData<Adds>,
     ) -> Result<u64, Fault> {
         let degrees = both.ask_first(TownCall::Degrees)?;
         let sum = both.call_mut_second(kept, &mut (), degrees)?;

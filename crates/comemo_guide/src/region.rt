@@ -1,9 +1,8 @@
 //! A tracked value that borrows three others, and a function of it.
 ghost use Rattle.std.specs.Prelude.{◌≡◌, false, max, refl};
 ghost use Rattle.std.proofs.Common.{rules};
-ghost use Rattle.comemo.specs.Meaning.{reading};
 
-use comemo::{Call, Fault, FunctionOf, Memo, Recorder, Track};
+use comemo::{Call, Fault, Function, Recorder, Run, Track};
 use comemo_samples::{Town, TownCall};
 use std::alloc::AllocError;
 
@@ -82,7 +81,7 @@ impl<'a> Track for Region<'a> {
 /// Asks each town for its degrees, in this order: coast, river, hill.
 pub struct Warmest;
 
-impl Memo for Warmest {
+impl Function for Warmest {
     type Call = RegionCall;
 
     type Key = ();
@@ -94,13 +93,13 @@ impl Memo for Warmest {
     ghost use Rattle.comemo_samples.specs.declared.town.TownCall.TheVariants.{Degrees};
     ghost use Rattle.comemo_guide.specs.declared.region.RegionCall.TheVariants.{Coast, River, Hill};
 
-    ghost def = { reading (λ _ m out.
-        out ≡ max (m (Coast Degrees)) (max (m (River Degrees)) (m (Hill Degrees)))) };
+    ghost means = { λ _ m out.
+        out ≡ max (m (Coast Degrees)) (max (m (River Degrees)) (m (Hill Degrees))) };
 
     ghost laws = { Prim.search rules };
 }
 
-impl<'a> FunctionOf<Region<'a>> for Warmest {
+impl<'a> Run<Region<'a>> for Warmest {
     type Needs = ();
 
     fn run(_: &(), region: &mut Recorder<'_, Region<'a>>, _: &mut ()) -> Result<u64, Fault> {

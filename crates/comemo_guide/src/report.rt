@@ -4,11 +4,11 @@ ghost use Rattle.std.proofs.Common.{rules};
 
 use crate::passes::Passes;
 use crate::warmth::Warmth;
-use comemo::{CacheData, Fault, Function, MemoOf, Recorder, Run};
-use comemo_samples::Town;
+use comemo::{CacheData, Fault, Function, Recorder, Run};
+use comemo_samples::{Town, TownCall};
 
 /// The caches of the functions that a report calls: of `Passes`, and of `Warmth`.
-pub type Kept = (CacheData<MemoOf<Passes>>, CacheData<MemoOf<Warmth>>);
+pub type Kept = (CacheData<Passes>, CacheData<Warmth>);
 
 /// How warm a town is if it passes the first number, otherwise the second number.
 ///
@@ -19,7 +19,9 @@ pub struct Report;
 impl Function for Report {
     type Key = (u64, u64);
 
-    type Of = Town;
+    type Call = TownCall;
+
+    type Answer = u64;
 
     type Out = u64;
 
@@ -31,7 +33,7 @@ impl Function for Report {
     ghost laws = { Prim.search rules };
 }
 
-impl Run for Report {
+impl Run<Town> for Report {
     type Needs = Kept;
 
     fn run(key: &(u64, u64), town: &mut Recorder<'_, Town>, kept: &mut Kept) -> Result<u64, Fault> {

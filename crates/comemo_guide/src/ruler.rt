@@ -6,8 +6,8 @@ ghost use Rattle.comemo.specs.MeaningLaws.{exact_laws};
 ghost use Rattle.comemo_guide.specs.Rulers.{marks};
 ghost use Rattle.comemo_samples.specs.declared.notebook.NotebookCall.TheVariants.{Owner};
 
-use comemo::internal::{Told, ToldMut, Written};
-use comemo::{Begun, Constraint, Fault, Function, Hold, Memo, MemoOf, RecorderMut};
+use comemo::internal::{Meant, Told, ToldMut, Written};
+use comemo::{Begun, Constraint, Fault, Function, Hold, RecorderMut};
 use comemo_samples::{Notebook, NotebookCall};
 use std::alloc::Global;
 
@@ -17,7 +17,9 @@ pub struct Ruler;
 impl Function for Ruler {
     type Key = u64;
 
-    type Of = Notebook;
+    type Call = NotebookCall;
+
+    type Answer = u64;
 
     type Out = ();
 
@@ -25,13 +27,12 @@ impl Function for Ruler {
 
     ghost writes = { λ height m _ W. W ≡ marks (m Owner) height };
 
-    ghost laws = { exact_laws (λ x y h. Prim.search rules) (λ x y h. Prim.search rules)
-        (λ x y h. Prim.search rules) (λ a b h. Prim.search rules) };
+    ghost laws = { exact_laws (Prim.search rules) };
 }
 
 /// Draws the marks up to a height, through a cache. A run draws the lower marks first by a call, and again by a hit.
 #[cycle(drawing)]
-pub fn ruled<H: Hold<MemoOf<Ruler>>>(
+pub fn ruled<H: Hold<Ruler>>(
     cache: &mut H,
     height: u64,
     book: &mut RecorderMut<'_, '_, Notebook>,
@@ -40,7 +41,7 @@ pub fn ruled<H: Hold<MemoOf<Ruler>>>(
     ensures agrees { ⟦<Notebook as ToldMut>⟧.agrees (lent book.new.value book.new.recording) }
     ensures tells { TellsWrites ⟦<Notebook as ToldMut>⟧.goes ⟦<Notebook as Told>⟧.fits
         (lent book.old.value book.old.recording) (lent book.new.value book.new.recording) result
-        (λ drawn m writes. ⟦<MemoOf<Ruler> as Memo>⟧.def height m drawn writes) }
+        (λ drawn m writes. ⟦<Ruler as Meant>⟧.meaning.def height m drawn writes) }
 {
     let run = match book.begin(cache, &height)? {
         Begun::Hit(()) => return Ok(()),
@@ -52,7 +53,7 @@ pub fn ruled<H: Hold<MemoOf<Ruler>>>(
 
 /// The run of `ruled`.
 #[cycle(drawing)]
-fn draw<H: Hold<MemoOf<Ruler>>>(
+fn draw<H: Hold<Ruler>>(
     cache: &mut H,
     height: u64,
     book: &mut RecorderMut<'_, '_, Notebook>,
@@ -61,7 +62,7 @@ fn draw<H: Hold<MemoOf<Ruler>>>(
     ensures agrees { ⟦<Notebook as ToldMut>⟧.agrees (lent book.new.value book.new.recording) }
     ensures tells { TellsWrites ⟦<Notebook as ToldMut>⟧.goes ⟦<Notebook as Told>⟧.fits
         (lent book.old.value book.old.recording) (lent book.new.value book.new.recording) result
-        (λ drawn m writes. ⟦<MemoOf<Ruler> as Memo>⟧.def height m drawn writes) }
+        (λ drawn m writes. ⟦<Ruler as Meant>⟧.meaning.def height m drawn writes) }
 {
     if height == 0 {
         return Ok(());
@@ -76,7 +77,7 @@ fn draw<H: Hold<MemoOf<Ruler>>>(
 /// Draws the marks up to a height into a notebook, through a cache.
 ///
 /// After a fault the notebook holds a prefix of them.
-pub fn rule<H: Hold<MemoOf<Ruler>>>(
+pub fn rule<H: Hold<Ruler>>(
     alloc: Global,
     cache: &mut H,
     height: u64,

@@ -1,16 +1,15 @@
 //! Functions of two tracked values.
 ghost use Rattle.std.specs.Prelude.{◌≡◌, ◌-◌, nat_lt};
 ghost use Rattle.std.proofs.Common.{rules};
-ghost use Rattle.comemo.specs.Meaning.{reading};
 
 use crate::warmth::Warmth;
-use comemo::{Both, CacheData, Fault, FunctionOf, Memo, MemoOf, MultiAnswer, MultiCall, Recorder};
+use comemo::{Both, CacheData, Fault, Function, MultiAnswer, MultiCall, Recorder, Run};
 use comemo_samples::{Town, TownCall};
 
 /// Whether the first of two towns is warmer than the second. Asks each for its degrees, the first one first.
 pub struct IsWarmer;
 
-impl Memo for IsWarmer {
+impl Function for IsWarmer {
     type Call = MultiCall<TownCall, TownCall>;
 
     type Key = ();
@@ -22,13 +21,13 @@ impl Memo for IsWarmer {
     ghost use Rattle.comemo.specs.Multi.{OnParts};
     ghost use Rattle.comemo_samples.specs.declared.town.TownCall.TheVariants.{Degrees};
 
-    ghost def = { reading (λ _ m out.
-        OnParts m (λ one other. out ≡ nat_lt (other Degrees) (one Degrees))) };
+    ghost means = { λ _ m out.
+        OnParts m (λ one other. out ≡ nat_lt (other Degrees) (one Degrees)) };
 
     ghost laws = { Prim.search rules };
 }
 
-impl<'a> FunctionOf<Both<'a, Town, Town>> for IsWarmer {
+impl<'a> Run<Both<'a, Town, Town>> for IsWarmer {
     type Needs = ();
 
     fn run(
@@ -48,7 +47,7 @@ impl<'a> FunctionOf<Both<'a, Town, Town>> for IsWarmer {
 /// stays.
 pub struct Lead;
 
-impl Memo for Lead {
+impl Function for Lead {
     type Call = MultiCall<TownCall, TownCall>;
 
     type Key = ();
@@ -60,19 +59,19 @@ impl Memo for Lead {
     ghost use Rattle.comemo.specs.Multi.{OnParts};
     ghost use Rattle.comemo_samples.specs.declared.town.TownCall.TheVariants.{Degrees};
 
-    ghost def = { reading (λ _ m out.
-        OnParts m (λ one other. out ≡ one Degrees - other Degrees)) };
+    ghost means = { λ _ m out.
+        OnParts m (λ one other. out ≡ one Degrees - other Degrees) };
 
     ghost laws = { Prim.search rules };
 }
 
-impl<'a> FunctionOf<Both<'a, Town, Town>> for Lead {
-    type Needs = CacheData<MemoOf<Warmth>>;
+impl<'a> Run<Both<'a, Town, Town>> for Lead {
+    type Needs = CacheData<Warmth>;
 
     fn run(
         _key: &(),
         towns: &mut Recorder<'_, Both<'a, Town, Town>>,
-        kept: &mut CacheData<MemoOf<Warmth>>,
+        kept: &mut CacheData<Warmth>,
     ) -> Result<u64, Fault> {
         let one = towns.call_first(kept, &mut (), ())?;
         let other = towns.call_second(kept, &mut (), ())?;

@@ -2,7 +2,7 @@
 ghost use Rattle.std.specs.Prelude.{◌≡◌, ◌<◌, ℕ, length, IfOk, slice_index_or};
 
 use crate::warmth::Warmth;
-use comemo::{Cache, Fault, MemoOf, memoized};
+use comemo::{Cache, Fault, memoized};
 use comemo_samples::Town;
 use std::alloc::{AllocError, Global};
 use std::sync::Wait;
@@ -12,7 +12,7 @@ use std::thread::{Threads, join, map_indices};
 pub fn shared_warmth<R: Wait>(
     rt: &R,
     alloc: Global,
-    cache: &Cache<MemoOf<Warmth>>,
+    cache: &Cache<Warmth>,
     town: &Town,
 ) -> Result<u64, Fault>
     ensures { IfOk result (λ degrees. degrees ≡ town.now.degrees) }
@@ -26,7 +26,7 @@ pub fn shared_warmth<R: Wait>(
 pub fn both_warmths<R: Threads + Wait + Sync>(
     rt: &R,
     alloc: Global,
-    cache: &Cache<MemoOf<Warmth>>,
+    cache: &Cache<Warmth>,
     north: &Town,
     south: &Town,
 ) -> Result<(u64, u64), Fault>
@@ -47,7 +47,7 @@ pub fn both_warmths<R: Threads + Wait + Sync>(
 pub fn warmths<R: Threads + Wait + Sync>(
     rt: &R,
     alloc: Global,
-    cache: &Cache<MemoOf<Warmth>>,
+    cache: &Cache<Warmth>,
     towns: &[Town],
 ) -> Result<Vec<Result<u64, Fault>>, AllocError>
     ensures { IfOk result (λ table. (i : ℕ) (d : _) (e : _) → i < length towns.now

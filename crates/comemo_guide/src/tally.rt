@@ -1,15 +1,15 @@
 //! A function that reads one tracked value and writes another.
 ghost use Rattle.std.specs.Prelude.{◌≡◌, [], ◌∷◌};
 ghost use Rattle.std.proofs.Common.{rules};
-ghost use Rattle.comemo.specs.MeaningLaws.{exact_memo_laws};
+ghost use Rattle.comemo.specs.MeaningLaws.{exact_laws};
 
-use comemo::{BothMut, Fault, FunctionMutOf, Memo, MultiAnswer, MultiCall, RecorderMut};
+use comemo::{BothMut, Fault, Function, MultiAnswer, MultiCall, RecorderMut, RunMut};
 use comemo_samples::{Counter, CounterCall, Town, TownCall};
 
 /// Adds the degrees of a town to a counter, and returns them.
 pub struct Tally;
 
-impl Memo for Tally {
+impl Function for Tally {
     type Call = MultiCall<TownCall, CounterCall>;
 
     type Key = ();
@@ -22,14 +22,14 @@ impl Memo for Tally {
     ghost use Rattle.comemo_samples.specs.declared.town.TownCall.TheVariants.{Degrees};
     ghost use Rattle.comemo_samples.specs.declared.counter.CounterCall.TheVariants.{Add};
 
-    ghost def = { λ _ m out writes. OnParts m (λ town _. (out ≡ town Degrees)
-        × (writes ≡ second_call (Add (town Degrees)) ∷ [])) };
+    ghost means = { λ _ m out. OnParts m (λ town _. out ≡ town Degrees) };
 
-    ghost laws = { exact_memo_laws (λ x y h. Prim.search rules) (λ x y h. Prim.search rules)
-        (λ x y h. Prim.search rules) (λ a b h. Prim.search rules) (λ x y h. Prim.search rules) };
+    ghost writes = { λ _ _ out W. W ≡ second_call (Add out) ∷ [] };
+
+    ghost laws = { exact_laws (Prim.search rules) };
 }
 
-impl<'a> FunctionMutOf<BothMut<'a, Town, Counter>> for Tally {
+impl<'a> RunMut<BothMut<'a, Town, Counter>> for Tally {
     type Needs = ();
 
     fn run(

@@ -10,7 +10,9 @@ pub struct Same;
 impl Function for Same {
     type Key = String;
 
-    type Of = ();
+    type Call = ();
+
+    type Answer = ();
 
     type Out = String;
 
@@ -19,7 +21,7 @@ impl Function for Same {
     ghost laws = { Prim.search rules };
 }
 
-impl Run for Same {
+impl Run<()> for Same {
     type Needs = ();
 
     fn run(text: &String, _of: &mut Recorder<'_, ()>, _needs: &mut ()) -> Result<String, Fault> {

@@ -2,20 +2,20 @@
 ghost use Rattle.std.specs.Prelude.{◌≡◌, map};
 ghost use Rattle.std.proofs.Common.{rules};
 ghost use Rattle.comemo.specs.FunctionMut.{TellsWrites, lent};
-ghost use Rattle.comemo.specs.MeaningLaws.{exact_memo_laws};
+ghost use Rattle.comemo.specs.MeaningLaws.{exact_laws};
 ghost use Rattle.comemo_guide.specs.Totals.{total, notes};
 
-use comemo::internal::{Told, ToldMut};
+use comemo::internal::{Meant, Told, ToldMut};
 use comemo::{
-    Begun, CacheData, Fault, FunctionMutOf, Hold, Memo, MultiAnswer, MultiCall, ReadAndWrite,
-    RecorderMut,
+    Begun, CacheData, Fault, Function, Hold, MultiAnswer, MultiCall, ReadAndWrite, RecorderMut,
+    RunMut,
 };
 use comemo_samples::{Cells, Get, Notebook, NotebookCall};
 
 /// The total of the first cells, modulo 2^64, with the totals up to it noted in a notebook.
 pub struct RunningTotal;
 
-impl Memo for RunningTotal {
+impl Function for RunningTotal {
     type Call = MultiCall<Get, NotebookCall>;
 
     type Key = u32;
@@ -26,11 +26,11 @@ impl Memo for RunningTotal {
 
     ghost use Rattle.comemo.specs.Multi.{OnParts, second_call};
 
-    ghost def = { λ count m out writes. OnParts m (λ cells _. (out ≡ total cells count)
-        × (writes ≡ map second_call (notes cells count))) };
+    ghost means = { λ count m out. OnParts m (λ cells _. out ≡ total cells count) };
 
-    ghost laws = { exact_memo_laws (λ x y h. Prim.search rules) (λ x y h. Prim.search rules)
-        (λ x y h. Prim.search rules) (λ a b h. Prim.search rules) (λ x y h. Prim.search rules) };
+    ghost writes = { λ count m _ W. OnParts m (λ cells _. W ≡ map second_call (notes cells count)) };
+
+    ghost laws = { exact_laws (Prim.search rules) };
 }
 
 /// The total of the first cells, through a cache. As long as these cells are unchanged, a later call notes the totals
@@ -48,7 +48,7 @@ pub fn totalled<'a, H: Hold<RunningTotal>>(
     ensures tells { TellsWrites ⟦<ReadAndWrite<'a, Cells, Notebook> as ToldMut>⟧.goes
         ⟦<ReadAndWrite<'a, Cells, Notebook> as Told>⟧.fits
         (lent both.old.value both.old.recording) (lent both.new.value both.new.recording) result
-        (λ out m writes. ⟦<RunningTotal as Memo>⟧.def count m out writes) }
+        (λ out m writes. ⟦<RunningTotal as Meant>⟧.meaning.def count m out writes) }
 {
     let run = match both.begin(cache, &count)? {
         Begun::Hit(total) => return Ok(total),
@@ -72,7 +72,7 @@ fn add_up<'a, H: Hold<RunningTotal>>(
     ensures tells { TellsWrites ⟦<ReadAndWrite<'a, Cells, Notebook> as ToldMut>⟧.goes
         ⟦<ReadAndWrite<'a, Cells, Notebook> as Told>⟧.fits
         (lent both.old.value both.old.recording) (lent both.new.value both.new.recording) result
-        (λ out m writes. ⟦<RunningTotal as Memo>⟧.def count m out writes) }
+        (λ out m writes. ⟦<RunningTotal as Meant>⟧.meaning.def count m out writes) }
 {
     if count == 0 {
         return Ok(0);
@@ -89,7 +89,7 @@ fn add_up<'a, H: Hold<RunningTotal>>(
 /// The run calls `totalled`. After a fault the notebook holds a prefix of the totals.
 pub struct NotesTotals;
 
-impl Memo for NotesTotals {
+impl Function for NotesTotals {
     type Call = MultiCall<Get, NotebookCall>;
 
     type Key = u32;
@@ -98,13 +98,14 @@ impl Memo for NotesTotals {
 
     type Out = u64;
 
-    ghost def = { ⟦<RunningTotal as Memo>⟧.def };
+    ghost means = { ⟦<RunningTotal as Function>⟧.means };
 
-    ghost laws = { exact_memo_laws (λ x y h. Prim.search rules) (λ x y h. Prim.search rules)
-        (λ x y h. Prim.search rules) (λ a b h. Prim.search rules) (λ x y h. Prim.search rules) };
+    ghost writes = { ⟦<RunningTotal as Function>⟧.writes };
+
+    ghost laws = { exact_laws (Prim.search rules) };
 }
 
-impl<'a> FunctionMutOf<ReadAndWrite<'a, Cells, Notebook>> for NotesTotals {
+impl<'a> RunMut<ReadAndWrite<'a, Cells, Notebook>> for NotesTotals {
     type Needs = CacheData<RunningTotal>;
 
     fn run(

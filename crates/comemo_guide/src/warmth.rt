@@ -11,7 +11,9 @@ pub struct Warmth;
 impl Function for Warmth {
     type Key = ();
 
-    type Of = Town;
+    type Call = TownCall;
+
+    type Answer = u64;
 
     type Out = u64;
 
@@ -22,7 +24,7 @@ impl Function for Warmth {
     ghost laws = { Prim.search rules };
 }
 
-impl Run for Warmth {
+impl Run<Town> for Warmth {
     type Needs = ();
 
     fn run(_key: &(), town: &mut Recorder<'_, Town>, _needs: &mut ()) -> Result<u64, Fault> {

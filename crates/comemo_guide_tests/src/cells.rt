@@ -1,7 +1,7 @@
 //! Functions of a spreadsheet: what they return, and which calls are hits.
 
 use Step::{Kept, Number, Plain, Ranged, Row, Set, Show, Sum, Third, Total};
-use comemo::{Both, CacheData, How, MemoOf, Recorder, Top, Track, memoized, memoized_with};
+use comemo::{Both, CacheData, How, Recorder, Top, Track, memoized, memoized_with};
 use comemo_sheet::number::NumberIn;
 use comemo_sheet::plain::{NoNumber, PlainNumber};
 use comemo_sheet::range::{Kept as Ranges, Range, range_total, ranged};
@@ -51,7 +51,7 @@ fn is_filled(alloc: Global, sheet: &mut Sheet) -> bool {
 /// Whether a call returns this number of A1 and ends as `how`.
 fn is_number(
     alloc: Global,
-    cache: &mut CacheData<MemoOf<NumberIn>>,
+    cache: &mut CacheData<NumberIn>,
     sheet: &Sheet,
     number: i64,
     how: How,
@@ -68,7 +68,7 @@ fn is_number(
 /// Whether a call returns the plain number of a cell, or why it has none, and ends as `how`.
 fn is_plain(
     alloc: Global,
-    cache: &mut CacheData<MemoOf<PlainNumber>>,
+    cache: &mut CacheData<PlainNumber>,
     sheet: &Sheet,
     name: &str,
     number: Result<i64, NoNumber>,
@@ -86,7 +86,7 @@ fn is_plain(
 /// Whether a call returns this total of a row, of which A3 is empty and B1 is no number, and ends as `how`.
 fn is_total(
     alloc: Global,
-    cache: &mut CacheData<MemoOf<RowTotal>>,
+    cache: &mut CacheData<RowTotal>,
     sheet: &Sheet,
     total: i64,
     how: How,
@@ -103,8 +103,8 @@ fn is_total(
 /// Whether settings show A1 as this number, and the call ends as `how`.
 fn is_shown(
     alloc: Global,
-    cache: &mut CacheData<Shown<CacheData<MemoOf<NumberIn>>>>,
-    numbers: &mut CacheData<MemoOf<NumberIn>>,
+    cache: &mut CacheData<Shown<CacheData<NumberIn>>>,
+    numbers: &mut CacheData<NumberIn>,
     (sheet, settings): (&Sheet, &Settings),
     shown: i64,
     how: How,
@@ -125,7 +125,7 @@ fn is_shown(
 /// Whether this is the value of C1, up to a depth of 3.
 fn is_third(
     alloc: Global,
-    cache: &mut CacheData<MemoOf<Value>>,
+    cache: &mut CacheData<Value>,
     sheet: &Sheet,
     value: Option<i64>,
 ) -> bool {
@@ -172,11 +172,11 @@ fn is_range_total(
 #[derive(Drop)]
 struct Desk {
     sheet: Sheet,
-    numbers: CacheData<MemoOf<NumberIn>>,
-    plain: CacheData<MemoOf<PlainNumber>>,
-    rows: CacheData<MemoOf<RowTotal>>,
-    shown: CacheData<Shown<CacheData<MemoOf<NumberIn>>>>,
-    values: CacheData<MemoOf<Value>>,
+    numbers: CacheData<NumberIn>,
+    plain: CacheData<PlainNumber>,
+    rows: CacheData<RowTotal>,
+    shown: CacheData<Shown<CacheData<NumberIn>>>,
+    values: CacheData<Value>,
     ranges: Ranges,
 }
 

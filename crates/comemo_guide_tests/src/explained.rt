@@ -1,6 +1,6 @@
 //! Why a call is a hit or a run.
 
-use comemo::{Cache, CacheData, Explanation, Hold, MemoOf, Top, explain, memoized_with};
+use comemo::{Cache, CacheData, Explanation, Hold, Top, explain, memoized_with};
 use comemo_guide::named::Sum;
 use comemo_samples::{Context, ContextCall};
 use std::alloc::Global;
@@ -15,7 +15,7 @@ enum Said<'a> {
 }
 
 /// Whether a call at a context has this explanation.
-fn says<H: Hold<MemoOf<Sum>>>(
+fn says<H: Hold<Sum>>(
     alloc: Global,
     cache: &mut H,
     (location, styles): (u64, u64),
@@ -40,7 +40,7 @@ fn says<H: Hold<MemoOf<Sum>>>(
 }
 
 /// Whether a call returns this sum of a context, whose location is asked first.
-fn sums<H: Hold<MemoOf<Sum>>>(
+fn sums<H: Hold<Sum>>(
     alloc: Global,
     cache: &mut H,
     (location, styles): (u64, u64),
@@ -63,7 +63,7 @@ fn sums<H: Hold<MemoOf<Sum>>>(
 }
 
 /// Whether calls are explained correctly, before and after a run of (1, 2) and one of (1, 5), through any holder.
-fn is_explained<H: Hold<MemoOf<Sum>>>(alloc: Global, cache: &mut H) -> bool {
+fn is_explained<H: Hold<Sum>>(alloc: Global, cache: &mut H) -> bool {
     let location = ContextCall::Location;
     let styles = ContextCall::Styles;
     says(alloc, cache, (1, 2), &Said::NeverKept)
@@ -89,7 +89,7 @@ fn is_explained<H: Hold<MemoOf<Sum>>>(alloc: Global, cache: &mut H) -> bool {
 #[test]
 fn an_owned_cache_says_why(rt: HostRuntime) {
     let alloc = rt.alloc();
-    let mut cache: CacheData<MemoOf<Sum>> = CacheData::new(alloc);
+    let mut cache: CacheData<Sum> = CacheData::new(alloc);
     assert!(rt; is_explained(alloc, &mut cache));
     assert_eq!(rt; cache.len(), 2);
     cache.evict(0);
@@ -99,7 +99,7 @@ fn an_owned_cache_says_why(rt: HostRuntime) {
 #[test]
 fn a_shared_cache_says_why(rt: HostRuntime) {
     let alloc = rt.alloc();
-    let cache: Cache<MemoOf<Sum>> = Cache::new(alloc);
+    let cache: Cache<Sum> = Cache::new(alloc);
     assert!(rt; is_explained(alloc, &mut cache.hold(&rt)));
     assert!(rt; says(alloc, &mut cache.hold(&rt), (1, 2), &Said::Hit));
 }

@@ -2,9 +2,9 @@
 //! `writing`.
 //!
 //! Some helpers return how many calls, from the first on, have the wanted results.
-ghost use Rattle.comemo.specs.Function.{ReadsAlone};
+ghost use Rattle.comemo.specs.Function.{WritesNone};
 
-use comemo::{CacheData, Caches, How, Memo, MemoOf, Run, Top, Track, memoized, memoized_with};
+use comemo::{CacheData, Caches, Function, How, Run, Top, Track, memoized, memoized_with};
 use comemo_guide::both_pass::BothPass;
 use comemo_guide::numbers::{DoubleFlat, Flat};
 use comemo_guide::orders::{Both, Either, Exceeds, Turn};
@@ -24,16 +24,16 @@ fn town((people, degrees): Of) -> Town {
 }
 
 /// Whether a call of a town returns this output and ends as `how`. It is enabled unless `how` is `Disabled`.
-fn gives<O: Copy + PartialEq, F: Run<Of = Town, Out = O>>(
+fn gives<O: Copy + PartialEq, F: Run<Town, Out = O>>(
     alloc: Global,
-    cache: &mut CacheData<MemoOf<F>>,
+    cache: &mut CacheData<F>,
     needs: &mut F::Needs,
     key: F::Key,
     of: Of,
     output: O,
     how: How,
 ) -> bool
-    requires { ReadsAlone ⟦<MemoOf<F> as Memo>⟧.def }
+    requires { WritesNone F.writes }
 {
     let town = town(of);
     let enabled = how != How::Disabled;
@@ -45,7 +45,7 @@ fn gives<O: Copy + PartialEq, F: Run<Of = Town, Out = O>>(
 
 /// How many calls return the degrees of a town, each with the number of entries then.
 fn degrees(alloc: Global, calls: &[(Of, How, usize)]) -> usize {
-    let mut cache: CacheData<MemoOf<Warmth>> = CacheData::new(alloc);
+    let mut cache: CacheData<Warmth> = CacheData::new(alloc);
     let mut held: usize = 0;
     for (of, how, len) in calls {
         let is_so = gives(alloc, &mut cache, &mut (), (), *of, of.1, *how);
@@ -72,14 +72,14 @@ fn only_what_was_asked_counts(rt: HostRuntime) {
 }
 
 /// How many calls of a function of a town and a number have these results.
-fn answers<F: Run<Key = u64, Of = Town, Needs = (), Out = bool>>(
+fn answers<F: Run<Town, Key = u64, Needs = (), Out = bool>>(
     alloc: Global,
     number: u64,
     calls: &[(Of, bool, How)],
 ) -> usize
-    requires { ReadsAlone ⟦<MemoOf<F> as Memo>⟧.def }
+    requires { WritesNone F.writes }
 {
-    let mut cache: CacheData<MemoOf<F>> = CacheData::new(alloc);
+    let mut cache: CacheData<F> = CacheData::new(alloc);
     let mut held: usize = 0;
     for (of, output, how) in calls {
         if !gives(alloc, &mut cache, &mut (), number, *of, *output, *how) {
@@ -122,7 +122,7 @@ fn what_was_asked_alone_counts(rt: HostRuntime) {
 #[test]
 fn what_a_called_function_asked_counts_for_its_caller(rt: HostRuntime) {
     let alloc = rt.alloc();
-    let mut cache: CacheData<MemoOf<Report>> = CacheData::new(alloc);
+    let mut cache: CacheData<Report> = CacheData::new(alloc);
     let mut kept = (CacheData::new(alloc), CacheData::new(alloc));
     // The last columns are the numbers of entries of the called functions.
     let calls: &[(Of, u64, How, usize, usize)] = &[
@@ -147,7 +147,7 @@ fn what_a_called_function_asked_counts_for_its_caller(rt: HostRuntime) {
 
 /// How many calls double a number.
 fn doubles(alloc: Global, calls: &[(u32, How)]) -> usize {
-    let mut cache: CacheData<MemoOf<DoubleFlat>> = CacheData::new(alloc);
+    let mut cache: CacheData<DoubleFlat> = CacheData::new(alloc);
     let mut held: usize = 0;
     for (n, how) in calls {
         let sink = &mut Top::new();
@@ -170,13 +170,13 @@ fn keys_of_one_hash_are_told_apart(rt: HostRuntime) {
 }
 
 /// How many calls of a function with this order of questions have these results, each with the number of entries then.
-fn in_turn<O: Copy + PartialEq, F: Run<Key = (), Of = Town, Needs = Turn, Out = O>>(
+fn in_turn<O: Copy + PartialEq, F: Run<Town, Key = (), Needs = Turn, Out = O>>(
     alloc: Global,
     calls: &[(Turn, Of, O, How, usize)],
 ) -> usize
-    requires { ReadsAlone ⟦<MemoOf<F> as Memo>⟧.def }
+    requires { WritesNone F.writes }
 {
-    let mut cache: CacheData<MemoOf<F>> = CacheData::new(alloc);
+    let mut cache: CacheData<F> = CacheData::new(alloc);
     let mut held: usize = 0;
     for (turn, of, output, how, len) in calls {
         let mut turn = *turn;
@@ -248,7 +248,7 @@ fn two_towns_are_asked_of_what_was_asked_of_each(rt: HostRuntime) {
 fn leads(
     alloc: Global,
     cache: &mut CacheData<Lead>,
-    kept: &mut CacheData<MemoOf<Warmth>>,
+    kept: &mut CacheData<Warmth>,
     (one, other): (Of, Of),
     lead: u64,
     how: How,
@@ -268,7 +268,7 @@ fn leads(
 fn a_function_of_two_towns_calls_one_of_each(rt: HostRuntime) {
     let alloc = rt.alloc();
     let mut cache: CacheData<Lead> = CacheData::new(alloc);
-    let mut kept: CacheData<MemoOf<Warmth>> = CacheData::new(alloc);
+    let mut kept: CacheData<Warmth> = CacheData::new(alloc);
     // The last column is the number of entries of the called function.
     let calls: &[((Of, Of), u64, How, usize)] = &[
         (((900, 24), (50, 21)), 3, How::Stored, 2),

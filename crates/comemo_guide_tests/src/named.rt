@@ -1,6 +1,6 @@
 //! Tests of the functions that name their calls.
 
-use comemo::{CacheData, How, MemoOf, Top, memoized_with};
+use comemo::{CacheData, How, Top, memoized_with};
 use comemo_guide::named::{IsOver, Sum};
 use comemo_samples::{Context, ContextCall};
 use std::alloc::Global;
@@ -11,7 +11,7 @@ type Of = (u64, u64);
 /// Whether a call returns the sum of a context, of which this is asked first, and ends as `how`.
 fn sums(
     alloc: Global,
-    cache: &mut CacheData<MemoOf<Sum>>,
+    cache: &mut CacheData<Sum>,
     mut first: ContextCall,
     (location, styles): Of,
     sum: u64,
@@ -35,7 +35,7 @@ fn sums(
 #[test]
 fn two_questions_are_kept_in_either_order(rt: HostRuntime) {
     let alloc = rt.alloc();
-    let mut cache: CacheData<MemoOf<Sum>> = CacheData::new(alloc);
+    let mut cache: CacheData<Sum> = CacheData::new(alloc);
     // The last column is the number of entries then.
     let calls: &[(ContextCall, Of, u64, How, usize)] = &[
         (ContextCall::Location, (1, 2), 3, How::Stored, 1),
@@ -53,8 +53,8 @@ fn two_questions_are_kept_in_either_order(rt: HostRuntime) {
 /// Whether a call returns whether the sum of a context exceeds 4, and ends as `how`.
 fn is_over(
     alloc: Global,
-    cache: &mut CacheData<MemoOf<IsOver>>,
-    kept: &mut (CacheData<MemoOf<Sum>>, ContextCall),
+    cache: &mut CacheData<IsOver>,
+    kept: &mut (CacheData<Sum>, ContextCall),
     (location, styles): Of,
     is_over: bool,
     how: How,
@@ -69,11 +69,8 @@ fn is_over(
 #[test]
 fn what_a_named_function_asked_counts_for_its_caller(rt: HostRuntime) {
     let alloc = rt.alloc();
-    let mut cache: CacheData<MemoOf<IsOver>> = CacheData::new(alloc);
-    let mut kept: (CacheData<MemoOf<Sum>>, ContextCall) = (
-        CacheData::new(alloc),
-        ContextCall::Location,
-    );
+    let mut cache: CacheData<IsOver> = CacheData::new(alloc);
+    let mut kept: (CacheData<Sum>, ContextCall) = (CacheData::new(alloc), ContextCall::Location);
     let calls: &[(ContextCall, Of, bool, How)] = &[
         (ContextCall::Location, (1, 2), false, How::Stored),
         (ContextCall::Styles, (1, 2), false, How::Hit),

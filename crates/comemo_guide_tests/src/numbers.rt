@@ -1,12 +1,12 @@
 //! A function that calls itself: each number is stored once, and each later call of it is a hit.
 
-use comemo::{Begun, Cache, CacheData, Fault, Hold, How, MemoOf, Recorder, Track};
+use comemo::{Begun, Cache, CacheData, Fault, Hold, How, Recorder, Track};
 use comemo_sheet::fibonacci::{Fib, numbered};
 use std::alloc::Global;
 use std::test::Fail;
 
 /// Whether this is the number at a place.
-fn is_number<H: Hold<MemoOf<Fib>>>(alloc: Global, cache: &mut H, place: u64, number: u64) -> bool {
+fn is_number<H: Hold<Fib>>(alloc: Global, cache: &mut H, place: u64, number: u64) -> bool {
     let mut recorder = Recorder::new(alloc, ().track(alloc));
     match numbered(cache, place, &mut recorder) {
         Ok(found) => found == number,
@@ -17,7 +17,7 @@ fn is_number<H: Hold<MemoOf<Fib>>>(alloc: Global, cache: &mut H, place: u64, num
 #[test]
 fn each_number_is_kept_once(rt: HostRuntime) {
     let alloc = rt.alloc();
-    let mut cache: CacheData<MemoOf<Fib>> = CacheData::new(alloc);
+    let mut cache: CacheData<Fib> = CacheData::new(alloc);
     let numbers: &[(u64, u64, usize)] = &[
         // those at 0 and 1 are not kept
         (90, 2880067194370816120, 89),
@@ -34,14 +34,14 @@ fn each_number_is_kept_once(rt: HostRuntime) {
 #[test]
 fn a_shared_cache_keeps_them_too(rt: HostRuntime) {
     let alloc = rt.alloc();
-    let cache: Cache<MemoOf<Fib>> = Cache::new(alloc);
+    let cache: Cache<Fib> = Cache::new(alloc);
     for _ in 0..2 {
         assert!(rt; is_number(alloc, &mut cache.hold(&rt), 90, 2880067194370816120));
     }
 }
 
 /// How a call of the number at place 0, made by hand, ends.
-fn how_it_went(alloc: Global, cache: &mut CacheData<MemoOf<Fib>>) -> Result<How, Fault> {
+fn how_it_went(alloc: Global, cache: &mut CacheData<Fib>) -> Result<How, Fault> {
     let mut recorder = Recorder::new(alloc, ().track(alloc));
     match recorder.begin(cache, &0)? {
         Begun::Hit(_) => Ok(How::Hit),
@@ -55,7 +55,7 @@ fn how_it_went(alloc: Global, cache: &mut CacheData<MemoOf<Fib>>) -> Result<How,
 #[test]
 fn a_call_by_hand_says_what_became_of_it(rt: HostRuntime) -> Result<(), Fail> {
     let alloc = rt.alloc();
-    let mut cache: CacheData<MemoOf<Fib>> = CacheData::new(alloc);
+    let mut cache: CacheData<Fib> = CacheData::new(alloc);
     for how in [How::Stored, How::Hit] {
         let went = how_it_went(alloc, &mut cache)?;
         assert_eq!(rt; went, how);

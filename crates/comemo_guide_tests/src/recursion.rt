@@ -1,8 +1,6 @@
 //! Tests of the functions that call themselves and write.
 
-use comemo::{
-    Both, CacheData, Fault, MemoOf, ReadAndWrite, Recorder, Top, Track, memoized_mut_with,
-};
+use comemo::{Both, CacheData, Fault, ReadAndWrite, Recorder, Top, Track, memoized_mut_with};
 use comemo_guide::all_equal::{AllEqual, compared};
 use comemo_guide::ruler::{Ruler, rule};
 use comemo_guide::totals::{NotesTotals, RunningTotal};
@@ -14,7 +12,7 @@ use std::test::Fail;
 /// marks.
 fn is_ruled(
     alloc: Global,
-    cache: &mut CacheData<MemoOf<Ruler>>,
+    cache: &mut CacheData<Ruler>,
     height: u64,
     (owner, room): (u64, usize),
     ended: Result<(), Fault>,
@@ -28,7 +26,7 @@ fn is_ruled(
 #[test]
 fn a_ruler_is_drawn_by_the_marks_below(rt: HostRuntime) {
     let alloc = rt.alloc();
-    let mut cache: CacheData<MemoOf<Ruler>> = CacheData::new(alloc);
+    let mut cache: CacheData<Ruler> = CacheData::new(alloc);
     let rulers: &[(u64, u64, &[u64], usize)] = &[
         // The heights 0, 1 and 2 are stored, each once.
         (2, 7, &[1, 7, 2, 7, 1, 7], 3),
@@ -47,7 +45,7 @@ fn a_ruler_is_drawn_by_the_marks_below(rt: HostRuntime) {
 #[test]
 fn a_ruler_that_has_no_room_is_begun(rt: HostRuntime) {
     let alloc = rt.alloc();
-    let mut cache: CacheData<MemoOf<Ruler>> = CacheData::new(alloc);
+    let mut cache: CacheData<Ruler> = CacheData::new(alloc);
     let rulers: &[(Fault, &[u64])] = &[
         // The fourth line fails, in the run of height 2. The heights 0 and 1 were stored.
         (Fault::Memory, &[1, 7, 2]),

@@ -1,8 +1,6 @@
 //! Tests of the functions that write: a hit writes what the run wrote.
 
-use comemo::{
-    BothMut, CacheData, How, MemoOf, ReadAndWrite, Top, Track, memoized_mut, memoized_mut_with,
-};
+use comemo::{BothMut, CacheData, How, ReadAndWrite, Top, Track, memoized_mut, memoized_mut_with};
 use comemo_guide::adding::{Adds, AddsTwice};
 use comemo_guide::both_written::NotesAndAdds;
 use comemo_guide::listing::Listing;
@@ -16,7 +14,7 @@ use std::test::Fail;
 /// Whether a call that adds a number returns the next number, and ends as `how`.
 fn adds(
     alloc: Global,
-    cache: &mut CacheData<MemoOf<Adds>>,
+    cache: &mut CacheData<Adds>,
     number: u64,
     counter: &mut Counter,
     how: How,
@@ -30,7 +28,7 @@ fn adds(
 #[test]
 fn a_hit_adds_again(rt: HostRuntime) {
     let alloc = rt.alloc();
-    let mut cache: CacheData<MemoOf<Adds>> = CacheData::new(alloc);
+    let mut cache: CacheData<Adds> = CacheData::new(alloc);
     let mut counter = Counter { number: 0 };
     let calls: &[(u64, How, u64)] = &[
         (5, How::Stored, 6),
@@ -48,8 +46,8 @@ fn a_hit_adds_again(rt: HostRuntime) {
 /// Whether a call that adds a number and the next one returns the one after that, and ends as `how`.
 fn adds_twice(
     alloc: Global,
-    cache: &mut CacheData<MemoOf<AddsTwice>>,
-    kept: &mut CacheData<MemoOf<Adds>>,
+    cache: &mut CacheData<AddsTwice>,
+    kept: &mut CacheData<Adds>,
     number: u64,
     counter: &mut Counter,
     how: How,
@@ -63,8 +61,8 @@ fn adds_twice(
 #[test]
 fn what_was_added_within_is_added_again(rt: HostRuntime) {
     let alloc = rt.alloc();
-    let mut cache: CacheData<MemoOf<AddsTwice>> = CacheData::new(alloc);
-    let mut kept: CacheData<MemoOf<Adds>> = CacheData::new(alloc);
+    let mut cache: CacheData<AddsTwice> = CacheData::new(alloc);
+    let mut kept: CacheData<Adds> = CacheData::new(alloc);
     let mut counter = Counter { number: 0 };
     // The last column is the number of entries of the called function.
     let calls: &[(u64, How, u64, usize)] = &[
@@ -122,7 +120,7 @@ fn a_town_is_read_and_a_counter_written(rt: HostRuntime) {
 fn a_town_is_read_by_another_function_and_a_counter_written(rt: HostRuntime) -> Result<(), Fail> {
     let alloc = rt.alloc();
     let mut cache: CacheData<TallyWarmth> = CacheData::new(alloc);
-    let mut kept: CacheData<MemoOf<Warmth>> = CacheData::new(alloc);
+    let mut kept: CacheData<Warmth> = CacheData::new(alloc);
     let mut counter = Counter { number: 0 };
     // The last columns are the counter's number and the number of entries of `Warmth`.
     let calls = [
@@ -184,7 +182,7 @@ fn a_counter_that_is_written_is_read_too(rt: HostRuntime) -> Result<(), Fail> {
 fn a_counter_is_written_by_another_function(rt: HostRuntime) -> Result<(), Fail> {
     let alloc = rt.alloc();
     let mut cache: CacheData<AddsOneMore> = CacheData::new(alloc);
-    let mut kept: CacheData<MemoOf<Adds>> = CacheData::new(alloc);
+    let mut kept: CacheData<Adds> = CacheData::new(alloc);
     let mut counter = Counter { number: 0 };
     // The last columns are the counter's number and the number of entries of `Adds`.
     let calls = [
@@ -222,7 +220,7 @@ fn a_counter_is_written_by_another_function(rt: HostRuntime) -> Result<(), Fail>
 fn a_counter_and_a_notebook_are_written(rt: HostRuntime) -> Result<(), Fail> {
     let alloc = rt.alloc();
     let mut cache: CacheData<NotesAndAdds> = CacheData::new(alloc);
-    let mut kept: CacheData<MemoOf<Adds>> = CacheData::new(alloc);
+    let mut kept: CacheData<Adds> = CacheData::new(alloc);
     let mut book = Notebook::new(alloc, 7, 3);
     // The last columns are the counter's number afterwards and the number of entries of `Adds`.
     let calls = [
@@ -273,7 +271,7 @@ fn ends_with_day(log: &Log, lines: usize) -> bool {
 #[test]
 fn a_hit_writes_each_line_again(rt: HostRuntime) -> Result<(), Fail> {
     let alloc = rt.alloc();
-    let mut cache: CacheData<MemoOf<Listing>> = CacheData::new(alloc);
+    let mut cache: CacheData<Listing> = CacheData::new(alloc);
     let mut log = Log::new(alloc);
     for (how, lines) in [(How::Stored, 2_usize), (How::Hit, 4)] {
         let texts = two_texts(alloc)?;

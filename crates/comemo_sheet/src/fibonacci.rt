@@ -5,7 +5,7 @@ ghost use Rattle.comemo.specs.Recursive.{TellsOwn};
 ghost use Rattle.comemo_sheet.specs.Fibonacci.{fib};
 
 use comemo::internal::Told;
-use comemo::{Begun, Fault, Function, Hold, MemoOf, Recorder};
+use comemo::{Begun, Fault, Function, Hold, Recorder};
 
 /// The Fibonacci number at a place, modulo 2^64.
 pub struct Fib;
@@ -13,7 +13,9 @@ pub struct Fib;
 impl Function for Fib {
     type Key = u64;
 
-    type Of = ();
+    type Call = ();
+
+    type Answer = ();
 
     type Out = u64;
 
@@ -25,7 +27,7 @@ impl Function for Fib {
 /// The Fibonacci number at a place, by those before it, which are kept except the first two.
 ///
 /// `H` holds the cache: a `CacheData`, or a share of one that threads share.
-pub fn numbered<H: Hold<MemoOf<Fib>>>(
+pub fn numbered<H: Hold<Fib>>(
     cache: &mut H,
     place: u64,
     of: &mut Recorder<'_, ()>,

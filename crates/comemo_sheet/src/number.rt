@@ -3,10 +3,10 @@ ghost use Rattle.std.specs.Prelude.{◌≡◌};
 ghost use Rattle.comemo.specs.MeaningLaws.{reads_laws};
 ghost use Rattle.std.proofs.Common.{rules, ◌∙◌};
 ghost use Rattle.comemo_sheet.specs.Sheets.{number_in};
-ghost use Rattle.comemo_sheet.specs.SheetLaws.{number_alike};
+ghost use Rattle.comemo_sheet.specs.SheetLaws.{content_clones, number_alike};
 ghost use Rattle.comemo_sheet.specs.declared.sheet.SheetCall.TheVariants.{Cell};
 
-use crate::sheet::{Sheet, SheetCall};
+use crate::sheet::{Content, Sheet, SheetCall};
 use comemo::{Fault, Function, Recorder, Run};
 
 /// The number that a cell holds itself; 0 if none.
@@ -15,7 +15,9 @@ pub struct NumberIn;
 impl Function for NumberIn {
     type Key = String;
 
-    type Of = Sheet;
+    type Call = SheetCall;
+
+    type Answer = Content;
 
     type Out = i64;
 
@@ -25,11 +27,12 @@ impl Function for NumberIn {
       outputs = λ key m a b r c right. Prim.search rules;
       keys = λ j k m output r e right.
           right ∙ number_alike (m (Cell j)) (m (Cell k)) (r (Cell j) (Cell k) e);
-      clones = Prim.search rules;
+      key_clones = Prim.search rules;
+      answer_clones = content_clones;
     }) };
 }
 
-impl Run for NumberIn {
+impl Run<Sheet> for NumberIn {
     type Needs = ();
 
     fn run(name: &String, sheet: &mut Recorder<'_, Sheet>, _needs: &mut ()) -> Result<i64, Fault> {

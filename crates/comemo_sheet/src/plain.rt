@@ -3,6 +3,7 @@ ghost use Rattle.std.specs.Prelude.{◌≡◌};
 ghost use Rattle.comemo.specs.MeaningLaws.{reads_laws};
 ghost use Rattle.std.proofs.Common.{rules, ◌∙◌};
 ghost use Rattle.comemo_sheet.specs.Plain.{plain_number};
+ghost use Rattle.comemo_sheet.specs.SheetLaws.{content_clones};
 ghost use Rattle.comemo_sheet.specs.PlainLaws.{plain_alike};
 ghost use Rattle.comemo_sheet.specs.declared.sheet.SheetCall.TheVariants.{Cell};
 
@@ -24,7 +25,9 @@ pub struct PlainNumber;
 impl Function for PlainNumber {
     type Key = String;
 
-    type Of = Sheet;
+    type Call = SheetCall;
+
+    type Answer = Content;
 
     type Out = Result<i64, NoNumber>;
 
@@ -34,11 +37,12 @@ impl Function for PlainNumber {
       outputs = λ key m a b r c right. Prim.search rules;
       keys = λ j k m output r e right.
           right ∙ plain_alike (m (Cell j)) (m (Cell k)) (r (Cell j) (Cell k) e);
-      clones = Prim.search rules;
+      key_clones = Prim.search rules;
+      answer_clones = content_clones;
     }) };
 }
 
-impl Run for PlainNumber {
+impl Run<Sheet> for PlainNumber {
     type Needs = ();
 
     fn run(

@@ -6,12 +6,13 @@ ghost use Rattle.std.proofs.Common.{rules};
 ghost use Rattle.comemo.specs.Recursive.{TellsOwn};
 ghost use Rattle.comemo.proofs.Texts.{texts_clone};
 ghost use Rattle.comemo_sheet.specs.Values.{sum_of, value_of};
+ghost use Rattle.comemo_sheet.specs.SheetLaws.{content_clones};
 ghost use Rattle.comemo_sheet.specs.ValueLaws.{range_alike};
 
 use crate::sheet::{Content, Sheet, SheetCall};
 use crate::value::{Value, sum};
 use comemo::internal::Told;
-use comemo::{Begun, CacheData, Fault, Function, Hold, MemoOf, Recorder};
+use comemo::{Begun, CacheData, Fault, Function, Hold, Recorder};
 
 /// The cells of these names, and the limit on how deep their values go.
 #[derive(Clone, Drop, Debug, PartialEq, Eq, Hash)]
@@ -30,7 +31,9 @@ pub struct RangeTotal;
 impl Function for RangeTotal {
     type Key = Range;
 
-    type Of = Sheet;
+    type Call = SheetCall;
+
+    type Answer = Content;
 
     type Out = Option<i64>;
 
@@ -41,16 +44,17 @@ impl Function for RangeTotal {
       outputs = λ key m a b r c right. Prim.search rules;
       keys = λ j k m output r e right.
           Prim.search (rules, range_alike m r j.limit j.names.items k.names.items);
-      clones = λ x y h. Prim.search (rules, texts_clone);
+      key_clones = λ x y h. Prim.search (rules, texts_clone);
+      answer_clones = content_clones;
     }) };
 }
 
 /// The caches of both functions. The first also serves `valued`, which has the same meaning.
-pub type Kept = (CacheData<MemoOf<Value>>, CacheData<MemoOf<RangeTotal>>);
+pub type Kept = (CacheData<Value>, CacheData<RangeTotal>);
 
 /// The value of the cell of a name, through the caches, by the totals of ranges, up to a depth of `limit`.
 #[cycle(ranging)]
-pub fn ranged<H: Hold<MemoOf<Value>>, G: Hold<MemoOf<RangeTotal>>>(
+pub fn ranged<H: Hold<Value>, G: Hold<RangeTotal>>(
     kept: &mut (H, G),
     name: String,
     limit: u64,
@@ -81,7 +85,7 @@ pub fn ranged<H: Hold<MemoOf<Value>>, G: Hold<MemoOf<RangeTotal>>>(
 
 /// The total of a range, through the caches, by the values of its cells.
 #[cycle(ranging)]
-pub fn range_total<H: Hold<MemoOf<Value>>, G: Hold<MemoOf<RangeTotal>>>(
+pub fn range_total<H: Hold<Value>, G: Hold<RangeTotal>>(
     kept: &mut (H, G),
     range: Range,
     of: &mut Recorder<'_, Sheet>,

@@ -3,10 +3,11 @@ ghost use Rattle.std.specs.Prelude.{◌≡◌};
 ghost use Rattle.comemo.specs.MeaningLaws.{reads_laws};
 ghost use Rattle.std.proofs.Common.{rules, ◌∙◌};
 ghost use Rattle.comemo_sheet.specs.Totals.{plus, total_of};
+ghost use Rattle.comemo_sheet.specs.SheetLaws.{content_clones};
 ghost use Rattle.comemo_sheet.specs.TotalLaws.{total_alike};
 ghost use Rattle.comemo.proofs.Texts.{texts_clone};
 
-use crate::sheet::{Sheet, SheetCall};
+use crate::sheet::{Content, Sheet, SheetCall};
 use comemo::{Fault, Function, Recorder, Run};
 
 /// The sum of the numbers that the cells of these names hold, which wraps at 64 bits.
@@ -15,7 +16,9 @@ pub struct RowTotal;
 impl Function for RowTotal {
     type Key = Vec<String>;
 
-    type Of = Sheet;
+    type Call = SheetCall;
+
+    type Answer = Content;
 
     type Out = i64;
 
@@ -24,11 +27,12 @@ impl Function for RowTotal {
     ghost laws = { reads_laws (record {
       outputs = λ key m a b r c right. Prim.search rules;
       keys = λ j k m output r e right. right ∙ total_alike m r j.items k.items e;
-      clones = λ x y h. texts_clone x.items y.items h.0;
+      key_clones = λ x y h. texts_clone x.items y.items h.0;
+      answer_clones = content_clones;
     }) };
 }
 
-impl Run for RowTotal {
+impl Run<Sheet> for RowTotal {
     type Needs = ();
 
     fn run(

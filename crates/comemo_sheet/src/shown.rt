@@ -1,13 +1,13 @@
 //! The number of a cell as settings show it: a memoized function of two tracked values, which calls another one.
 ghost use Rattle.std.specs.Prelude.{◌≡◌};
 ghost use Rattle.std.proofs.Common.{rules, ◌∙◌, ap};
-ghost use Rattle.comemo.specs.Meaning.{reading};
+ghost use Rattle.comemo.specs.MeaningLaws.{reads_laws};
 ghost use Rattle.comemo_sheet.specs.Shown.{shown};
 
 use crate::number::NumberIn;
 use crate::settings::{Setting, Settings, SettingsCall};
 use crate::sheet::{Content, Sheet, SheetCall};
-use comemo::{Both, Fault, FunctionOf, Hold, Memo, MemoOf, MultiAnswer, MultiCall, Recorder};
+use comemo::{Both, Fault, Function, Hold, MultiAnswer, MultiCall, Recorder, Run};
 use std::marker::PhantomData;
 
 /// A number as it is shown: 0 if it is negative and those are hidden.
@@ -27,7 +27,7 @@ pub struct Shown<H> {
     numbers: PhantomData<H>,
 }
 
-impl<H> Memo for Shown<H> {
+impl<H> Function for Shown<H> {
     type Call = MultiCall<SheetCall, SettingsCall>;
 
     type Key = String;
@@ -37,29 +37,25 @@ impl<H> Memo for Shown<H> {
     type Out = i64;
 
     ghost use Rattle.comemo.specs.Multi.{OnParts, first_call};
-    ghost use Rattle.comemo_sheet.specs.SheetLaws.{number_alike, content_clones};
+    ghost use Rattle.comemo_sheet.specs.SheetLaws.{content_clones, number_alike};
     ghost use Rattle.comemo_sheet.specs.Sheets.{number_in};
     ghost use Rattle.comemo_sheet.specs.declared.sheet.SheetCall.TheVariants.{Cell};
     ghost use Rattle.comemo_sheet.specs.declared.settings.SettingsCall.TheVariants.{HidesNegative};
 
-    ghost def = { reading (λ name m out. OnParts m (λ sheet settings.
-        out ≡ shown (settings HidesNegative) (number_in (sheet (Cell name))))) };
+    ghost means = { λ name m out. OnParts m (λ sheet settings.
+        out ≡ shown (settings HidesNegative) (number_in (sheet (Cell name)))) };
 
-    ghost laws = { record {
-      outputs = λ key m a b writes r c right. Prim.search rules;
-      keys = λ j k m output writes r e right. (
-        right.0,
-        λ x y p q. right.1 x y p q
-            ∙ ap (shown (y HidesNegative)) (number_alike (x (Cell j)) (x (Cell k)) (Prim.search
-            (rules, r (first_call (Cell j)) (first_call (Cell k)) e, p (Cell j), p (Cell k)))),
-      );
-      writes = λ key m output V W r same right. Prim.search rules;
+    ghost laws = { reads_laws (record {
+      outputs = λ key m a b r c right. Prim.search rules;
+      keys = λ j k m output r e right x y p q. right x y p q
+          ∙ ap (shown (y HidesNegative)) (number_alike (x (Cell j)) (x (Cell k)) (Prim.search
+          (rules, r (first_call (Cell j)) (first_call (Cell k)) e, p (Cell j), p (Cell k))));
       key_clones = Prim.search rules;
       answer_clones = Prim.search (rules, content_clones);
-    } };
+    }) };
 }
 
-impl<'a, H: Hold<MemoOf<NumberIn>>> FunctionOf<Both<'a, Sheet, Settings>> for Shown<H> {
+impl<'a, H: Hold<NumberIn>> Run<Both<'a, Sheet, Settings>> for Shown<H> {
     type Needs = H;
 
     fn run(

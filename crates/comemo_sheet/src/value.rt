@@ -5,12 +5,13 @@ ghost use Rattle.std.proofs.Common.{rules, ◌∙◌};
 ghost use Rattle.comemo.specs.Recursive.{TellsOwn};
 ghost use Rattle.comemo_sheet.specs.Sheets.{cell_answer};
 ghost use Rattle.comemo_sheet.specs.Values.{both, value_of};
+ghost use Rattle.comemo_sheet.specs.SheetLaws.{content_clones};
 ghost use Rattle.comemo_sheet.specs.ValueLaws.{value_alike};
 
 use crate::row::add;
-use crate::sheet::{Sheet, SheetCall};
+use crate::sheet::{Content, Sheet, SheetCall};
 use comemo::internal::Told;
-use comemo::{Begun, Fault, Function, Hold, MemoOf, Recorder, Track};
+use comemo::{Begun, Fault, Function, Hold, Recorder, Track};
 use std::alloc::Global;
 
 /// The value of a cell: its number, or the sum of the values of the cells that it refers to.
@@ -22,7 +23,9 @@ pub struct Value;
 impl Function for Value {
     type Key = (String, u64);
 
-    type Of = Sheet;
+    type Call = SheetCall;
+
+    type Answer = Content;
 
     type Out = Option<i64>;
 
@@ -31,7 +34,8 @@ impl Function for Value {
     ghost laws = { reads_laws (record {
       outputs = λ key m a b r c right. Prim.search rules;
       keys = λ j k m output r e right. Prim.search (rules, value_alike m r j.1 j.0 k.0);
-      clones = Prim.search rules;
+      key_clones = Prim.search rules;
+      answer_clones = content_clones;
     }) };
 }
 
@@ -46,7 +50,7 @@ pub fn sum(total: Option<i64>, value: Option<i64>) -> Option<i64>
 }
 
 /// The value of the cell of a name, through a cache, up to a depth of `limit`.
-pub fn valued<H: Hold<MemoOf<Value>>>(
+pub fn valued<H: Hold<Value>>(
     cache: &mut H,
     name: String,
     limit: u64,
@@ -75,7 +79,7 @@ pub fn valued<H: Hold<MemoOf<Value>>>(
 }
 
 /// The value of the cell of a name in a sheet as it is, through a cache, up to a depth of `limit`.
-pub fn value_now<H: Hold<MemoOf<Value>>>(
+pub fn value_now<H: Hold<Value>>(
     alloc: Global,
     cache: &mut H,
     sheet: &Sheet,

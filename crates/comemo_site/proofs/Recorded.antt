@@ -48,10 +48,10 @@ pub recorded_page : {V : Type 0} {eq : MultiCall SiteCall Warning → MultiCall 
 recorded_page {same = same} alike {s} {t} html warnings site is x whole none nothing a early =
     let all = recorded_now (Ok x) whole none nothing a early in
     let now : Agrees same (answers_of site) t.recording.now.pairs = subst (λ m. Agrees same m t.recording.now.pairs) is all.0 in (
-      all.1 (answers_of site) (alike site) now site (λ call. refl),
+      let printed = all.1 (answers_of site) (alike site) now in (printed.1 site (λ call. refl), printed.0 site (λ call. refl)),
       λ calls n differs past.
           let still : Agrees same (answers_of n) t.recording.now.pairs = agrees_past same calls site n differs t.recording.now.pairs past now in
-          all.1 (answers_of n) (alike n) still n (λ call. refl),
+          let printed = all.1 (answers_of n) (alike n) still in (printed.1 n (λ call. refl), printed.0 n (λ call. refl)),
     )
 
 pub seconds_of : (X : Type 0) {Y : Type 0} (xs : List Y) → seconds {X = X} {Y = Y} (map second_call xs) ≡ xs

@@ -60,6 +60,10 @@ page_warnings m (suc limit) name = missing name (blocks_in (m (BlocksOf name))) 
 abbrev pub page_document : (SiteCall → SiteAnswer) → ℕ → List ℕ → List ℕ
 page_document m limit name = document_html (title_or_name m name) name (page_html m limit name)
 
--- where a site answers, this HTML is right, and so are the writes of these warnings
+-- it holds of the site's answers
+abbrev pub OnSite : (MultiCall SiteCall Warning → MultiAnswer SiteAnswer ⊤) → ((SiteCall → SiteAnswer) → Type 0) → Type 0
+OnSite m holds = OnPart first_call first_answer m holds
+
+-- where a site answers, the writes are those of these warnings, and this HTML is right
 abbrev pub IsPrinted : ((SiteCall → SiteAnswer) → List ℕ) → ((SiteCall → SiteAnswer) → List Warning) → List ℕ → (MultiCall SiteCall Warning → MultiAnswer SiteAnswer ⊤) → List (MultiCall SiteCall Warning) → Type 0
-IsPrinted html warnings given m writes = OnPart first_call first_answer m (λ site. (given ≡ html site) × (writes ≡ map second_call (warnings site)))
+IsPrinted html warnings given m writes = OnSite m (λ site. writes ≡ map second_call (warnings site)) × OnSite m (λ site. given ≡ html site)

@@ -1,10 +1,11 @@
 //! A page as HTML, with its warnings: a function that reads one value, writes another, and calls itself and another
 //! function.
-ghost use Rattle.std.specs.Prelude.{◌+◌};
+ghost use Rattle.std.specs.Prelude.{◌≡◌, ◌+◌, map};
 ghost use Rattle.std.proofs.Common.{rules};
 ghost use Rattle.comemo.specs.FunctionMut.{lent};
-ghost use Rattle.comemo.specs.MeaningLaws.{exact_memo_laws};
-ghost use Rattle.comemo_site.specs.Pages.{IsPrinted, block_html, block_warnings, page_html, page_warnings};
+ghost use Rattle.comemo.specs.MeaningLaws.{exact_laws};
+ghost use Rattle.comemo.specs.Multi.{second_call};
+ghost use Rattle.comemo_site.specs.Pages.{OnSite, block_html, block_warnings, page_html, page_warnings};
 ghost use Rattle.comemo_site.specs.SiteLaws.{answer_clones};
 
 use crate::block::Block;
@@ -17,15 +18,15 @@ use crate::text::Text;
 use crate::title::Title;
 use crate::warns::Warns;
 use comemo::{
-    Begun, CacheData, Fault, FunctionMutOf, Hold, Memo, MemoOf, MultiAnswer, MultiCall,
-    ReadAndWrite, RecorderMut,
+    Begun, CacheData, Fault, Function, Hold, MultiAnswer, MultiCall, ReadAndWrite, RecorderMut,
+    RunMut,
 };
 use std::alloc::Global;
 
 /// The HTML of a page, with the pages that it includes down to a limit, and the warnings about them.
 pub struct Build;
 
-impl Memo for Build {
+impl Function for Build {
     type Call = MultiCall<SiteCall, Warning>;
 
     type Key = (Text, u64);
@@ -34,20 +35,20 @@ impl Memo for Build {
 
     type Out = Rendered;
 
-    ghost def = { λ key m html writes. IsPrinted (λ site. page_html site key.1 key.0)
-        (λ site. page_warnings site key.1 key.0) html m writes };
+    ghost means = { λ key m html. OnSite m (λ site. html ≡ page_html site key.1 key.0) };
 
-    ghost laws = { exact_memo_laws (λ x y h. Prim.search rules) (λ x y h. Prim.search rules)
-        (λ x y h. Prim.search rules) (λ a b h. Prim.search rules)
-        (λ x y h. Prim.search (rules, answer_clones)) };
+    ghost writes = { λ key m _ W. OnSite m
+        (λ site. W ≡ map second_call (page_warnings site key.1 key.0)) };
+
+    ghost laws = { exact_laws (Prim.search (rules, answer_clones)) };
 }
 
 /// What building keeps: the pages and the titles.
-pub type Built = (CacheData<Build>, CacheData<MemoOf<Title>>);
+pub type Built = (CacheData<Build>, CacheData<Title>);
 
 /// The HTML of a page, kept, with what it includes down to a limit. It warns of what is wrong.
 #[cycle(building)]
-pub fn built<'a, B: Hold<Build>, T: Hold<MemoOf<Title>>>(
+pub fn built<'a, B: Hold<Build>, T: Hold<Title>>(
     alloc: Global,
     kept: &mut (B, T),
     tally: &mut Tally,
@@ -82,7 +83,7 @@ pub fn built<'a, B: Hold<Build>, T: Hold<MemoOf<Title>>>(
 
 /// The run of it: the blocks of the page, with the pages that they include down to a limit.
 #[cycle(building)]
-fn draft<'a, B: Hold<Build>, T: Hold<MemoOf<Title>>>(
+fn draft<'a, B: Hold<Build>, T: Hold<Title>>(
     alloc: Global,
     kept: &mut (B, T),
     tally: &mut Tally,
@@ -113,7 +114,7 @@ fn draft<'a, B: Hold<Build>, T: Hold<MemoOf<Title>>>(
 
 /// The HTML of a block, with the page that it includes down to a limit.
 #[cycle(building)]
-fn block_built<'a, B: Hold<Build>, T: Hold<MemoOf<Title>>>(
+fn block_built<'a, B: Hold<Build>, T: Hold<Title>>(
     alloc: Global,
     kept: &mut (B, T),
     tally: &mut Tally,
@@ -143,7 +144,7 @@ fn block_built<'a, B: Hold<Build>, T: Hold<MemoOf<Title>>>(
 /// The run calls `built`. After a fault the log has a prefix of the warnings.
 pub struct Publish;
 
-impl Memo for Publish {
+impl Function for Publish {
     type Call = MultiCall<SiteCall, Warning>;
 
     type Key = (Text, u64);
@@ -152,14 +153,14 @@ impl Memo for Publish {
 
     type Out = Rendered;
 
-    ghost def = { ⟦<Build as Memo>⟧.def };
+    ghost means = { ⟦<Build as Function>⟧.means };
 
-    ghost laws = { exact_memo_laws (λ x y h. Prim.search rules) (λ x y h. Prim.search rules)
-        (λ x y h. Prim.search rules) (λ a b h. Prim.search rules)
-        (λ x y h. Prim.search (rules, answer_clones)) };
+    ghost writes = { ⟦<Build as Function>⟧.writes };
+
+    ghost laws = { exact_laws (Prim.search (rules, answer_clones)) };
 }
 
-impl<'a> FunctionMutOf<ReadAndWrite<'a, Site, Log>> for Publish {
+impl<'a> RunMut<ReadAndWrite<'a, Site, Log>> for Publish {
     type Needs = (Global, Built);
 
     fn run(

@@ -1,9 +1,10 @@
 //! A link with its warning: a function that reads one value and writes to another.
-ghost use Rattle.std.specs.Prelude.{codes, [], OnOk};
+ghost use Rattle.std.specs.Prelude.{◌≡◌, codes, [], map, OnOk};
 ghost use Rattle.std.proofs.Common.{rules};
 ghost use Rattle.comemo.specs.FunctionMut.{lent};
-ghost use Rattle.comemo.specs.MeaningLaws.{exact_memo_laws};
-ghost use Rattle.comemo_site.specs.Pages.{IsPrinted, link_html, missing};
+ghost use Rattle.comemo.specs.MeaningLaws.{exact_laws};
+ghost use Rattle.comemo.specs.Multi.{second_call};
+ghost use Rattle.comemo_site.specs.Pages.{OnSite, link_html, missing};
 ghost use Rattle.comemo_site.specs.SiteLaws.{answer_clones};
 ghost use Rattle.comemo_site.specs.Sites.{title_in};
 ghost use Rattle.comemo_site.specs.declared.site.SiteCall.TheVariants.{TitleOf};
@@ -15,15 +16,14 @@ use crate::text::Text;
 use crate::title::Title;
 use crate::warns::Warns;
 use comemo::{
-    CacheData, Fault, FunctionMutOf, Hold, Memo, MemoOf, MultiAnswer, MultiCall, ReadAndWrite,
-    RecorderMut,
+    CacheData, Fault, Function, Hold, MultiAnswer, MultiCall, ReadAndWrite, RecorderMut, RunMut,
 };
 use std::alloc::Global;
 
 /// A link to the page of a name: its title, or the name and a warning if there is no such page.
 pub struct Link;
 
-impl Memo for Link {
+impl Function for Link {
     type Call = MultiCall<SiteCall, Warning>;
 
     type Key = Text;
@@ -32,22 +32,21 @@ impl Memo for Link {
 
     type Out = Rendered;
 
-    ghost def = { λ name m html writes. IsPrinted
-        (λ site. link_html site (codes "p") name)
-        (λ site. missing name (title_in (site (TitleOf name)))) html m writes };
+    ghost means = { λ name m html. OnSite m (λ site. html ≡ link_html site (codes "p") name) };
 
-    ghost laws = { exact_memo_laws (λ x y h. Prim.search rules) (λ x y h. Prim.search rules)
-        (λ x y h. Prim.search rules) (λ a b h. Prim.search rules)
-        (λ x y h. Prim.search (rules, answer_clones)) };
+    ghost writes = { λ name m _ W. OnSite m
+        (λ site. W ≡ map second_call (missing name (title_in (site (TitleOf name))))) };
+
+    ghost laws = { exact_laws (Prim.search (rules, answer_clones)) };
 }
 
-impl<'a> FunctionMutOf<ReadAndWrite<'a, Site, Log>> for Link {
-    type Needs = (Global, CacheData<MemoOf<Title>>);
+impl<'a> RunMut<ReadAndWrite<'a, Site, Log>> for Link {
+    type Needs = (Global, CacheData<Title>);
 
     fn run(
         name: &Text,
         both: &mut RecorderMut<'_, '_, ReadAndWrite<'a, Site, Log>>,
-        needs: &mut (Global, CacheData<MemoOf<Title>>),
+        needs: &mut (Global, CacheData<Title>),
     ) -> Result<Rendered, Fault> {
         let (alloc, titles) = needs;
         link_built(*alloc, titles, name, both)
@@ -55,7 +54,7 @@ impl<'a> FunctionMutOf<ReadAndWrite<'a, Site, Log>> for Link {
 }
 
 /// A link, by the titles that are kept. It warns where there is no such page.
-pub fn link_built<'a, T: Hold<MemoOf<Title>>>(
+pub fn link_built<'a, T: Hold<Title>>(
     alloc: Global,
     titles: &mut T,
     name: &Text,
@@ -82,7 +81,7 @@ pub fn link_built<'a, T: Hold<MemoOf<Title>>>(
 }
 
 /// An item of a list that links to the page of a name, by the titles that are kept.
-pub fn entry_built<'a, T: Hold<MemoOf<Title>>>(
+pub fn entry_built<'a, T: Hold<Title>>(
     alloc: Global,
     titles: &mut T,
     name: &Text,

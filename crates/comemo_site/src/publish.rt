@@ -16,8 +16,8 @@ use crate::text::Text;
 use crate::title::Title;
 use comemo::internal::CallSequence;
 use comemo::{
-    Cache, Constraint, Fault, Hold, MemoOf, MultiAnswer, MultiCall, ReadAndWrite, RecorderMut,
-    Track, memoized,
+    Cache, Constraint, Fault, Hold, MultiAnswer, MultiCall, ReadAndWrite, RecorderMut, Track,
+    memoized,
 };
 use std::alloc::{AllocError, Global};
 use std::sync::Wait;
@@ -53,10 +53,10 @@ pub struct Published {
 pub type Reads = CallSequence<MultiCall<SiteCall, Warning>, MultiAnswer<SiteAnswer, ()>>;
 
 /// The caches that threads share: of pages with their warnings, and of titles.
-pub type SharedBuilt = (Cache<Build>, Cache<MemoOf<Title>>);
+pub type SharedBuilt = (Cache<Build>, Cache<Title>);
 
 /// The HTML of a page of a site as it is, with its warnings, and what both rest on.
-pub fn page_built<B: Hold<Build>, T: Hold<MemoOf<Title>>>(
+pub fn page_built<B: Hold<Build>, T: Hold<Title>>(
     alloc: Global,
     kept: &mut (B, T),
     tally: &mut Tally,
@@ -78,7 +78,7 @@ pub fn page_built<B: Hold<Build>, T: Hold<MemoOf<Title>>>(
 }
 
 /// The HTML of a page of a site as it is, with what was asked and what was written to the log.
-fn page_recorded<'a, B: Hold<Build>, T: Hold<MemoOf<Title>>>(
+fn page_recorded<'a, B: Hold<Build>, T: Hold<Title>>(
     alloc: Global,
     kept: &mut (B, T),
     tally: &mut Tally,
@@ -129,7 +129,7 @@ fn push_warning(
 }
 
 /// The document of a page around its HTML, with its title or else its name.
-fn document_around<T: Hold<MemoOf<Title>>>(
+fn document_around<T: Hold<Title>>(
     alloc: Global,
     titles: &mut T,
     site: &Site,
@@ -161,7 +161,7 @@ fn reason_asked<B: Hold<Build>>(
 }
 
 /// The document of a page of a site as it is, with its warnings, through caches.
-pub fn publish_page<B: Hold<Build>, T: Hold<MemoOf<Title>>>(
+pub fn publish_page<B: Hold<Build>, T: Hold<Title>>(
     alloc: Global,
     kept: &mut (B, T),
     site: &Site,

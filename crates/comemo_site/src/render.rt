@@ -3,16 +3,17 @@
 ghost use Rattle.std.specs.Prelude.{◌≡◌, IfOk};
 ghost use Rattle.std.proofs.Common.{rules};
 ghost use Rattle.comemo.specs.Recursive.{TellsOwn};
+ghost use Rattle.comemo_site.specs.SiteLaws.{answer_clones};
 ghost use Rattle.comemo_site.specs.Sites.{site_answer};
 ghost use Rattle.comemo_site.specs.Pages.{block_html, page_html};
 
 use crate::block::Block;
 use crate::html::{Html, Rendered};
-use crate::site::{Site, SiteCall};
+use crate::site::{Site, SiteAnswer, SiteCall};
 use crate::text::Text;
 use crate::title::Title;
 use comemo::internal::Told;
-use comemo::{Begun, CacheData, Fault, Function, Hold, MemoOf, Recorder, Track};
+use comemo::{Begun, CacheData, Fault, Function, Hold, Recorder, Track};
 use std::alloc::Global;
 
 /// The HTML of a page, with the pages that it includes. The key is a name and the depth up to which it goes.
@@ -21,21 +22,24 @@ pub struct Render;
 impl Function for Render {
     type Key = (Text, u64);
 
-    type Of = Site;
+    type Call = SiteCall;
+
+    type Answer = SiteAnswer;
 
     type Out = Rendered;
 
     ghost means = { λ key m out. out ≡ page_html m key.1 key.0 };
 
-    ghost laws = { Prim.search rules };
+    ghost laws = { Prim.search (rules, answer_clones) };
 }
 
 /// The caches of rendering: of pages and of titles.
-pub type Kept = (CacheData<MemoOf<Render>>, CacheData<MemoOf<Title>>);
+pub type Kept = (CacheData<Render>, CacheData<Title>);
 
 /// The HTML of a page, through caches, with what it includes up to a depth of `limit`.
 #[cycle(rendering)]
-pub fn rendered<P: Hold<MemoOf<Render>>, T: Hold<MemoOf<Title>>>(
+#[tactic(auto, using(comemo::proofs::Recursions::own_memory))]
+pub fn rendered<P: Hold<Render>, T: Hold<Title>>(
     alloc: Global,
     kept: &mut (P, T),
     name: Text,
@@ -66,7 +70,7 @@ pub fn rendered<P: Hold<MemoOf<Render>>, T: Hold<MemoOf<Title>>>(
 
 /// The HTML of a block, with the page that it includes up to a depth of `limit`.
 #[cycle(rendering)]
-fn block_rendered<P: Hold<MemoOf<Render>>, T: Hold<MemoOf<Title>>>(
+fn block_rendered<P: Hold<Render>, T: Hold<Title>>(
     alloc: Global,
     kept: &mut (P, T),
     block: &Block,
@@ -91,7 +95,7 @@ fn block_rendered<P: Hold<MemoOf<Render>>, T: Hold<MemoOf<Title>>>(
 }
 
 /// The HTML of a page of a site as it is, with what it includes up to this depth.
-pub fn page_now<P: Hold<MemoOf<Render>>, T: Hold<MemoOf<Title>>>(
+pub fn page_now<P: Hold<Render>, T: Hold<Title>>(
     alloc: Global,
     kept: &mut (P, T),
     site: &Site,

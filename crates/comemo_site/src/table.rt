@@ -8,13 +8,13 @@ use crate::render::{Render, page_now};
 use crate::site::Site;
 use crate::text::Text;
 use crate::title::Title;
-use comemo::{Cache, Fault, MemoOf};
+use comemo::{Cache, Fault};
 use std::alloc::{AllocError, Global};
 use std::sync::Wait;
 use std::thread::{Threads, map_indices};
 
 /// The caches that threads share: of pages and of titles.
-pub type SharedPages = (Cache<MemoOf<Render>>, Cache<MemoOf<Title>>);
+pub type SharedPages = (Cache<Render>, Cache<Title>);
 
 /// The HTML of a page of a site as it is, through caches that threads share.
 pub fn shared_page<R: Wait>(

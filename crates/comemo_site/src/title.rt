@@ -1,10 +1,11 @@
 //! The title of a page: a memoized function.
 ghost use Rattle.std.specs.Prelude.{◌≡◌};
 ghost use Rattle.std.proofs.Common.{rules};
+ghost use Rattle.comemo_site.specs.SiteLaws.{answer_clones};
 ghost use Rattle.comemo_site.specs.Sites.{title_in};
 ghost use Rattle.comemo_site.specs.declared.site.SiteCall.TheVariants.{TitleOf};
 
-use crate::site::{Site, SiteCall};
+use crate::site::{Site, SiteAnswer, SiteCall};
 use crate::text::Text;
 use comemo::{Fault, Function, Recorder, Run};
 
@@ -14,16 +15,18 @@ pub struct Title;
 impl Function for Title {
     type Key = (Text, ());
 
-    type Of = Site;
+    type Call = SiteCall;
+
+    type Answer = SiteAnswer;
 
     type Out = Option<Text>;
 
     ghost means = { λ key m out. out ≡ title_in (m (TitleOf key.0)) };
 
-    ghost laws = { Prim.search rules };
+    ghost laws = { Prim.search (rules, answer_clones) };
 }
 
-impl Run for Title {
+impl Run<Site> for Title {
     type Needs = ();
 
     #[tactic(auto, using(crate::specs::SiteLaws::title_alike))]

@@ -1,6 +1,6 @@
 //! What pages are rendered to, which calls ran, and what was written to the log.
 
-use comemo::{Cache, CacheData, Caches, How, MemoOf, ReadAndWrite, Top, Track, memoized_mut_with};
+use comemo::{Cache, CacheData, Caches, How, ReadAndWrite, Top, Track, memoized_mut_with};
 use comemo_site::build::Publish;
 use comemo_site::html::{Html, Rendered};
 use comemo_site::link::Link;
@@ -131,7 +131,7 @@ fn a_hit_warns_again(rt: HostRuntime) -> Result<(), Fail> {
     let site = small_site(alloc)?;
     let mut log = Log::new(alloc);
     let mut cache: CacheData<Link> = CacheData::new(alloc);
-    let titles: CacheData<MemoOf<Title>> = CacheData::new(alloc);
+    let titles: CacheData<Title> = CacheData::new(alloc);
     let mut needs = (alloc, titles);
     let about: &[u8] = b"<p><a href=\"about.html\">About us</a></p>\n";
     let lost: &[u8] = b"<p><a href=\"lost.html\">lost</a></p>\n";

@@ -2,11 +2,10 @@
 //! `validate` alone.
 ghost use Rattle.std.specs.Prelude.{◌≡◌, IfOk, IsTrue};
 ghost use Rattle.std.proofs.Common.{rules};
-ghost use Rattle.comemo.specs.Function.{ReadsAlone};
+ghost use Rattle.comemo.specs.Function.{WritesNone};
 
 use comemo::{
-    CacheData, Constraint, Fault, Function, FunctionOf, How, MemoOf, Recorder, Reply, Run, Top,
-    Track, memoized_with,
+    CacheData, Constraint, Fault, Function, How, Recorder, Reply, Run, Top, Track, memoized_with,
 };
 use comemo_samples::{Context, ContextCall};
 use std::alloc::Global;
@@ -17,7 +16,9 @@ pub struct Location;
 impl Function for Location {
     type Key = ();
 
-    type Of = Context;
+    type Call = ContextCall;
+
+    type Answer = u64;
 
     type Out = u64;
 
@@ -28,7 +29,7 @@ impl Function for Location {
     ghost laws = { Prim.search rules };
 }
 
-impl Run for Location {
+impl Run<Context> for Location {
     type Needs = ();
 
     fn run(_key: &(), of: &mut Recorder<'_, Context>, _needs: &mut ()) -> Result<u64, Fault> {
@@ -39,14 +40,14 @@ impl Run for Location {
 /// Calls a function twice with one key and one value.
 ///
 /// If the first call was stored, the second is a hit, and its output is a clone of the clone that was stored.
-pub fn call_twice<M: FunctionOf<T>, T: Track>(
+pub fn call_twice<M: Run<T>, T: Track>(
     alloc: Global,
     cache: &mut CacheData<M>,
     needs: &mut M::Needs,
     key: M::Key,
     of: &T,
 ) -> Result<(Reply<M::Out>, Reply<M::Out>), Fault>
-    requires { ReadsAlone M.def }
+    requires { WritesNone M.writes }
     ensures hit { IfOk result (λ replies. replies.0.how ≡ How.Stored → replies.1.how ≡ How.Hit) }
     ensures output { IfOk result (λ replies. replies.0.how ≡ How.Stored → (kept : M.Out)
         × M.Out.is_clone replies.0.output kept × M.Out.is_clone kept replies.1.output) }
@@ -68,7 +69,7 @@ pub struct Around<Out> {
 ///
 /// If the first call was stored, and the answers to its questions are the same, the second is a hit, whatever else
 /// changed.
-pub fn call_around<M: FunctionOf<T>, T: Track>(
+pub fn call_around<M: Run<T>, T: Track>(
     alloc: Global,
     cache: &mut CacheData<M>,
     needs: &mut M::Needs,
@@ -76,7 +77,7 @@ pub fn call_around<M: FunctionOf<T>, T: Track>(
     before: &T,
     after: &T,
 ) -> Result<Around<M::Out>, Fault>
-    requires { ReadsAlone M.def }
+    requires { WritesNone M.writes }
     ensures { IfOk result (λ around. IsTrue around.valid → around.first.how ≡ How.Stored
         → around.second.how ≡ How.Hit) }
 {
@@ -99,7 +100,7 @@ fn gives(reply: Reply<u64>, output: u64, how: How) -> bool {
 
 /// Whether of two calls at one context the first is stored and the second is a hit.
 fn is_hit_again(alloc: Global) -> bool {
-    let mut cache: CacheData<MemoOf<Location>> = CacheData::new(alloc);
+    let mut cache: CacheData<Location> = CacheData::new(alloc);
     let context = Context {
         location: 3,
         styles: 40,
@@ -113,7 +114,7 @@ fn is_hit_again(alloc: Global) -> bool {
 /// Whether of a call at the location 3 and one at this location the first is stored, and the second ends as `how`. It
 /// is a hit exactly if the answers to the questions of the first are the same.
 fn becomes(alloc: Global, location: u64, styles: u64, how: How) -> bool {
-    let mut cache: CacheData<MemoOf<Location>> = CacheData::new(alloc);
+    let mut cache: CacheData<Location> = CacheData::new(alloc);
     let before = Context {
         location: 3,
         styles: 40,

@@ -1,15 +1,15 @@
 //! A memoized function whose run is a closure.
-ghost use Rattle.std.specs.Prelude.{◌≡◌, IfOk, ◌+◌, ◌%◌, ◌^◌};
+ghost use Rattle.std.specs.Prelude.{◌≡◌, IfOk, ◌+◌, ◌%◌, ◌^◌, ⊤};
 ghost use Rattle.std.proofs.Common.{rules};
 
-use comemo::{CacheData, Constraint, Fault, How, Memo, Reply, Top, Track, Tracked, memoize};
+use comemo::{CacheData, Constraint, Fault, Function, How, Reply, Top, Track, Tracked, memoize};
 use comemo_samples::{Context, ContextCall};
 use std::alloc::Global;
 
 /// The sum of a context's location and its styles, which wraps at 64 bits.
 pub struct SumMemo;
 
-impl Memo for SumMemo {
+impl Function for SumMemo {
     type Call = ContextCall;
 
     type Key = ();
@@ -20,7 +20,9 @@ impl Memo for SumMemo {
 
     ghost use Rattle.comemo_samples.specs.declared.contexts.ContextCall.TheVariants.{Location, Styles};
 
-    ghost def = { λ _ m out _. out ≡ (m Location + m Styles) % 2 ^ 64 };
+    ghost means = { λ _ m out. out ≡ (m Location + m Styles) % 2 ^ 64 };
+
+    ghost writes = { λ _ _ _ _. ⊤ };
 
     ghost laws = { Prim.search rules };
 }

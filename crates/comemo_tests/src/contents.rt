@@ -2,7 +2,7 @@
 ghost use Rattle.std.specs.Prelude.{◌≡◌};
 ghost use Rattle.std.proofs.Common.{rules};
 
-use comemo::{Cache, CacheData, Contents, Fault, Function, Hold, MemoOf, Recorder, Run, memoized};
+use comemo::{Cache, CacheData, Contents, Fault, Function, Hold, Recorder, Run, memoized};
 use comemo_samples::{Town, TownCall};
 use std::alloc::Global;
 use std::test::Fail;
@@ -13,7 +13,9 @@ pub struct WarmthFor;
 impl Function for WarmthFor {
     type Key = u64;
 
-    type Of = Town;
+    type Call = TownCall;
+
+    type Answer = u64;
 
     type Out = u64;
 
@@ -24,7 +26,7 @@ impl Function for WarmthFor {
     ghost laws = { Prim.search rules };
 }
 
-impl Run for WarmthFor {
+impl Run<Town> for WarmthFor {
     type Needs = ();
 
     fn run(_key: &u64, town: &mut Recorder<'_, Town>, _needs: &mut ()) -> Result<u64, Fault> {
@@ -34,7 +36,7 @@ impl Run for WarmthFor {
 }
 
 /// A hit or a run of the function for each of these readers, while the town has these degrees.
-fn ask_all<H: Hold<MemoOf<WarmthFor>>>(
+fn ask_all<H: Hold<WarmthFor>>(
     alloc: Global,
     cache: &mut H,
     readers: &[u64],
@@ -52,7 +54,7 @@ fn ask_all<H: Hold<MemoOf<WarmthFor>>>(
 
 #[test]
 fn an_empty_cache_holds_nothing(rt: HostRuntime) {
-    let cache: CacheData<MemoOf<WarmthFor>> = CacheData::new(rt.alloc());
+    let cache: CacheData<WarmthFor> = CacheData::new(rt.alloc());
     let wanted = Contents {
         entries: 0,
         keys: 0,
@@ -64,7 +66,7 @@ fn an_empty_cache_holds_nothing(rt: HostRuntime) {
 #[test]
 fn entries_are_counted_by_key_and_age(rt: HostRuntime) -> Result<(), Fail> {
     let alloc = rt.alloc();
-    let mut cache: CacheData<MemoOf<WarmthFor>> = CacheData::new(alloc);
+    let mut cache: CacheData<WarmthFor> = CacheData::new(alloc);
     ask_all(alloc, &mut cache, &[1, 2, 3], 21)?;
     ask_all(alloc, &mut cache, &[1, 2], 4)?;
     let young = Contents {
@@ -117,7 +119,7 @@ fn entries_are_counted_by_key_and_age(rt: HostRuntime) -> Result<(), Fail> {
 #[test]
 fn the_parts_of_a_shared_cache_are_summed(rt: HostRuntime) -> Result<(), Fail> {
     let alloc = rt.alloc();
-    let cache: Cache<MemoOf<WarmthFor>> = Cache::new(alloc);
+    let cache: Cache<WarmthFor> = Cache::new(alloc);
     let mut hold = cache.hold(&rt);
     let none = Contents {
         entries: 0,

@@ -2,7 +2,7 @@
 ghost use Rattle.std.specs.Prelude.{◌≡◌};
 ghost use Rattle.std.proofs.Common.{rules};
 
-use comemo::{CacheData, Constraint, Fault, Function, How, MemoOf, Recorder, Run, Track, memoized};
+use comemo::{CacheData, Constraint, Fault, Function, How, Recorder, Run, Track, memoized};
 use comemo_samples::{Town, TownCall};
 use std::test::Fail;
 
@@ -30,7 +30,9 @@ pub struct Warmth;
 impl Function for Warmth {
     type Key = ();
 
-    type Of = Town;
+    type Call = TownCall;
+
+    type Answer = u64;
 
     type Out = u64;
 
@@ -41,7 +43,7 @@ impl Function for Warmth {
     ghost laws = { Prim.search rules };
 }
 
-impl Run for Warmth {
+impl Run<Town> for Warmth {
     type Needs = ();
 
     fn run(_key: &(), town: &mut Recorder<'_, Town>, _needs: &mut ()) -> Result<u64, Fault> {
@@ -53,7 +55,7 @@ impl Run for Warmth {
 #[test]
 fn a_town_that_grows_is_as_warm(rt: HostRuntime) -> Result<(), Fail> {
     let alloc = rt.alloc();
-    let mut cache: CacheData<MemoOf<Warmth>> = CacheData::new(alloc);
+    let mut cache: CacheData<Warmth> = CacheData::new(alloc);
     let calls = [
         (900, 21, How::Stored),
         (1000, 21, How::Hit),

@@ -1,13 +1,12 @@
 //! Memoized functions whose runs end in a fault, and what their callers learn.
 ghost use Rattle.std.specs.Prelude.{⊤};
 ghost use Rattle.std.proofs.Common.{rules};
-ghost use Rattle.comemo.specs.Function.{ReadsAlone};
-ghost use Rattle.comemo.specs.Meaning.{reading};
+ghost use Rattle.comemo.specs.Function.{WritesNone};
 
 use crate::inputs::LocationMemo;
 use comemo::{
-    Both, CacheData, Constraint, Fault, Function, FunctionOf, Memo, MemoOf, MultiAnswer, MultiCall,
-    Recorder, Run, Sink, Top, Track, Tracked, memoize, memoized_with,
+    Both, CacheData, Constraint, Fault, Function, MultiAnswer, MultiCall, Recorder, Run, Sink, Top,
+    Track, Tracked, memoize, memoized_with,
 };
 use comemo_samples::{Context, ContextCall};
 use std::alloc::Global;
@@ -18,7 +17,9 @@ pub struct Refused;
 impl Function for Refused {
     type Key = ();
 
-    type Of = Context;
+    type Call = ContextCall;
+
+    type Answer = u64;
 
     type Out = u64;
 
@@ -27,7 +28,7 @@ impl Function for Refused {
     ghost laws = { Prim.search rules };
 }
 
-impl Run for Refused {
+impl Run<Context> for Refused {
     type Needs = ();
 
     fn run(_key: &(), _of: &mut Recorder<'_, Context>, _needs: &mut ()) -> Result<u64, Fault> {
@@ -42,7 +43,9 @@ pub struct Failing;
 impl Function for Failing {
     type Key = bool;
 
-    type Of = Context;
+    type Call = ContextCall;
+
+    type Answer = u64;
 
     type Out = u64;
 
@@ -51,13 +54,13 @@ impl Function for Failing {
     ghost laws = { Prim.search rules };
 }
 
-impl Run for Failing {
-    type Needs = CacheData<MemoOf<Refused>>;
+impl Run<Context> for Failing {
+    type Needs = CacheData<Refused>;
 
     fn run(
         hands_on: &bool,
         of: &mut Recorder<'_, Context>,
-        cache: &mut CacheData<MemoOf<Refused>>,
+        cache: &mut CacheData<Refused>,
     ) -> Result<u64, Fault> {
         let called = of.call(cache, &mut (), ());
         if called.is_err() && !*hands_on {
@@ -73,7 +76,9 @@ pub struct Calling;
 impl Function for Calling {
     type Key = bool;
 
-    type Of = Context;
+    type Call = ContextCall;
+
+    type Answer = u64;
 
     type Out = u64;
 
@@ -82,13 +87,13 @@ impl Function for Calling {
     ghost laws = { Prim.search rules };
 }
 
-impl Run for Calling {
-    type Needs = (CacheData<MemoOf<Failing>>, CacheData<MemoOf<Refused>>);
+impl Run<Context> for Calling {
+    type Needs = (CacheData<Failing>, CacheData<Refused>);
 
     fn run(
         hands_on: &bool,
         of: &mut Recorder<'_, Context>,
-        kept: &mut (CacheData<MemoOf<Failing>>, CacheData<MemoOf<Refused>>),
+        kept: &mut (CacheData<Failing>, CacheData<Refused>),
     ) -> Result<u64, Fault> {
         of.call(&mut kept.0, &mut kept.1, *hands_on)
     }
@@ -98,7 +103,7 @@ impl Run for Calling {
 /// the second. Any output is right.
 pub struct CallingOfPart;
 
-impl Memo for CallingOfPart {
+impl Function for CallingOfPart {
     type Call = MultiCall<ContextCall, ContextCall>;
 
     type Key = (bool, bool);
@@ -107,18 +112,18 @@ impl Memo for CallingOfPart {
 
     type Out = u64;
 
-    ghost def = { reading (λ _ _ _. ⊤) };
+    ghost means = { λ _ _ _. ⊤ };
 
     ghost laws = { Prim.search rules };
 }
 
-impl<'a> FunctionOf<Both<'a, Context, Context>> for CallingOfPart {
-    type Needs = (CacheData<MemoOf<Failing>>, CacheData<MemoOf<Refused>>);
+impl<'a> Run<Both<'a, Context, Context>> for CallingOfPart {
+    type Needs = (CacheData<Failing>, CacheData<Refused>);
 
     fn run(
         key: &(bool, bool),
         of: &mut Recorder<'_, Both<'a, Context, Context>>,
-        kept: &mut (CacheData<MemoOf<Failing>>, CacheData<MemoOf<Refused>>),
+        kept: &mut (CacheData<Failing>, CacheData<Refused>),
     ) -> Result<u64, Fault> {
         if key.0 {
             of.call_first(&mut kept.0, &mut kept.1, key.1)
@@ -173,15 +178,15 @@ fn is_told_of_spoiled(alloc: Global) -> bool {
 }
 
 /// Whether the caller of a function with this key gets this fault, and its own recording is incomplete then.
-fn is_told<F: Run<Key = bool, Of = Context, Out = u64>>(
+fn is_told<F: Run<Context, Key = bool, Out = u64>>(
     alloc: Global,
     needs: &mut F::Needs,
     hands_on: bool,
     fault: Fault,
 ) -> bool
-    requires { ReadsAlone ⟦<MemoOf<F> as Memo>⟧.def }
+    requires { WritesNone F.writes }
 {
-    let mut cache: CacheData<MemoOf<F>> = CacheData::new(alloc);
+    let mut cache: CacheData<F> = CacheData::new(alloc);
     let mut outer: Constraint<ContextCall, u64> = Constraint::new(alloc);
     let reply = memoized_with(
         alloc,

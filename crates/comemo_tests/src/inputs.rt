@@ -1,17 +1,17 @@
 //! Memoized functions of one input: a view that the caller lends.
-ghost use Rattle.std.specs.Prelude.{◌≡◌, IfOk, OnErr};
+ghost use Rattle.std.specs.Prelude.{◌≡◌, IfOk, OnErr, ⊤};
 ghost use Rattle.std.proofs.Common.{rules};
 ghost use Rattle.comemo_tests.specs.Broken.{IsBroken};
 
 use comemo::internal::Breaking;
-use comemo::{Begun, CacheData, Fault, How, Memo, Reply, Sink, Top, Track, Tracked, begin};
+use comemo::{Begun, CacheData, Fault, Function, How, Reply, Sink, Top, Track, Tracked, begin};
 use comemo_samples::{Context, ContextCall};
 use std::alloc::Global;
 
 /// The location of a context.
 pub struct LocationMemo;
 
-impl Memo for LocationMemo {
+impl Function for LocationMemo {
     type Call = ContextCall;
 
     type Key = ();
@@ -22,7 +22,9 @@ impl Memo for LocationMemo {
 
     ghost use Rattle.comemo_samples.specs.declared.contexts.ContextCall.TheVariants.{Location};
 
-    ghost def = { λ _ m out _. out ≡ m Location };
+    ghost means = { λ _ m out. out ≡ m Location };
+
+    ghost writes = { λ _ _ _ _. ⊤ };
 
     ghost laws = { Prim.search rules };
 }

@@ -2,12 +2,12 @@
 ghost use Rattle.std.specs.Prelude.{◌≡◌, ◌||◌, IfOk, nat_eq};
 ghost use Rattle.std.proofs.Common.{rules};
 ghost use Rattle.comemo.specs.Multi.{OnParts};
-ghost use Rattle.comemo.specs.Meaning.{reading};
 ghost use Rattle.comemo.specs.MeaningLaws.{none_alike};
 
 use comemo::internal::{First, Hashed, Input, Multi, Second};
 use comemo::{
-    Begun, CacheData, Fault, How, Memo, MultiAnswer, MultiCall, Reply, Top, Track, Tracked, begin,
+    Begun, CacheData, Fault, Function, How, MultiAnswer, MultiCall, Reply, Top, Track, Tracked,
+    begin,
 };
 use comemo_samples::{Context, ContextCall};
 use std::alloc::Global;
@@ -15,7 +15,7 @@ use std::alloc::Global;
 /// Whether a context holds a number.
 pub struct ContainsMemo;
 
-impl Memo for ContainsMemo {
+impl Function for ContainsMemo {
     type Call = MultiCall<(), ContextCall>;
 
     type Key = (u64, ());
@@ -26,8 +26,8 @@ impl Memo for ContainsMemo {
 
     ghost use Rattle.comemo_samples.specs.declared.contexts.ContextCall.TheVariants.{Location, Styles};
 
-    ghost def = { reading (λ key answers out. OnParts answers
-        (λ _ m. out ≡ (nat_eq (m Location) key.0 || nat_eq (m Styles) key.0))) };
+    ghost means = { λ key answers out. OnParts answers
+        (λ _ m. out ≡ (nat_eq (m Location) key.0 || nat_eq (m Styles) key.0)) };
 
     ghost laws = { record {
       outputs = λ key m a b writes r d h. (
@@ -123,7 +123,7 @@ fn a_number_is_looked_for_in_a_context(rt: HostRuntime) {
 /// A function of two contexts, of which any output is right.
 pub struct AnyOfTwoMemo;
 
-impl Memo for AnyOfTwoMemo {
+impl Function for AnyOfTwoMemo {
     type Call = MultiCall<ContextCall, ContextCall>;
 
     type Key = ((), ());
@@ -132,7 +132,9 @@ impl Memo for AnyOfTwoMemo {
 
     type Out = u64;
 
-    ghost def = { λ _ _ _ _. Unit {0} };
+    ghost means = { λ _ _ _. Unit {0} };
+
+    ghost writes = { λ _ _ _ _. Unit {0} };
 
     ghost laws = { Prim.search rules };
 }

@@ -1,9 +1,9 @@
 //! Functions that write to a notebook and to a counter.
-ghost use Rattle.std.specs.Prelude.{◌≡◌, ◌+◌, ◌%◌, ◌^◌, [], ◌∷◌};
+ghost use Rattle.std.specs.Prelude.{◌≡◌, ◌+◌, ◌%◌, ◌^◌, [], ◌∷◌, ⊤};
 ghost use Rattle.std.proofs.Common.{rules};
-ghost use Rattle.comemo.specs.MeaningLaws.{exact_laws, exact_memo_laws};
+ghost use Rattle.comemo.specs.MeaningLaws.{exact_laws};
 
-use comemo::{Fault, Function, Memo, RecorderMut, RunMut};
+use comemo::{Fault, Function, RecorderMut, RunMut};
 use comemo_samples::{CounterCall, Notebook, NotebookCall};
 
 /// Notes a number, the owner's number, and the first number again. Returns the owner's number.
@@ -12,7 +12,9 @@ pub struct NotesThree;
 impl Function for NotesThree {
     type Key = u64;
 
-    type Of = Notebook;
+    type Call = NotebookCall;
+
+    type Answer = u64;
 
     type Out = u64;
 
@@ -22,11 +24,10 @@ impl Function for NotesThree {
 
     ghost writes = { λ n m _ W. W ≡ Note n ∷ Note (m Owner) ∷ Note n ∷ [] };
 
-    ghost laws = { exact_laws (λ x y h. Prim.search rules) (λ x y h. Prim.search rules)
-        (λ x y h. Prim.search rules) (λ a b h. Prim.search rules) };
+    ghost laws = { exact_laws (Prim.search rules) };
 }
 
-impl RunMut for NotesThree {
+impl RunMut<Notebook> for NotesThree {
     type Needs = ();
 
     fn run(
@@ -45,7 +46,7 @@ impl RunMut for NotesThree {
 /// Adds 3 to a counter. Its run is a closure.
 pub struct AddsThree;
 
-impl Memo for AddsThree {
+impl Function for AddsThree {
     type Call = CounterCall;
 
     type Key = ();
@@ -56,8 +57,9 @@ impl Memo for AddsThree {
 
     ghost use Rattle.comemo_samples.specs.declared.counter.CounterCall.TheVariants.{Add};
 
-    ghost def = { λ _ _ _ writes. writes ≡ Add 3 ∷ [] };
+    ghost means = { λ _ _ _. ⊤ };
 
-    ghost laws = { exact_memo_laws (λ x y h. Prim.search rules) (λ x y h. Prim.search rules)
-        (λ x y h. Prim.search rules) (λ a b h. Prim.search rules) (λ x y h. Prim.search rules) };
+    ghost writes = { λ _ _ _ W. W ≡ Add 3 ∷ [] };
+
+    ghost laws = { exact_laws (Prim.search rules) };
 }

@@ -2,14 +2,14 @@
 ghost use Rattle.std.proofs.Common.{rules};
 
 use comemo::internal::{Keyed, Pending};
-use comemo::{Begun, CacheData, Constraint, Fault, How, Memo, Sink, Track, begin};
+use comemo::{Begun, CacheData, Constraint, Fault, Function, How, Sink, Track, begin};
 use comemo_samples::{Context, ContextCall};
 use std::alloc::{AllocError, Global};
 
 /// A function of which any output is right, so that its runs may ask anything.
 pub struct AnyMemo;
 
-impl Memo for AnyMemo {
+impl Function for AnyMemo {
     type Call = ContextCall;
 
     type Key = u64;
@@ -18,7 +18,9 @@ impl Memo for AnyMemo {
 
     type Out = u64;
 
-    ghost def = { λ _ _ _ _. Unit {0} };
+    ghost means = { λ _ _ _. Unit {0} };
+
+    ghost writes = { λ _ _ _ _. Unit {0} };
 
     ghost laws = { Prim.search rules };
 }

@@ -6,7 +6,7 @@ ghost use Rattle.std.proofs.Common.{rules};
 ghost use Rattle.comemo.specs.Steps.{IsStep};
 
 use comemo::internal::{Keyed, Meant, Pending, Step, StepReply};
-use comemo::{Begun, CacheData, Call, Constraint, Fault, How, Memo, Reply, Sink, Track, begin};
+use comemo::{Begun, CacheData, Call, Constraint, Fault, Function, How, Reply, Sink, Track, begin};
 use std::alloc::{AllocError, Global};
 use std::hash::{Hash, Hasher};
 use std::sync::Arc;
@@ -106,7 +106,7 @@ impl Track for Echo {
 /// A function of which any output is right.
 pub struct AnyEcho;
 
-impl Memo for AnyEcho {
+impl Function for AnyEcho {
     type Call = Scarce;
 
     type Key = u64;
@@ -115,7 +115,9 @@ impl Memo for AnyEcho {
 
     type Out = u64;
 
-    ghost def = { λ _ _ _ _. Unit {0} };
+    ghost means = { λ _ _ _. Unit {0} };
+
+    ghost writes = { λ _ _ _ _. Unit {0} };
 
     ghost laws = { Prim.search rules };
 }

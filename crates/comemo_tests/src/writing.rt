@@ -3,8 +3,8 @@
 use crate::notes::{AddsThree, NotesThree};
 use comemo::internal::TrackedMut;
 use comemo::{
-    Begun, BothMut, CacheData, Constraint, Fault, How, MemoOf, MultiAnswer, MultiCall, RecorderMut,
-    Sink, Top, Track, memoize, memoized_mut_with,
+    Begun, BothMut, CacheData, Constraint, Fault, How, MultiAnswer, MultiCall, RecorderMut, Sink,
+    Top, Track, memoize, memoized_mut_with,
 };
 use comemo_samples::{Counter, CounterCall, Notebook, NotebookCall, Town, TownCall};
 use std::alloc::Global;
@@ -114,7 +114,7 @@ fn a_write_of_two_values_changes_its_own(rt: HostRuntime) {
 /// these lines stand in it then and are recorded, unless it was a run and ended in a fault.
 fn is_noted(
     alloc: Global,
-    cache: &mut CacheData<MemoOf<NotesThree>>,
+    cache: &mut CacheData<NotesThree>,
     number: u64,
     (owner, room): (u64, usize),
     how: Result<How, Fault>,

@@ -2,7 +2,7 @@
 ghost use Rattle.std.specs.Prelude.{⊤};
 ghost use Rattle.std.proofs.Common.{rules};
 
-use comemo::{Fault, Function, Hold, MemoOf, Recorder, Run, memoized};
+use comemo::{Fault, Function, Hold, Recorder, Run, memoized};
 use comemo_samples::{Cells, Get};
 use std::alloc::Global;
 
@@ -23,7 +23,9 @@ pub struct SumOfCells;
 impl Function for SumOfCells {
     type Key = SumKey;
 
-    type Of = Cells;
+    type Call = Get;
+
+    type Answer = u64;
 
     type Out = u64;
 
@@ -32,7 +34,7 @@ impl Function for SumOfCells {
     ghost laws = { Prim.search rules };
 }
 
-impl Run for SumOfCells {
+impl Run<Cells> for SumOfCells {
     type Needs = ();
 
     fn run(key: &SumKey, cells: &mut Recorder<'_, Cells>, _needs: &mut ()) -> Result<u64, Fault> {
@@ -45,7 +47,7 @@ impl Run for SumOfCells {
 }
 
 /// The function of a cache for `sum`.
-pub type SumMemo = MemoOf<SumOfCells>;
+pub type SumMemo = SumOfCells;
 
 /// The sum of a number and the first cells, wrapping at 64 bits, memoized under the number and the count. Both a run
 /// and a hit ask each of these cells.

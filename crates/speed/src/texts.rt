@@ -4,7 +4,7 @@ ghost use Rattle.std.proofs.Common.{rules};
 
 use crate::stopwatch::{Seen, Stopwatch};
 use comemo::internal::Hashed;
-use comemo::{Begun, CacheData, Fault, Memo, Prehashed, Top, begin, hash};
+use comemo::{Begun, CacheData, Fault, Function, Prehashed, Top, begin, hash};
 use std::alloc::{AllocError, Global};
 use std::hash::Hash;
 use std::rt::Clock;
@@ -18,7 +18,7 @@ const PIECE: &str = "abcdefghijklmnop";
 /// A length cached under its text. It is only there to be timed, so its definition allows every output.
 struct ByText;
 
-impl Memo for ByText {
+impl Function for ByText {
     type Call = ();
 
     type Key = String;
@@ -27,7 +27,9 @@ impl Memo for ByText {
 
     type Out = u64;
 
-    ghost def = { λ _ _ _ _. ⊤ };
+    ghost means = { λ _ _ _. ⊤ };
+
+    ghost writes = { λ _ _ _ _. ⊤ };
 
     ghost laws = { Prim.search rules };
 }
@@ -35,7 +37,7 @@ impl Memo for ByText {
 /// A length cached under its text's hash. Its definition is as that of `ByText`.
 struct ByNumber;
 
-impl Memo for ByNumber {
+impl Function for ByNumber {
     type Call = ();
 
     type Key = u128;
@@ -44,7 +46,9 @@ impl Memo for ByNumber {
 
     type Out = u64;
 
-    ghost def = { λ _ _ _ _. ⊤ };
+    ghost means = { λ _ _ _. ⊤ };
+
+    ghost writes = { λ _ _ _ _. ⊤ };
 
     ghost laws = { Prim.search rules };
 }

@@ -3,7 +3,7 @@ ghost use Rattle.std.specs.Prelude.{◌≡◌, nat_lt, IfOk};
 ghost use Rattle.std.proofs.Common.{rules};
 
 use crate::weather::{Weather, WeatherCall};
-use comemo::{CacheData, Fault, Function, MemoOf, Recorder, Run, memoized};
+use comemo::{CacheData, Fault, Function, Recorder, Run, memoized};
 use std::alloc::Global;
 
 /// Whether it is colder than so many degrees.
@@ -12,7 +12,9 @@ pub struct Coat;
 impl Function for Coat {
     type Key = u64;
 
-    type Of = Weather;
+    type Call = WeatherCall;
+
+    type Answer = u64;
 
     type Out = bool;
 
@@ -23,7 +25,7 @@ impl Function for Coat {
     ghost laws = { Prim.search rules };
 }
 
-impl Run for Coat {
+impl Run<Weather> for Coat {
     type Needs = ();
 
     fn run(least: &u64, of: &mut Recorder<'_, Weather>, _needs: &mut ()) -> Result<bool, Fault> {
@@ -35,7 +37,7 @@ impl Run for Coat {
 /// Whether one takes a coat where it is colder than so many degrees, kept.
 pub fn takes_coat(
     alloc: Global,
-    cache: &mut CacheData<MemoOf<Coat>>,
+    cache: &mut CacheData<Coat>,
     least: u64,
     weather: &Weather,
 ) -> Result<bool, Fault>

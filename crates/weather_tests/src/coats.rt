@@ -1,6 +1,6 @@
 //! Which calls ran, and which were answered from the cache.
 
-use comemo::{CacheData, How, MemoOf, memoized};
+use comemo::{CacheData, How, memoized};
 use std::test::Fail;
 use weather::coat::{Coat, takes_coat};
 use weather::weather::Weather;
@@ -8,7 +8,7 @@ use weather::weather::Weather;
 #[test]
 fn a_coat_is_kept_whatever_the_wind(rt: HostRuntime) -> Result<(), Fail> {
     let alloc = rt.alloc();
-    let mut cache: CacheData<MemoOf<Coat>> = CacheData::new(alloc);
+    let mut cache: CacheData<Coat> = CacheData::new(alloc);
     for (degrees, wind, takes, how) in [
         (8, 0, true, How::Stored),
         (8, 50, true, How::Hit),

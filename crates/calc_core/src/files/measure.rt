@@ -3,14 +3,14 @@ ghost use Rattle.std.specs.Prelude.{◌≡◌, length, IfOk, IfErr, OnErr};
 ghost use Rattle.std.proofs.Common.{rules};
 ghost use Rattle.comemo.specs.Finish.{BrokeOff};
 ghost use Rattle.comemo.specs.MeaningLaws.{none_alike};
-ghost use Rattle.calc_core.specs.Size.{IsSizeOf, SizeReply};
+ghost use Rattle.calc_core.specs.Size.{IsSize, SizeReply};
 ghost use Rattle.calc_core.specs.Joined.{same_answer};
-ghost use Rattle.calc_core.specs.Files.{text_at, answers_of, with_key};
+ghost use Rattle.calc_core.specs.Files.{OnFiles, text_at, answers_of, with_key};
 
 use crate::files::{FileCall, Files, JoinedAnswer, JoinedCall, Text};
 use comemo::internal::{Breaking, Hashed, Multi, Pending};
 use comemo::{
-    Begun, CacheData, Fault, How, Memo, MultiAnswer, MultiCall, Reply, Sink, Tracked, begin,
+    Begun, CacheData, Fault, Function, How, MultiAnswer, MultiCall, Reply, Sink, Tracked, begin,
 };
 use std::alloc::Global;
 
@@ -19,7 +19,7 @@ use std::alloc::Global;
 /// The key is a path, joined with the files; a run has one call, the read of that path.
 pub struct FileSize;
 
-impl Memo for FileSize {
+impl Function for FileSize {
     type Call = MultiCall<(), FileCall>;
 
     type Key = (String, ());
@@ -30,7 +30,7 @@ impl Memo for FileSize {
 
     ghost use Rattle.calc_core.specs.SizeLaws.{size_alike};
 
-    ghost def = { IsSizeOf };
+    ghost means = { λ key answers out. OnFiles (λ m. IsSize key.0 m out) answers };
 
     ghost laws = { record {
       outputs = λ key m a b writes r c h. (h.0, λ part q. Prim.search (rules, h.1 part q));

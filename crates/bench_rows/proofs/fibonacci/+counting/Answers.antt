@@ -10,4 +10,4 @@ from_before-returns t c =
 pub numbered-returns-in-Hit : goal.numbered-returns-in-Hit
 numbered-returns-in-Hit t c =
     let hit = (rw c.in-Hit.is at c.in_ok-output.ensures.hit).0 in
-    hit.stands (λ _. tt) (λ x y h. refl) hit.agrees
+    (hit.stands (λ _. tt) (λ x y h. refl) hit.agrees).1

@@ -1,5 +1,5 @@
 use Rattle.std.proofs.Math.Logic.{⊎_map}
-use Rattle.std.proofs.Common.{[], inl, subst}
+use Rattle.std.proofs.Common.{[], inl}
 use Rattle.comemo.proofs.Calls.{reply_by_hit, reply_by_own_run, broke_at_begin, on_fault, for_memory, never_stops}
 use Rattle.comemo_cache.proofs.Sendings.{mapped}
 use Rattle.comemo.proofs.Closures.{err_with}
@@ -14,7 +14,7 @@ returns-in-Ok-Hit-clause-reply g c =
 pub returns-in-Ok-Hit-clause-right : goal.returns-in-Ok-Hit-clause-right
 returns-in-Ok-Hit-clause-right g c =
     let hit = (some_led (g.H.Hold.entries c.args.cache.now) (g.H.Hold.entries c.look_up.new.cache) _ (rw (c.in-Ok-Hit.is, c.in-Ok-Hit.field-0-is) at c.look_up.ensures.hit)).2.0 in
-    rw (← c.fork.ensures) (subst (λ ws. g.M.Memo.def c.args.key (g.T.Track.answers c.fork.result) c.in-Ok-Hit.output ws) (c.requires c.args.key (g.T.Track.answers c.fork.result) c.in-Ok-Hit.output hit.writes hit.right) hit.right)
+    rw (← c.fork.ensures) hit.right.1
 
 pub returns-in-Ok-Run-clause-right : goal.returns-in-Ok-Run-clause-right
 returns-in-Ok-Run-clause-right g c =
@@ -22,7 +22,7 @@ returns-in-Ok-Run-clause-right g c =
     let has = (some_held (g.H.Hold.entries c.args.cache.now) _ run.0).1 in
     let m = g.T.Track.answers c.args.of.now in
     let respects = g.met.T.Track.alike c.args.of.now in
-    mapped (λ reply ran. of_led (g.H.Hold.entries c.look_up.new.cache) (g.H.Hold.entries c.run_kept.new.cache) _ (λ es es' is. has.right m reply.output [] respects (is.stands m respects is.agrees)) ran) c.run_kept.result c.run_kept.ensures.ran
+    mapped (λ reply ran. of_led (g.H.Hold.entries c.look_up.new.cache) (g.H.Hold.entries c.run_kept.new.cache) _ (λ es es' is. (has.right m reply.output [] respects (is.stands m respects is.agrees)).1) ran) c.run_kept.result c.run_kept.ensures.ran
 
 pub returns-in-Ok-Run-clause-reply : goal.returns-in-Ok-Run-clause-reply
 returns-in-Ok-Run-clause-reply g c =
@@ -37,7 +37,7 @@ returns-in-Ok-Run-clause-err g c =
 pub returns-clause-err : goal.returns-clause-err
 returns-clause-err g c =
     let err = (rw c.in-Err.is at c.look_up.ensures.err) in
-    (on_fault c.in-Err.fault err (λ memory. (memory.0, rw (← c.fork.ensures) (broke_at_begin (some_held (g.H.Hold.entries c.args.cache.now) _ memory.2).1))) (λ write. absurd (never_stops (g.met.T.Track.alike c.fork.result) (λ output writes d. c.requires c.args.key (g.T.Track.answers c.fork.result) output writes d) (some_led (g.H.Hold.entries c.args.cache.now) (g.H.Hold.entries c.look_up.new.cache) _ write).2.1)))
+    (on_fault c.in-Err.fault err (λ memory. (memory.0, rw (← c.fork.ensures) (broke_at_begin (some_held (g.H.Hold.entries c.args.cache.now) _ memory.2).1))) (λ write. absurd (never_stops (g.met.T.Track.alike c.fork.result) (λ output writes d. c.requires.alone c.args.key (g.T.Track.answers c.fork.result) output writes d.0) (some_led (g.H.Hold.entries c.args.cache.now) (g.H.Hold.entries c.look_up.new.cache) _ write).2.1)))
 
 pub returns-in-Ok-Run-clause-fault : goal.returns-in-Ok-Run-clause-fault
 returns-in-Ok-Run-clause-fault g c =
@@ -47,4 +47,4 @@ returns-in-Ok-Run-clause-fault g c =
 pub returns-clause-fault : goal.returns-clause-fault
 returns-clause-fault g c =
     let err = (rw c.in-Err.is at c.look_up.ensures.err) in
-    inl (for_memory c.in-Err.fault _ err (λ write. never_stops (g.met.T.Track.alike c.fork.result) (λ output writes d. c.requires c.args.key (g.T.Track.answers c.fork.result) output writes d) (some_led (g.H.Hold.entries c.args.cache.now) (g.H.Hold.entries c.look_up.new.cache) _ write).2.1))
+    inl (for_memory c.in-Err.fault _ err (λ write. never_stops (g.met.T.Track.alike c.fork.result) (λ output writes d. c.requires.alone c.args.key (g.T.Track.answers c.fork.result) output writes d.0) (some_led (g.H.Hold.entries c.args.cache.now) (g.H.Hold.entries c.look_up.new.cache) _ write).2.1))

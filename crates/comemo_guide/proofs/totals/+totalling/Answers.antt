@@ -3,11 +3,12 @@ use Rattle.comemo.specs.Multi.{second_call}
 use Rattle.comemo_samples.specs.declared.notebook.NotebookCall.TheVariants.{Note}
 use Rattle.comemo_guide.specs.Totals.{total, notes}
 use Rattle.std.proofs.lemmas.List.{map-append}
+use Rattle.comemo.proofs.RecordersMut.{right_on_parts}
 use Rattle.comemo.proofs.RecursionsMut.{within_goes, writes_nothing, called, wrote, writes_both, failed_after, right_alone}
 use Rattle.comemo_guide.proofs.totals.+totalling.Goals as goal
 
 pub add_up-returns-then-count-eq0-clause-tells : goal.add_up-returns-then-count-eq0-clause-tells
-add_up-returns-then-count-eq0-clause-tells g t c = writes_nothing _ 0 (λ m f cells book p q. rw c.if-count-eq0.true (refl, refl))
+add_up-returns-then-count-eq0-clause-tells g t c = writes_nothing _ 0 (λ m f. right_on_parts m (λ cells book p q. rw c.if-count-eq0.true (refl, refl)))
 
 pub add_up-returns-in_err-cell-clause-tells : goal.add_up-returns-in_err-cell-clause-tells
 add_up-returns-in_err-cell-clause-tells g t c = failed_after c.in_ok-before.ensures.tells c.in_err-cell.field-0.0 c.from_residual-in_err-cell.result c.in_err-cell.ensures.tells c.from_residual-in_err-cell.ensures.1
@@ -27,12 +28,13 @@ add_up-returns-clause-tells g t c =
           let h = told.2 in (
             told.0,
             told.1,
-            λ cells book p q.
-                let was = h.3 cells book p q in
+            right_on_parts m (λ cells book p q.
+                let right = h.3.1 cells book p q in
+                let wrote = h.3.0 cells book p q in
                 let cell = h.4.3.1 cells p in
                 let next : total cells c.args.count ≡ (total cells (c.args.count - 1) + cells (record { place = c.args.count - 1 })) % 2 ^ 64 = subst (λ n. total cells n ≡ (total cells (c.args.count - 1) + cells (record { place = c.args.count - 1 })) % 2 ^ 64) low refl in
                 let more : notes cells c.args.count ≡ notes cells (c.args.count - 1) ++ Note (total cells c.args.count) ∷ [] = subst (λ n. notes cells n ≡ notes cells (c.args.count - 1) ++ Note (total cells n) ∷ []) low refl in
-                (search (rules, next, was.0, cell), rw (h.2, was.1, h.4.2, h.4.3.0, h.4.4, more, map-append second_call (notes cells (c.args.count - 1)) (Note (total cells c.args.count) ∷ [])) (search (rules, next, was.0, cell))),
+                (search (rules, next, right, cell), rw (h.2, wrote, h.4.2, h.4.3.0, h.4.4, more, map-append second_call (notes cells (c.args.count - 1)) (Note (total cells c.args.count) ∷ [])) (search (rules, next, right, cell)))),
           );
       whole = all.whole;
       fault = tt;

@@ -1,7 +1,7 @@
-use Rattle.std.proofs.Common.{rules, refl, arith, ◌≡◌, ◌++◌, ◌-◌, [], suc}
+use Rattle.std.proofs.Common.{rules, arith, ◌≡◌, ◌++◌, ◌-◌, [], suc}
 use Rattle.std.proofs.lemmas.List.{take_all}
 use Rattle.std.proofs.lemmas.List.Sums.{fold_more}
-use Rattle.comemo.proofs.Recursions.{own_then, own_memory}
+use Rattle.comemo.proofs.Recursions.{own_then}
 use Rattle.comemo_site.specs.Pages.{block_html, page_html}
 use Rattle.comemo_site.specs.SiteLaws.{blocks_alike}
 use Rattle.comemo_site.specs.declared.site.SiteCall.TheVariants.{BlocksOf}
@@ -17,9 +17,3 @@ rendered-finish-requires-2-clause-right g t c = λ m f.
     let deep : suc (c.args.limit - 1) ≡ c.args.limit = omega (arith, c.if-limit-eq0.false) in
     let asked = blocks_alike (m (BlocksOf c.args.name)) c.in_ok-answer.answer (search (rules, c.in_ok-answer.ensures.tells.told m (c.loop-block.invariant.before m f))) in
     rw (← deep, asked) (search (rules, take_all c.loop-block.block-index c.blocks-block-items.result.now c.loop-block-test.false, c.blocks-block-items.ensures, c.loop-block.invariant.told m f))
-
-pub rendered-returns-in_err-push : goal.rendered-returns-in_err-push
-rendered-returns-in_err-push g t c = let from = rw c.in-Run.is at c.in_ok-html.ensures.tells in from c.begin.new.self c.from_residual-in_err-push.result (own_memory c.from_residual-in_err-push.result refl (search (rules, c.from_residual-in_err-push.ensures)))
-
-pub rendered-returns-in_err-finish : goal.rendered-returns-in_err-finish
-rendered-returns-in_err-finish g t c = let from = rw c.in-Run.is at c.in_ok-html.ensures.tells in from c.begin.new.self c.from_residual-in_err-finish.result (own_memory c.from_residual-in_err-finish.result refl (search (rules, c.from_residual-in_err-finish.ensures)))

@@ -6,7 +6,7 @@ use Rattle.comemo_tests.proofs.inputs.lent_location.Goals as goal
 pub returns-in-Ok-Hit-clause-output : goal.returns-in-Ok-Hit-clause-output
 returns-in-Ok-Hit-clause-output g c =
     let hit = (rw (c.in-Ok-Hit.is, c.in-Ok-Hit.field-0-is) at c.begin.ensures.hit).0 in
-    hit.stands _ (λ x y h. search rules) hit.agrees
+    (hit.stands _ (λ x y h. search rules) hit.agrees).1
 
 pub returns-in_default-clause-err : goal.returns-in_default-clause-err
 returns-in_default-clause-err g c =

@@ -10,6 +10,7 @@ use Rattle.comemo.proofs.RecordersMut.{spoiled_any}
 use Rattle.comemo.proofs.ThroughMaps.{broke_through}
 use Rattle.comemo.proofs.PartsMut.{Parts, both_mut, Answers, first_mut_as, read_first_begun, tells_read_first, part_writes, tells_failed_part}
 use Rattle.comemo.proofs.parts_of_both.RecorderMut+BothMut+A+B.call_first.Given as given
+use Rattle.comemo_cache.specs.Meaning.{IsRight}
 use Rattle.comemo.proofs.parts_of_both.RecorderMut+BothMut+A+B.call_first.Goals as goal
 
 -- both values
@@ -42,16 +43,16 @@ parts g = record {
 }
 
 pub returns-clause-agrees : goal.returns-clause-agrees
-returns-clause-agrees g c = read_first_begun (both_mut (parts g)) refl refl c.requires.agrees g.G.Key.PartialEq.eq g.G.Out.Clone.is_clone g.G.Memo.def g.G.Memo.naming c.reveal_reads_and_writes.ensures.reads c.args.key c.in_ok-reply.reply (ap (λ v. first_mut_as c.args.self.now.value.now v) c.memoized_part.ensures.same) (λ m writes d. c.requires.reads c.args.key m c.in_ok-reply.reply.output writes d) (resent (λ P W took. rw c.drop.ensures (rw c.new-sink.ensures.value at took.sent)) (some_by (g.H.Hold.entries c.args.cache.now) (g.H.Hold.entries c.args.cache.now) (g.H.Hold.entries c.memoized_part.new.cache) _ c.in_ok-reply.ensures.reply).3)
+returns-clause-agrees g c = read_first_begun (both_mut (parts g)) refl refl c.requires.agrees g.G.Key.PartialEq.eq g.G.Out.Clone.is_clone (IsRight g.G.Function.means g.G.Function.writes) g.G.Function.naming c.reveal_reads_and_writes.ensures.reads c.args.key c.in_ok-reply.reply (ap (λ v. first_mut_as c.args.self.now.value.now v) c.memoized_part.ensures.same) (λ m writes d. c.requires.reads.alone c.args.key m c.in_ok-reply.reply.output writes d.0) (resent (λ P W took. rw c.drop.ensures (rw c.new-sink.ensures.value at took.sent)) (some_by (g.H.Hold.entries c.args.cache.now) (g.H.Hold.entries c.args.cache.now) (g.H.Hold.entries c.memoized_part.new.cache) _ c.in_ok-reply.ensures.reply).3)
 
 pub returns-clause-tells : goal.returns-clause-tells
-returns-clause-tells g c = tells_read_first (both_mut (parts g)) refl refl c.requires.agrees g.G.Key.PartialEq.eq g.G.Out.Clone.is_clone g.G.Memo.def g.G.Memo.naming c.reveal_reads_and_writes.ensures.reads c.args.key c.in_ok-reply.reply (ap (λ v. first_mut_as c.args.self.now.value.now v) c.memoized_part.ensures.same) (λ m writes d. c.requires.reads c.args.key m c.in_ok-reply.reply.output writes d) (resent (λ P W took. rw c.drop.ensures (rw c.new-sink.ensures.value at took.sent)) (some_by (g.H.Hold.entries c.args.cache.now) (g.H.Hold.entries c.args.cache.now) (g.H.Hold.entries c.memoized_part.new.cache) _ c.in_ok-reply.ensures.reply).3)
+returns-clause-tells g c = tells_read_first (both_mut (parts g)) refl refl c.requires.agrees g.G.Key.PartialEq.eq g.G.Out.Clone.is_clone (IsRight g.G.Function.means g.G.Function.writes) g.G.Function.naming c.reveal_reads_and_writes.ensures.reads c.args.key c.in_ok-reply.reply (ap (λ v. first_mut_as c.args.self.now.value.now v) c.memoized_part.ensures.same) (λ m writes d. c.requires.reads.alone c.args.key m c.in_ok-reply.reply.output writes d.0) (resent (λ P W took. rw c.drop.ensures (rw c.new-sink.ensures.value at took.sent)) (some_by (g.H.Hold.entries c.args.cache.now) (g.H.Hold.entries c.args.cache.now) (g.H.Hold.entries c.memoized_part.new.cache) _ c.in_ok-reply.ensures.reply).3) (λ part d. d.1)
 
 pub returns-clause-writes : goal.returns-clause-writes
 returns-clause-writes g c =
     let j = parts g in
     let s = c.args.self.now in
-    part_writes first_call first_answer {eqd = j.calls} {touches = part_touches j.first_touches j.second_touches} (j.first_answers s.value.now.first.now) (j.first_respects s.value.now.first.now) s.recording.now c.drop.new.self.0 c.in_ok-reply.reply (resent (λ P W took. rw c.drop.ensures (rw c.new-sink.ensures.value at took.sent)) (some_by (g.H.Hold.entries c.args.cache.now) (g.H.Hold.entries c.args.cache.now) (g.H.Hold.entries c.memoized_part.new.cache) _ c.in_ok-reply.ensures.reply).3) (λ m writes d. c.requires.reads c.args.key m c.in_ok-reply.reply.output writes d)
+    part_writes first_call first_answer {eqd = j.calls} {touches = part_touches j.first_touches j.second_touches} (j.first_answers s.value.now.first.now) (j.first_respects s.value.now.first.now) s.recording.now c.drop.new.self.0 c.in_ok-reply.reply (resent (λ P W took. rw c.drop.ensures (rw c.new-sink.ensures.value at took.sent)) (some_by (g.H.Hold.entries c.args.cache.now) (g.H.Hold.entries c.args.cache.now) (g.H.Hold.entries c.memoized_part.new.cache) _ c.in_ok-reply.ensures.reply).3) (λ m writes d. c.requires.reads.alone c.args.key m c.in_ok-reply.reply.output writes d.0)
 
 pub returns-clause-reply : goal.returns-clause-reply
 returns-clause-reply g c = (c.in_ok-reply.reply, refl, (by_map (g.H.Hold.entries c.args.cache.now) (g.H.Hold.entries c.args.cache.now) (g.H.Hold.entries c.memoized_part.new.cache) _ _ (λ es mid es' k. resent (λ P W took. rw c.drop.ensures (rw c.new-sink.ensures.value at took.sent)) k) c.in_ok-reply.ensures.reply))
