@@ -28,7 +28,8 @@ impl Function for RunningTotal {
 
     ghost means = { λ count m out. OnParts m (λ cells _. out ≡ total cells count) };
 
-    ghost writes = { λ count m _ W. OnParts m (λ cells _. W ≡ map second_call (notes cells count)) };
+    ghost writes = { λ count m _ W.
+        OnParts m (λ cells _. W ≡ map second_call (notes cells count)) };
 
     ghost laws = { exact_laws (Prim.search rules) };
 }
