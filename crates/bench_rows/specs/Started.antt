@@ -2,7 +2,7 @@
 use Rattle.std.specs.Prelude.{◌≡◌, ℕ, ◌<◌, ◌≤◌, ◌^◌, List, [], ◌∷◌, ◌++◌, Bool, true, false, Option, None, Some, IfSome, Contains, String, codes, decimal, string_bytes, bytes_eq}
 use Rattle.std.specs.Str.Parse.{IsNumeral, digits_value}
 use Rattle.std.specs.Global.{Global}
-use Rattle.calc_lines.specs.Started.{WritesFront}
+use Rattle.calc_lines.specs.Started.{WritesPrefix}
 
 -- whether the arguments ask for the rows
 abbrev pub asks_for_rows : List (String Global) → Bool
@@ -50,7 +50,7 @@ status_of (Some number) = 1
 -- one of these rows failed first, or none did, and the status and what was written, as far as the device took it, say so
 abbrev pub RanRows : Option (List ℕ) → Option (List ℕ) → ℕ → Type 0
 RanRows before after status =
-    (failed : Option (List ℕ)) × IfSome failed (Contains row_numbers) × (status ≡ status_of failed) × WritesFront before after (verdict failed)
+    (failed : Option (List ℕ)) × IfSome failed (Contains row_numbers) × (status ≡ status_of failed) × WritesPrefix before after (verdict failed)
 
 -- what is printed if this step is the first with different replies, or there is none
 abbrev pub fuzz_verdict : Option ℕ → List ℕ
@@ -65,7 +65,7 @@ fuzz_status (Some step) = 1
 -- one of these steps failed first, or none did, and the status and what was written, as far as the device took it, say so
 abbrev pub RanFuzz : ℕ → Option (List ℕ) → Option (List ℕ) → ℕ → Type 0
 RanFuzz steps before after status =
-    (failed : Option ℕ) × IfSome failed (λ step. (1 ≤ step) × (step ≤ steps)) × (status ≡ fuzz_status failed) × WritesFront before after (fuzz_verdict failed)
+    (failed : Option ℕ) × IfSome failed (λ step. (1 ≤ step) × (step ≤ steps)) × (status ≡ fuzz_status failed) × WritesPrefix before after (fuzz_verdict failed)
 
 -- what is printed if all outputs of the workers were right, or some weren't
 abbrev pub threads_verdict : Bool → List ℕ
@@ -80,7 +80,7 @@ threads_status false = 1
 -- the outputs were right or weren't, and the status and what was written, as far as the device took it, say so
 abbrev pub RanThreads : Option (List ℕ) → Option (List ℕ) → ℕ → Type 0
 RanThreads before after status =
-    (right : Bool) × (status ≡ threads_status right) × WritesFront before after (threads_verdict right)
+    (right : Bool) × (status ≡ threads_status right) × WritesPrefix before after (threads_verdict right)
 
 -- what is written for arguments that ask for none of these
 abbrev pub usage : List ℕ

@@ -8,9 +8,9 @@ use comemo::{Begun, CacheData, Constraint, Fault, Function, How, Reply, begin};
 use std::alloc::Global;
 
 /// A Fibonacci number.
-pub struct FibMemo;
+pub struct Fibonacci;
 
-impl Function for FibMemo {
+impl Function for Fibonacci {
     type Call = ();
 
     type Key = u64;
@@ -30,7 +30,7 @@ impl Function for FibMemo {
 #[cycle(counting)]
 fn from_before(
     alloc: Global,
-    cache: &mut CacheData<FibMemo>,
+    cache: &mut CacheData<Fibonacci>,
     place: u64,
     recording: &mut Constraint<(), ()>,
 ) -> Result<u64, Fault>
@@ -48,7 +48,7 @@ fn from_before(
 #[cycle(counting)]
 pub fn numbered(
     alloc: Global,
-    cache: &mut CacheData<FibMemo>,
+    cache: &mut CacheData<Fibonacci>,
     place: u64,
     sink: &mut Constraint<(), ()>,
 ) -> Result<Reply<u64>, Fault>

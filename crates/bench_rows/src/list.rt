@@ -99,9 +99,9 @@ impl PlainList {
     }
 
     /// An entry under a key whose path begins with a prefix.
-    fn first_from(&self, key: u8, front: &[(Numbered, u8)]) -> Option<&Entry> {
+    fn first_from(&self, key: u8, prefix: &[(Numbered, u8)]) -> Option<&Entry> {
         for entry in &self.entries {
-            if entry.key == key && entry.path.as_slice().starts_with(front) {
+            if entry.key == key && entry.path.as_slice().starts_with(prefix) {
                 return Some(entry);
             }
         }

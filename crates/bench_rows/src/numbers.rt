@@ -2,7 +2,7 @@
 
 use crate::broken::Broken;
 use crate::calls::{call, gives};
-use crate::fibonacci::{FibMemo, numbered};
+use crate::fibonacci::{Fibonacci, numbered};
 use comemo::{CacheData, Constraint, How, Top, memoized_with};
 use comemo_guide::double::Double;
 use comemo_guide::numbers::{Identity, Sum};
@@ -37,7 +37,7 @@ fn sums(alloc: Global) -> Result<bool, Broken> {
 
 /// Whether Fibonacci numbers are cached on the way to others.
 fn numbers_of_fibonacci(alloc: Global) -> Result<bool, Broken> {
-    let mut cache: CacheData<FibMemo> = CacheData::new(alloc);
+    let mut cache: CacheData<Fibonacci> = CacheData::new(alloc);
     for (place, output, how) in [
         (5, 5, How::Stored),
         (3, 2, How::Hit),

@@ -1,7 +1,7 @@
 //! The outcome of rows: the first that failed. Nothing here allocates.
 ghost use Rattle.std.specs.Prelude.{◌≡◌, ◌≢◌, true, false, None, Some, Ok, IsSome};
 ghost use Rattle.bench_rows.specs.Started.{verdict, status_of};
-ghost use Rattle.calc_lines.specs.Started.{WritesFront};
+ghost use Rattle.calc_lines.specs.Started.{WritesPrefix};
 
 use crate::broken::Broken;
 use calc_lines::put_message;
@@ -60,7 +60,7 @@ impl Outcome {
     /// writer are ignored.
     pub fn report<W: Write>(&self, writer: &mut W) -> u8
         ensures status { result ≡ status_of self.now }
-        ensures written { WritesFront (W.contents writer.old) (W.contents writer.new)
+        ensures written { WritesPrefix (W.contents writer.old) (W.contents writer.new)
             (verdict self.now) }
     {
         match self.failed {

@@ -10,7 +10,7 @@
 //! Numbers are digits only. SEED fits in a `u64`, STEPS and CALLS in a `u32`, and WORKERS is 1 to 16.
 ghost use Rattle.std.specs.Prelude.{◌≡◌, true, ℕ, MatchOption};
 ghost use Rattle.bench_rows.specs.Started.{asks_for_rows, IsNumber, AsksForFuzz, AsksForThreads, AsksForNothing, RanRows, RanFuzz, fuzz_verdict, fuzz_status, RanThreads, threads_verdict, threads_status, usage};
-ghost use Rattle.calc_lines.specs.Started.{WritesFront};
+ghost use Rattle.calc_lines.specs.Started.{WritesPrefix};
 
 use crate::comparison::fuzz;
 use crate::table::run_rows;
@@ -81,7 +81,7 @@ fn threads_of(words: &[String]) -> Option<(usize, u32)>
 /// Prints `threads ok` or `threads failed`, and returns the exit status.
 fn report_threads<W: Write>(right: bool, writer: &mut W) -> u8
     ensures status { result ≡ threads_status right }
-    ensures written { WritesFront (W.contents writer.old) (W.contents writer.new)
+    ensures written { WritesPrefix (W.contents writer.old) (W.contents writer.new)
         (threads_verdict right) }
 {
     if right {
@@ -96,7 +96,7 @@ fn report_threads<W: Write>(right: bool, writer: &mut W) -> u8
 /// without memory that line isn't printed.
 fn report_fuzz<W: Write>(alloc: Global, failed: Option<u32>, writer: &mut W) -> u8
     ensures status { result ≡ fuzz_status failed }
-    ensures written { WritesFront (W.contents writer.old) (W.contents writer.new)
+    ensures written { WritesPrefix (W.contents writer.old) (W.contents writer.new)
         (fuzz_verdict failed) }
 {
     let Some(step) = failed else {
@@ -133,7 +133,7 @@ pub fn start<R: Threads + Wait + Clock + Sync, W: Write, E: Write>(
         → errors.new ≡ errors.old }
     ensures usage { AsksForNothing words.now → result ≡ 2 }
     ensures usage_written { AsksForNothing words.now
-        → WritesFront (E.contents errors.old) (E.contents errors.new) usage }
+        → WritesPrefix (E.contents errors.old) (E.contents errors.new) usage }
     ensures usage_keeps_writer { AsksForNothing words.now → writer.new ≡ writer.old }
 {
     if are_rows(words) {

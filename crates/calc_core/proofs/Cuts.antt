@@ -11,8 +11,8 @@ use Rattle.calc_core.specs.Parts.{parts}
 -- where a `+` was found, the first part stands before it, and the others after it
 pub parts_first : (bs : List ℕ) (found : Bor (List ℕ) × Bor (List ℕ)) → IsSplitOnceResult 43 bs (Some found) → parts bs ≡ trim found.0.now ∷ parts found.1.now
 parts_first bs found h =
-    let (some, front, back) = split_once_first 43 bs (Some found) h (lit< tt) in
-    ap (map trim) (slice_split_first (λ b. eqb b 43) bs 0 some) ∙ ap (λ l. trim l ∷ parts (after_first (λ b. eqb b 43) bs)) (sym front)
+    let (some, prefix, back) = split_once_first 43 bs (Some found) h (lit< tt) in
+    ap (map trim) (slice_split_first (λ b. eqb b 43) bs 0 some) ∙ ap (λ l. trim l ∷ parts (after_first (λ b. eqb b 43) bs)) (sym prefix)
     ∙ ap (λ l. trim found.0.now ∷ parts l) (sym back)
 
 -- where none was found, all is one part

@@ -17,10 +17,10 @@ one_more none_asked a r = one_asked a r none_asked
 one_more (one_asked first recalls rest) a r = one_asked first recalls (one_more rest a r)
 
 pub next_command : {past left : List Past} {before mid after : Texts} (commands : List Command) (i : ℕ) (command : Command) {replies all : List Answer} {reply : Answer} → i < length commands → command ≡ get_or commands i command → all ≡ replies ++ reply ∷ [] → AnswersEach past before (map request_of (take i commands)) replies mid left → Answers mid (request_of command) reply after → Recalls left mid (request_of command) reply → AnswersEach past before (map request_of (take (i + 1) commands)) all after (remembered left mid (request_of command) reply)
-next_command {past = past} {left = left} {before = before} {mid = mid} {after = after} commands i command {all = all} {reply = reply} low is whole h a r =
+next_command {past = past} {left = left} {before = before} {mid = mid} {after = after} commands i command {all = all} {reply = reply} low is complete h a r =
     let taken : map request_of (take (i + 1) commands) ≡ map request_of (take i commands) ++ request_of command ∷ [] = ap (map request_of) (take_more commands i command low) ∙ map-append request_of (take i commands) _ ∙ ap (λ x. map request_of (take i commands) ++ request_of x ∷ []) (sym is) in
     let kept = remembered left mid (request_of command) reply in
-    subst (λ xs. AnswersEach past before xs all after kept) (sym taken) (subst (λ ys. AnswersEach past before (map request_of (take i commands) ++ request_of command ∷ []) ys after kept) (sym whole) (one_more h a r))
+    subst (λ xs. AnswersEach past before xs all after kept) (sym taken) (subst (λ ys. AnswersEach past before (map request_of (take i commands) ++ request_of command ∷ []) ys after kept) (sym complete) (one_more h a r))
 
 -- nothing is remembered yet
 pub knows_nothing : (es : Outcomes) → Knows [] es

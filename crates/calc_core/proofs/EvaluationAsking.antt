@@ -100,12 +100,12 @@ module _ (files : Files) where
         → ((m : JoinedCall → JoinedAnswer) → Respects same_call same_answer m → Agrees same_answer m t.pairs → m (second_call (Read own)) ≡ second_answer text)
         → (replied : IsReply evaluating (with_files text files) es mid (Took same_call touches t u) reply es') → IsRun same_call same_answer (ScriptAsks text) replied.pairs
         → IsEval part path → string_bytes own ≡ path → Settles same_call same_answer (APartAsks part) nothing_left s.pairs u.pairs
-    settles_part {part = part} {path = path} {u = u} fits_t told replied whole is named =
+    settles_part {part = part} {path = path} {u = u} fits_t told replied complete is named =
         let calls = keyed_calls tests in
         let answers = keyed_answers tests in
         let m0 = with_key (answers_of files) in
         let given = replied.gives.given in
-        let given_run = run_alike calls answers (ScriptAsks text) (λ m c d e h. read_alike (ScriptAsksFor (In m) text) c d e h) replied.pairs given replied.gives.alike whole in
+        let given_run = run_alike calls answers (ScriptAsks text) (λ m c d e h. read_alike (ScriptAsksFor (In m) text) c d e h) replied.pairs given replied.gives.alike complete in
         let given_agrees = (replied.gives.agreeing m0 now_respects).1 replied.agrees in
         let inner : Settles same_call same_answer (ScriptAsks text) nothing_left t.pairs u.pairs =
         subst (λ ps. Settles same_call same_answer (ScriptAsks text) nothing_left t.pairs ps) (sym replied.gives.are_sent.pairs) (settles_absorbed calls answers m0 now_respects (ScriptAsks text) t.pairs given fits_t.agrees given_agrees given_run) in
@@ -149,29 +149,29 @@ pub settles_start : (script : List ℕ) (ps : List (List ℕ)) (taken : Taken) (
 settles_start script ps taken pairs all none =
     settles_not (keyed_calls tests) (keyed_answers tests) (ScriptAsks script) (LeftAsk ps taken.sum) pairs (λ m r k c h. read_more (ScriptAsksFor (In m) script) (AsksIn (In m) ps taken.sum) (left_all m script ps taken all none) c h)
 
--- what is learnt of all answers that agree with a recording that is whole and not late
-told_of : {s t : Recording JoinedCall JoinedAnswer} {P : (JoinedCall → JoinedAnswer) → Type 0} → t.whole ≡ true → t.late ≡ false → Learns same_call same_answer s t P → (m : JoinedCall → JoinedAnswer) → Respects same_call same_answer m → Agrees same_answer m t.pairs → P m
-told_of whole early learns m r k = learns.told m (record { whole = whole; early = early; respects = r; agrees = k })
+-- what is learnt of all answers that agree with a recording that is complete and not late
+told_of : {s t : Recording JoinedCall JoinedAnswer} {P : (JoinedCall → JoinedAnswer) → Type 0} → t.complete ≡ true → t.late ≡ false → Learns same_call same_answer s t P → (m : JoinedCall → JoinedAnswer) → Respects same_call same_answer m → Agrees same_answer m t.pairs → P m
+told_of complete early learns m r k = learns.told m (record { complete = complete; early = early; respects = r; agrees = k })
 
-module _ {script part : List ℕ} {qs ps : List (List ℕ)} {s t u : Recording JoinedCall JoinedAnswer} (old new : Taken) {outcome : Outcome} (whole_t : t.whole ≡ true) (early_t : t.late ≡ false) (whole_u : u.whole ≡ true) (early_u : u.late ≡ false)
+module _ {script part : List ℕ} {qs ps : List (List ℕ)} {s t u : Recording JoinedCall JoinedAnswer} (old new : Taken) {outcome : Outcome} (complete_t : t.complete ≡ true) (early_t : t.late ≡ false) (complete_u : u.complete ≡ true) (early_u : u.late ≡ false)
     (so_far : Settles same_call same_answer (ScriptAsks script) (LeftAsk qs old.sum) s.pairs t.pairs) (leaves : Learns same_call same_answer s t (λ m. Leaves (In m) script qs old)) (cut : qs ≡ part ∷ ps)
     (means : Learns same_call same_answer t u (λ m. PartComes m part outcome)) (of_part : Settles same_call same_answer (APartAsks part) nothing_left t.pairs u.pairs) where
   reaches : (m : JoinedCall → JoinedAnswer) → Respects same_call same_answer m → Agrees same_answer m t.pairs → (c : JoinedCall) → APartAsks part m c → ScriptAsks script m c
   reaches m r k c h =
-      let l = subst (λ xs. Leaves (In m) script xs old) cut (told_of whole_t early_t leaves m r k) in
+      let l = subst (λ xs. Leaves (In m) script xs old) cut (told_of complete_t early_t leaves m r k) in
       read_more (PartAsks (In m) part) (ScriptAsksFor (In m) script) (λ q a. asks (l.reaches (asks_here a))) c h
 
   -- after one more part
   pub settles_rest : IsAdded old.sum outcome.value new.sum (Ok tt) → Settles same_call same_answer (ScriptAsks script) (LeftAsk ps new.sum) s.pairs u.pairs
   settles_rest added =
       settles_on (keyed_calls tests) (keyed_answers tests) (ScriptAsks script) (LeftAsk qs old.sum) (APartAsks part) (LeftAsk ps new.sum) s.pairs t.pairs u.pairs so_far of_part reaches
-      (λ m r k c h. read_either (AsksIn (In m) qs old.sum) (PartAsks (In m) part) (AsksIn (In m) ps new.sum) (λ q a. asked_of_rest (In m) (one_text m r) outcome.value old.sum new.sum (told_of whole_u early_u means m r k) added (subst (λ xs. AsksIn (In m) xs old.sum q) cut a)) c h)
+      (λ m r k c h. read_either (AsksIn (In m) qs old.sum) (PartAsks (In m) part) (AsksIn (In m) ps new.sum) (λ q a. asked_of_rest (In m) (one_text m r) outcome.value old.sum new.sum (told_of complete_u early_u means m r k) added (subst (λ xs. AsksIn (In m) xs old.sum q) cut a)) c h)
 
   -- at the part at which a script ends
   pub settles_last : (fault : CalcFault) → IsAdded old.sum outcome.value new.sum (Err fault) → Settles same_call same_answer (ScriptAsks script) nothing_left s.pairs u.pairs
   settles_last fault added =
       settles_on (keyed_calls tests) (keyed_answers tests) (ScriptAsks script) (LeftAsk qs old.sum) (APartAsks part) nothing_left s.pairs t.pairs u.pairs so_far of_part reaches
-      (λ m r k c h. inl (read_more (AsksIn (In m) qs old.sum) (PartAsks (In m) part) (λ q a. asked_of_last (In m) (one_text m r) outcome.value old.sum new.sum fault (told_of whole_u early_u means m r k) added (subst (λ xs. AsksIn (In m) xs old.sum q) cut a)) c h))
+      (λ m r k c h. inl (read_more (AsksIn (In m) qs old.sum) (PartAsks (In m) part) (λ q a. asked_of_last (In m) (one_text m r) outcome.value old.sum new.sum fault (told_of complete_u early_u means m r k) added (subst (λ xs. AsksIn (In m) xs old.sum q) cut a)) c h))
 
 -- where no part is left, nothing is
 pub settles_end : {script : List ℕ} {qs : List (List ℕ)} {sum : ℤ} (ps ts : List (JoinedCall × JoinedAnswer)) → Settles same_call same_answer (ScriptAsks script) (LeftAsk qs sum) ps ts → qs ≡ [] → Settles same_call same_answer (ScriptAsks script) nothing_left ps ts
@@ -196,8 +196,8 @@ keys = search rules
 
 -- so it may be stored under the key of the run
 pub script_settled : {script : List ℕ} (own : List ℕ × ⊤) (ps : List (JoinedCall × JoinedAnswer)) → IsTrue (same_key bytes_eq (script, tt) own) → IsRun same_call same_answer (ScriptAsks script) ps → IsNamedRun evaluating own ps
-script_settled {script = script} own ps has whole =
-    run_named (keyed_calls tests) (keyed_answers tests) keys EvalAsks asks_respect own ps (subst (λ x. IsRun same_call same_answer (ScriptAsks x) ps) (same_script script own.0 has) whole)
+script_settled {script = script} own ps has complete =
+    run_named (keyed_calls tests) (keyed_answers tests) keys EvalAsks asks_respect own ps (subst (λ x. IsRun same_call same_answer (ScriptAsks x) ps) (same_script script own.0 has) complete)
 
 -- what a reply rests on is what the script asks for
 pub settled_reply : (files : Files) {script : List ℕ} {es mid es' : Outcomes} {sent : List (JoinedCall × JoinedAnswer) → List JoinedCall → Type 0} {reply : Reply Outcome} → (replied : IsReply evaluating (with_files script files) es mid sent reply es') → IsRun same_call same_answer (ScriptAsks script) replied.pairs
@@ -217,9 +217,9 @@ replied_run files {mid = mid} {t = t} took lates is calls early agrees stands do
 module _ (files : Files) {s t : Recording JoinedCall JoinedAnswer} {own : String Global} {text : List ℕ} (read_asks : Asks bytes_eq (answers_of files) (Read own) text (Through second_call second_answer (Took same_call touches s t))) where
   pub learns_text : FilesFit files s → Learns same_call same_answer s t (λ m. m (second_call (Read own)) ≡ second_answer text)
   learns_text fits = record {
-    before = λ m f. record { whole = sym (asked files read_asks).sent.whole ∙ f.whole; early = was_early ((second_call (Read own), (asked files read_asks).noted) ∷ []) [] (asked files read_asks).sent f.early; respects = f.respects; agrees = (read files read_asks fits.agrees).before m f.respects f.agrees };
+    before = λ m f. record { complete = sym (asked files read_asks).sent.complete ∙ f.complete; early = was_early ((second_call (Read own), (asked files read_asks).noted) ∷ []) [] (asked files read_asks).sent f.early; respects = f.respects; agrees = (read files read_asks fits.agrees).before m f.respects f.agrees };
     told = λ m f. answer_is (m (second_call (Read own))) text ((read files read_asks fits.agrees).told m f.respects f.agrees);
   }
 
-  pub told_text : FilesFit files s → t.whole ≡ true → t.late ≡ false → (m : JoinedCall → JoinedAnswer) → Respects same_call same_answer m → Agrees same_answer m t.pairs → m (second_call (Read own)) ≡ second_answer text
-  told_text fits whole early = told_of whole early (learns_text fits)
+  pub told_text : FilesFit files s → t.complete ≡ true → t.late ≡ false → (m : JoinedCall → JoinedAnswer) → Respects same_call same_answer m → Agrees same_answer m t.pairs → m (second_call (Read own)) ≡ second_answer text
+  told_text fits complete early = told_of complete early (learns_text fits)

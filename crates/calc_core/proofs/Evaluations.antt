@@ -60,11 +60,11 @@ module _ (files : Files) {t u : Recording JoinedCall JoinedAnswer} {script : Lis
   ran agrees = told_pairs (keyed_calls tests) (keyed_answers tests) (with_key (answers_of files)) (files_respect files) t u replied.gives.given replied.writes agrees given replied.gives.are_sent
 
   pub fits_call : FilesFit files t → FilesFit files u
-  fits_call fits = record { whole = replied.gives.are_sent.whole ∙ fits.whole; early = still_early replied.gives.given replied.writes replied.gives.are_sent fits.early; respects = fits.respects; agrees = (ran fits.agrees).agrees }
+  fits_call fits = record { complete = replied.gives.are_sent.complete ∙ fits.complete; early = still_early replied.gives.given replied.writes replied.gives.are_sent fits.early; respects = fits.respects; agrees = (ran fits.agrees).agrees }
 
   pub learns_call : FilesFit files t → Learns same_call same_answer t u (λ m. Comes m script reply.output)
   learns_call fits = record {
-    before = λ m f. record { whole = sym replied.gives.are_sent.whole ∙ f.whole; early = was_early replied.gives.given replied.writes replied.gives.are_sent f.early; respects = f.respects; agrees = (ran fits.agrees).before m f.respects f.agrees };
+    before = λ m f. record { complete = sym replied.gives.are_sent.complete ∙ f.complete; early = was_early replied.gives.given replied.writes replied.gives.are_sent f.early; respects = f.respects; agrees = (ran fits.agrees).before m f.respects f.agrees };
     told = λ m f. (replied.stands m f.respects ((replied.gives.agreeing m f.respects).0 ((ran fits.agrees).told m f.respects f.agrees))).1;
   }
 
@@ -82,10 +82,10 @@ pub part_called : (text : List ℕ) {part path : List ℕ} {own : String Global}
 part_called text {own = own} is named m told comes = is_eval is (own, named, told) comes
 
 -- what was learnt of a script, which is the run's key, stands where the run is finished
-pub run_stands : (script : List ℕ) (s t : Recording JoinedCall JoinedAnswer) (own : List ℕ × ⊤) (outcome : Outcome) → IsTrue (same_key bytes_eq (script, tt) own) → s.writes ≡ [] → t.writes ≡ s.writes → Learns same_call same_answer s t (λ m. Comes m script outcome) → t.whole ≡ true → t.late ≡ false → (m : JoinedCall → JoinedAnswer) → Respects same_call same_answer m → Agrees same_answer m t.pairs → IsOutcome own m outcome t.writes
-run_stands script s t own outcome has none writes learns whole early m respects agrees = (
+pub run_stands : (script : List ℕ) (s t : Recording JoinedCall JoinedAnswer) (own : List ℕ × ⊤) (outcome : Outcome) → IsTrue (same_key bytes_eq (script, tt) own) → s.writes ≡ [] → t.writes ≡ s.writes → Learns same_call same_answer s t (λ m. Comes m script outcome) → t.complete ≡ true → t.late ≡ false → (m : JoinedCall → JoinedAnswer) → Respects same_call same_answer m → Agrees same_answer m t.pairs → IsOutcome own m outcome t.writes
+run_stands script s t own outcome has none writes learns complete early m respects agrees = (
   writes ∙ none,
-  subst (λ script. Comes m script outcome) (same_script script own.0 has) (learns.told m (record { whole = whole; early = early; respects = respects; agrees = agrees })),
+  subst (λ script. Comes m script outcome) (same_script script own.0 has) (learns.told m (record { complete = complete; early = early; respects = respects; agrees = agrees })),
 )
 
 abbrev fault_or : {A : Type 0} → EvalFault → Result A EvalFault → EvalFault

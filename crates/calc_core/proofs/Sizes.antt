@@ -29,17 +29,17 @@ use Rattle.calc_core.proofs.WhatReadsTell.{files_fit_none, fits_read, learns_rea
 use Rattle.calc_core.proofs.FileCalls.{same_shared, same_text, key_bytes}
 use Rattle.calc_core.proofs.JoinedCalls.{tests}
 
-module _ (files : Files) {own : String Global} {text : List ℕ} {s t : Recording JoinedCall JoinedAnswer} (asks : Asks bytes_eq (answers_of files) (Read own) text (Through second_call second_answer (Took same_call touches s t))) (whole : s.whole ≡ true) (early : s.late ≡ false) (none : s.pairs ≡ []) where
+module _ (files : Files) {own : String Global} {text : List ℕ} {s t : Recording JoinedCall JoinedAnswer} (asks : Asks bytes_eq (answers_of files) (Read own) text (Through second_call second_answer (Took same_call touches s t))) (complete : s.complete ≡ true) (early : s.late ≡ false) (none : s.pairs ≡ []) where
   -- the files fit what a run has recorded that read one text
   pub size_fits : FilesFit files t
-  size_fits = fits_read files asks (files_fit_none files s whole early none)
+  size_fits = fits_read files asks (files_fit_none files s complete early none)
 
   -- the length of that text is the size wherever the recording agrees
-  pub size_stands : s.writes ≡ [] → (key : String Global × ⊤) → string_bytes own ≡ string_bytes key.0 → {output : ℕ} → output ≡ length text → t.whole ≡ true → t.late ≡ false → (m : JoinedCall → JoinedAnswer) → Respects same_call same_answer m → Agrees same_answer m t.pairs → IsSizeOf key m output t.writes
+  pub size_stands : s.writes ≡ [] → (key : String Global × ⊤) → string_bytes own ≡ string_bytes key.0 → {output : ℕ} → output ≡ length text → t.complete ≡ true → t.late ≡ false → (m : JoinedCall → JoinedAnswer) → Respects same_call same_answer m → Agrees same_answer m t.pairs → IsSizeOf key m output t.writes
   size_stands unwritten key named long ended in_time m respects agrees = (
     writes_read files asks ∙ unwritten,
     λ n second.
-        let told = (learns_read files asks (files_fit_none files s whole early none)).told m (record { whole = ended; early = in_time; respects = respects; agrees = agrees }) n second in
+        let told = (learns_read files asks (files_fit_none files s complete early none)).told m (record { complete = ended; early = in_time; respects = respects; agrees = agrees }) n second in
         let alike = second_respects same_call same_answer m n respects second (Read own) (Read key.0) (same_text own key.0 named) in
         long ∙ ap length (sym told ∙ same_shared (n (Read own)) (n (Read key.0)) alike),
   )
@@ -66,12 +66,12 @@ pub size_by_run : (files : Files) {path : List ℕ} {es es' : Sizes} {key own : 
     → string_bytes key ≡ path → IsRun sizing es (with_files key files) begun → s ≡ begun.recording → string_bytes own ≡ path → Asks bytes_eq (answers_of files) (Read own) text (Through second_call second_answer (Took same_call touches s t)) → output ≡ length text
     → Finished sizing es (recorded begun t) (TookAs took lates t.late i j) output reply es' → SizeReply files path es (took i j) reply es'
 size_by_run files {es = es} {es' = es'} {key = key} {begun = begun} {t = t} took lates {output = output} {reply = reply} names run is named asks long finished =
-    let whole = subst (λ r. r.whole ≡ true) (sym is) run.whole in
+    let complete = subst (λ r. r.complete ≡ true) (sym is) run.complete in
     let early = subst (λ r. r.late ≡ false) (sym is) run.early in
     let none = subst (λ r. r.pairs ≡ []) (sym is) run.pairs in
     let unwritten = subst (λ r. r.writes ≡ []) (sym is) run.writes in
-    let fits = size_fits files asks whole early none in
-    let stands = size_stands files asks whole early none unwritten begun.key (named ∙ sym names ∙ key_bytes key begun.key.0 run.has_key) long fits.whole fits.early in
+    let fits = size_fits files asks complete early none in
+    let stands = size_stands files asks complete early none unwritten begun.key (named ∙ sym names ∙ key_bytes key begun.key.0 run.has_key) long fits.complete fits.early in
     record {
       key = key;
       names = names;
@@ -91,7 +91,7 @@ size_by_run files {es = es} {es' = es'} {key = key} {begun = begun} {t = t} took
           early = λ l. let no : false ≡ true = sym fits.early ∙ finished.late.0 l in cc;
         });
       };
-      asks = λ _. read_alone files asks whole early none named;
+      asks = λ _. read_alone files asks complete early none named;
     }
 
 pub mapped : {A E : Type 0} {P Q : A → Type 0} → ((a : A) → P a → Q a) → (r : Result A E) → IfOk r P → IfOk r Q

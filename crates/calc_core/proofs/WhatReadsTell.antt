@@ -24,9 +24,9 @@ pub files_respect : (files : Files) → Respects same_call same_answer (with_key
 files_respect files = respects_with_key tests (answers_of files) (answers_alike files)
 
 -- files fit what has no pair
-pub files_fit_none : (files : Files) (s : Recording JoinedCall JoinedAnswer) → s.whole ≡ true → s.late ≡ false → s.pairs ≡ [] → FilesFit files s
-files_fit_none files s whole early none = record {
-  whole = whole;
+pub files_fit_none : (files : Files) (s : Recording JoinedCall JoinedAnswer) → s.complete ≡ true → s.late ≡ false → s.pairs ≡ [] → FilesFit files s
+files_fit_none files s complete early none = record {
+  complete = complete;
   early = early;
   respects = files_respect files;
   agrees = subst (λ ps. Agrees same_answer (with_key (answers_of files)) ps) (sym none) tt;
@@ -42,12 +42,12 @@ module _ (files : Files) {s t : Recording JoinedCall JoinedAnswer} {own : String
 
   -- the files fit a recording of what was read of them
   pub fits_read : FilesFit files s → FilesFit files t
-  fits_read fits = record { whole = asked.sent.whole ∙ fits.whole; early = still_early ((second_call (Read own), asked.noted) ∷ []) [] asked.sent fits.early; respects = fits.respects; agrees = (read fits.agrees).agrees }
+  fits_read fits = record { complete = asked.sent.complete ∙ fits.complete; early = still_early ((second_call (Read own), asked.noted) ∷ []) [] asked.sent fits.early; respects = fits.respects; agrees = (read fits.agrees).agrees }
 
   -- what was read is what is answered to the read
   pub learns_read : FilesFit files s → Learns same_call same_answer s t (OnFiles (λ n. n (Read own) ≡ text))
   learns_read fits = record {
-    before = λ m f. record { whole = sym asked.sent.whole ∙ f.whole; early = was_early ((second_call (Read own), asked.noted) ∷ []) [] asked.sent f.early; respects = f.respects; agrees = (read fits.agrees).before m f.respects f.agrees };
+    before = λ m f. record { complete = sym asked.sent.complete ∙ f.complete; early = was_early ((second_call (Read own), asked.noted) ∷ []) [] asked.sent f.early; respects = f.respects; agrees = (read fits.agrees).before m f.respects f.agrees };
     told = λ m f part second. same_shared (part (Read own)) text (subst (λ a. IsTrue (same_answer a (second_answer text))) (second (Read own)) ((read fits.agrees).told m f.respects f.agrees));
   }
 
@@ -66,7 +66,7 @@ pub broke_after : {S C R : Type 0} {took : S → S → List (C × R) → List C 
 broke_after {took = took} same m s mid t pairs writes agrees none taken spoiled = record {
   pairs = pairs;
   agrees = agrees;
-  is_broken = record { front = pairs; rest = []; parts = sym (append-nil pairs); mid = mid; taken = subst (λ ws. took s mid pairs ws) none taken; spoiled = spoiled };
+  is_broken = record { prefix = pairs; rest = []; parts = sym (append-nil pairs); mid = mid; taken = subst (λ ws. took s mid pairs ws) none taken; spoiled = spoiled };
 }
 
 -- one that was spoiled as it was took nothing

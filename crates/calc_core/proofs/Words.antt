@@ -11,8 +11,8 @@ pub write_of : (line : List ℕ) (rest nothing : Bor (List ℕ)) (found : Option
     → path ≡ parts.0.now → text ≡ parts.1.now → 0 < length path → IsLineOf line (write path text)
 write_of line rest nothing None parts path text is none split chosen first second some =
     let clear = split_parts 32 rest.now None split (omega arith) in
-    let whole : path ≡ rest.now = rw (first, chosen) in
-    ((some, All-from_get_or (λ b. b ≢ 32) path 0 (rw whole clear)), inr (rw whole is, rw (second, chosen) none))
+    let complete : path ≡ rest.now = rw (first, chosen) in
+    ((some, All-from_get_or (λ b. b ≢ 32) path 0 (rw complete clear)), inr (rw complete is, rw (second, chosen) none))
 write_of line rest nothing (Some x) parts path text is none split chosen first second some =
     let (cut, clear) = split_parts 32 rest.now (Some x) split (omega arith) in
     ((some, All-from_get_or (λ b. b ≢ 32) path 0 (rw (first, chosen) clear)), inl (rw (is, cut, first, second, chosen)))

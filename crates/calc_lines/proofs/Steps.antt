@@ -8,7 +8,7 @@ use Rattle.calc_lines.specs.Lines.{TakesLines, IsReadFault}
 use Rattle.calc_lines.specs.Lines.{no_line as ends}
 use Rattle.calc_lines.specs.Answers.{Answered, answered, refused, empty_line, no_line, out_of_memory}
 use Rattle.calc_lines.specs.Written.{AnswersLine, WritesBeginning}
-use Rattle.calc_lines.specs.Runs.{AnswersFront, Ran, StopsInRead}
+use Rattle.calc_lines.specs.Runs.{AnswersPrefix, Ran, StopsInRead}
 use Rattle.calc_lines.proofs.Cut.{more_lines}
 
 takes_none : (input : Option (List ℕ)) → TakesLines input [] input
@@ -26,8 +26,8 @@ failed_as (Ok _) fault h = absurd h
 failed_as (Err e) fault h = ap (λ e. Err e) h
 
 module _ {S : Type 0} (answers : S → List ℕ → List ℕ → S → Type 0) (refuses : S → List ℕ → S → Type 0) where
-  answered_append : (s m t : S) (front back : List (List ℕ)) (output text : List ℕ)
-      → Answered answers refuses s front output m → Answered answers refuses m back text t → Answered answers refuses s (front ++ back) (output ++ text) t
+  answered_append : (s m t : S) (prefix back : List (List ℕ)) (output text : List ℕ)
+      → Answered answers refuses s prefix output m → Answered answers refuses m back text t → Answered answers refuses s (prefix ++ back) (output ++ text) t
   answered_append _ _ t _ back _ text no_line b = b
   answered_append s m t _ back output text (empty_line {lines = lines} a) b = empty_line (answered_append s m t lines back output text a b)
   answered_append s m t _ back _ text (answered {m = first} {line = line} here {lines = lines} output h utf8 said a) b =
@@ -62,12 +62,12 @@ module _ {S : Type 0} (answers : S → List ℕ → List ℕ → S → Type 0) (
 
   -- ---- the loop
 
-  pub front_none : (input before : Option (List ℕ)) (s : S) → AnswersFront answers refuses input input before before s s
-  front_none input before s = ([], [], takes_none input, no_line, Appends-nil before)
+  pub prefix_none : (input before : Option (List ℕ)) (s : S) → AnswersPrefix answers refuses input input before before s s
+  prefix_none input before s = ([], [], takes_none input, no_line, Appends-nil before)
 
-  pub front_more : (input old new before mid after : Option (List ℕ)) (s m t : S) (line asked : List ℕ) → AnswersFront answers refuses input old before mid s m
-      → TakesLines old (line ∷ []) new → asked ≡ line → AnswersLine answers refuses asked mid after m t (Ok tt) → AnswersFront answers refuses input new before after s t
-  front_more input old new before mid after s m t line asked (lines, output, taken, said, wrote) next e h =
+  pub prefix_more : (input old new before mid after : Option (List ℕ)) (s m t : S) (line asked : List ℕ) → AnswersPrefix answers refuses input old before mid s m
+      → TakesLines old (line ∷ []) new → asked ≡ line → AnswersLine answers refuses asked mid after m t (Ok tt) → AnswersPrefix answers refuses input new before after s t
+  prefix_more input old new before mid after s m t line asked (lines, output, taken, said, wrote) next e h =
       let (text, here, put) = subst (λ l. AnswersLine answers refuses l mid after m t (Ok tt)) e h in (
         lines ++ line ∷ [],
         output ++ text,

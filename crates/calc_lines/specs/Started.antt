@@ -27,12 +27,12 @@ status_of (Ok _) = 0
 status_of (Err _) = 1
 
 -- a prefix of these bytes, perhaps all, is appended to what was written, if that is known
-abbrev pub WritesFront : Option (List ℕ) → Option (List ℕ) → List ℕ → Type 0
-WritesFront old new bytes = (k : ℕ) × Appends old new (take k bytes)
+abbrev pub WritesPrefix : Option (List ℕ) → Option (List ℕ) → List ℕ → Type 0
+WritesPrefix old new bytes = (k : ℕ) × Appends old new (take k bytes)
 
 -- the program of this name, without arguments, ran and ended with this status, and wrote the fault's message as far as it could
 abbrev pub RanAs : {S : Type 0} → (S → List ℕ → List ℕ → S → Type 0) → (S → List ℕ → S → Type 0)
     → List ℕ → Option (List ℕ) → Option (List ℕ) → Option (List ℕ) → Option (List ℕ) → Option (List ℕ) → Option (List ℕ) → S → S → ℕ → Type 0
 RanAs answers refuses name input left before after silent said s t status =
     (outcome : Result (Unit {0}) RunFault) × Ran answers refuses input left before after s t outcome
-    × (status ≡ status_of outcome) × WritesFront silent said (message_of name outcome)
+    × (status ≡ status_of outcome) × WritesPrefix silent said (message_of name outcome)

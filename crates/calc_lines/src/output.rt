@@ -2,7 +2,7 @@
 ghost use Rattle.std.specs.Prelude.{◌≡◌, ℕ, ◌<◌, ◌≤◌, length, take, ◌++◌, IfOk, IfErr, OnOk, MatchResult};
 ghost use Rattle.std.specs.Io.KnownBytes.{Appends, WriteAppends};
 ghost use Rattle.calc_lines.specs.Written.{WritesBeginning};
-ghost use Rattle.calc_lines.specs.Started.{WritesFront};
+ghost use Rattle.calc_lines.specs.Started.{WritesPrefix};
 
 use crate::RunFault;
 use std::io::{ErrorKind, Write};
@@ -45,17 +45,17 @@ pub(crate) fn put<W: Write>(writer: &mut W, bytes: &[u8]) -> Result<(), RunFault
 /// Writes a message in three parts, without allocating. On error a prefix is written.
 pub fn put_message<W: Write>(
     writer: &mut W,
-    front: &str,
+    prefix: &str,
     name: &str,
     end: &str,
 ) -> Result<(), RunFault>
     ensures whole { OnOk result (Appends (W.contents writer.old) (W.contents writer.new)
-        (front.now ++ name.now ++ end.now)) }
-    ensures front { WritesFront (W.contents writer.old) (W.contents writer.new)
-        (front.now ++ name.now ++ end.now) }
+        (prefix.now ++ name.now ++ end.now)) }
+    ensures prefix { WritesPrefix (W.contents writer.old) (W.contents writer.new)
+        (prefix.now ++ name.now ++ end.now) }
     ensures fault { IfErr result (λ fault. fault ≡ RunFault.Write) }
 {
-    put(writer, front.as_bytes())?;
+    put(writer, prefix.as_bytes())?;
     put(writer, name.as_bytes())?;
     put(writer, end.as_bytes())
 }

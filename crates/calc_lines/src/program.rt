@@ -1,6 +1,6 @@
 //! A line program but for its streams: its words, its status and its message.
 ghost use Rattle.std.specs.Prelude.{◌≡◌, ℕ, ◌<◌, length};
-ghost use Rattle.calc_lines.specs.Started.{WritesFront, RanAs, fault_text, usage_of};
+ghost use Rattle.calc_lines.specs.Started.{WritesPrefix, RanAs, fault_text, usage_of};
 
 use crate::{RunFault, Session, put_message, run};
 use std::alloc::Global;
@@ -36,7 +36,7 @@ pub fn start<R: BufRead, W: Write, E: Write, S: Session>(
         (E.contents errors.old) (E.contents errors.new) session.old session.new result }
     ensures usage { 0 < length words.now → result ≡ 2 }
     ensures usage_written { 0 < length words.now
-        → WritesFront (E.contents errors.old) (E.contents errors.new) (usage_of name.now) }
+        → WritesPrefix (E.contents errors.old) (E.contents errors.new) (usage_of name.now) }
     ensures usage_keeps_reader { 0 < length words.now → reader.new ≡ reader.old }
     ensures usage_keeps_writer { 0 < length words.now → writer.new ≡ writer.old }
     ensures usage_keeps_session { 0 < length words.now → session.new ≡ session.old }

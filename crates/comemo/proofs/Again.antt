@@ -33,9 +33,9 @@ module _ {C R : Type 0} {eq : C → C → Bool} {same : R → R → Bool} (answe
         | inr e ↦ agrees_has s q a.1 (rw e at h)
       ]
 
-  agrees_among : (s front : List (C × R)) → Agrees same m s → AllAmong eq same s front → Agrees same m front
+  agrees_among : (s prefix : List (C × R)) → Agrees same m s → AllAmong eq same s prefix → Agrees same m prefix
   agrees_among s [] a h = tt
-  agrees_among s (q ∷ front) a h = (agrees_has s q a h.0, agrees_among s front a h.1)
+  agrees_among s (q ∷ prefix) a h = (agrees_has s q a h.0, agrees_among s prefix a h.1)
 
   agrees_filter : (p : C × R → Bool) (s : List (C × R)) → Agrees same m s → Agrees same m (filter p s)
   agrees_filter p [] a = tt
@@ -48,8 +48,8 @@ module _ {C R : Type 0} {eq : C → C → Bool} {same : R → R → Bool} (answe
   -- answers that agree with a sequence agree with the path that an insertion of it stores
   pub agrees_stored_path : {K T : Type 0} (us : List (Stored K C R T)) (s path : List (C × R)) → IsNewPath eq same us s path → Agrees same m s → Agrees same m path
   agrees_stored_path us s path n a =
-      let front : Agrees same m n.0 = elim n.1 [ inl none ↦ rw none.1 tt | inr some ↦ agrees_among s n.0 a some.0 ] in
-      subst (λ ps. Agrees same m ps) (sym n.2) (agrees_both n.0 (outside eq n.0 s) front (agrees_filter _ s a))
+      let prefix : Agrees same m n.0 = elim n.1 [ inl none ↦ rw none.1 tt | inr some ↦ agrees_among s n.0 a some.0 ] in
+      subst (λ ps. Agrees same m ps) (sym n.2) (agrees_both n.0 (outside eq n.0 s) prefix (agrees_filter _ s a))
 
 -- what each of some items implies follows if one of them holds
 from_any : {X E : Type 0} (P : E → Type 0) (es : List E) → All (λ e. P e → X) es → Any P es → X

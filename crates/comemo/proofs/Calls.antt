@@ -26,9 +26,9 @@ use Rattle.comemo.proofs.Endings.{gives_itself, gives_early, gives_late}
 abbrev pub recorded : {K C R : Type 0} → PendingRun K C R → Recording C R → PendingRun K C R
 recorded begun t = record { key = begun.key; enabled = begun.enabled; recording = t }
 
-some_write : {C : Type 0} (front : List C) (next : C) (rest : List C) → front ++ next ∷ rest ≡ [] → ⊥
+some_write : {C : Type 0} (prefix : List C) (next : C) (rest : List C) → prefix ++ next ∷ rest ≡ [] → ⊥
 some_write [] next rest e = cc
-some_write (c ∷ front) next rest e = cc
+some_write (c ∷ prefix) next rest e = cc
 
 -- what a clause says of a call that began as a hit, or as a run
 pub of_hit : {O I : Type 0} (r : Result (Begun O I) Fault) (b : Begun O I) (output : O) (P : O → Type 0) (Q : I → Type 0) → r ≡ Ok b → b ≡ Hit output → IfOk r (λ x. OnBegun x P Q) → P output
@@ -94,7 +94,7 @@ finished_itself {M = M} {es} {es'} {pending} {sent} {output} {reply} done = subs
 
 -- a run that isn't late sent what it recorded to the sink
 pub finished_early : {K C R O : Type 0} {M : Meaning K C R O} {es es' : Entries K C R O} {pending : PendingRun K C R} {S : Type 0} (took : S → S → List (C × R) → List C → Type 0) (lates : S → S → Type 0) {i j : S} {output : O} {reply : Reply O} → pending.recording.late ≡ false → Finished M es pending (TookAs took lates pending.recording.late i j) output reply es' → Finished M es pending (took i j) output reply es'
-finished_early {pending = pending} took lates early done = record { whole = done.whole; same = done.same; ends = done.ends; late = done.late; disabled = done.disabled; settled = done.settled; gives = gives_early took lates pending.recording.late early done.gives }
+finished_early {pending = pending} took lates early done = record { complete = done.complete; same = done.same; ends = done.ends; late = done.late; disabled = done.disabled; settled = done.settled; gives = gives_early took lates pending.recording.late early done.gives }
 
 -- a run that is late left the entries unchanged
 ended_late : {K C R O : Type 0} (M : Meaning K C R O) (es es' : Entries K C R O) (ran : Run K C R O) {h : How} → h ≡ how.Late → Ends M es ran h es' → es' ≡ es
@@ -212,20 +212,20 @@ module _ {K C R O : Type 0} {M : Meaning K C R O} {es : Entries K C R O} {call :
   }
 
   -- a hit that stopped, of which the writes before were done so
-  pub stopped_as : {done so : List C → Type 0} {spoiled : List (C × R) → List C → Type 0} → (is : IsStopped M es call done spoiled) → so is.front → IsStopped M es call so spoiled
-  stopped_as is did = record { pairs = is.pairs; output = is.output; front = is.front; next = is.next; rest = is.rest; is_refused = is.is_refused; is_enabled = is.is_enabled; kept = is.kept; agrees = is.agrees; stands = is.stands; reads = is.reads; written = is.written; are_done = did; is_spoiled = is.is_spoiled }
+  pub stopped_as : {done so : List C → Type 0} {spoiled : List (C × R) → List C → Type 0} → (is : IsStopped M es call done spoiled) → so is.prefix → IsStopped M es call so spoiled
+  stopped_as is did = record { pairs = is.pairs; output = is.output; prefix = is.prefix; next = is.next; rest = is.rest; is_refused = is.is_refused; is_enabled = is.is_enabled; kept = is.kept; agrees = is.agrees; stands = is.stands; reads = is.reads; written = is.written; are_done = did; is_spoiled = is.is_spoiled }
 
   -- a hit that stopped, whatever became of its sink
   pub stopped_so : {done : List C → Type 0} {spoiled : List (C × R) → List C → Type 0} → IsStopped M es call done spoiled → IsStopped M es call done (λ _ _. ⊤)
-  stopped_so is = record { pairs = is.pairs; output = is.output; front = is.front; next = is.next; rest = is.rest; is_refused = is.is_refused; is_enabled = is.is_enabled; kept = is.kept; agrees = is.agrees; stands = is.stands; reads = is.reads; written = is.written; are_done = is.are_done; is_spoiled = tt }
+  stopped_so is = record { pairs = is.pairs; output = is.output; prefix = is.prefix; next = is.next; rest = is.rest; is_refused = is.is_refused; is_enabled = is.is_enabled; kept = is.kept; agrees = is.agrees; stands = is.stands; reads = is.reads; written = is.written; are_done = is.are_done; is_spoiled = tt }
 
   -- a hit of a function whose calls are reads stops at no write
   pub never_refused : {done : List C → Type 0} {spoiled : List (C × R) → List C → Type 0} → IsStopped M es call done spoiled → ((c : C) → M.is_write c ≡ false) → ⊥
   never_refused is reads = let e : true ≡ false = sym is.is_refused ∙ reads is.next in cc
 
   -- a hit of a function that only reads stops at no write
-  pub never_stops : Respects M.same_call M.same_answer call.answers → ((output : O) (writes : List C) → M.def call.key call.answers output writes → writes ≡ []) → {done : List C → Type 0} {spoiled : List (C × R) → List C → Type 0} → IsStopped M es call done spoiled → ⊥
-  never_stops respects reads is = some_write is.front is.next is.rest (reads is.output (is.front ++ is.next ∷ is.rest) (is.stands call.answers respects is.agrees))
+  pub never_stops : Respects M.same_call M.same_answer call.answers → ((output : O) (writes : List C) → M.right call.key call.answers output writes → writes ≡ []) → {done : List C → Type 0} {spoiled : List (C × R) → List C → Type 0} → IsStopped M es call done spoiled → ⊥
+  never_stops respects reads is = some_write is.prefix is.next is.rest (reads is.output (is.prefix ++ is.next ∷ is.rest) (is.stands call.answers respects is.agrees))
 
   -- a call that did not begin broke off what was sent to its sink
   pub broke_at_begin : {broken : List (C × R) → Type 0} → IsBrokenOff M es call broken → BrokeOff M.same_answer call.answers broken
@@ -237,7 +237,7 @@ broke_at_end M m calls answers respects {pairs = pairs} agrees is = record { pai
 
 -- after a run whose recording agrees with the answers if it is complete, and whose sink is incomplete and otherwise
 -- unchanged if it isn't
-pub broke_by_run : {K C R O : Type 0} (M : Meaning K C R O) (m : C → R) → IsEquivalence M.same_call → IsEquivalence M.same_answer → Respects M.same_call M.same_answer m → (broken : List (C × R) → Type 0) (pairs : List (C × R)) (whole : Bool) → (whole ≡ true → Agrees M.same_answer m pairs) → (whole ≡ false → broken []) → (X : Type 0) {T E : Type 0} (r : Result T E) → OnErr r (X × BreaksOffRun M broken pairs) → OnErr r (X × BrokeOff M.same_answer m broken)
-broke_by_run M m calls answers respects broken pairs whole agrees spoiled X (Ok x) e = tt
+pub broke_by_run : {K C R O : Type 0} (M : Meaning K C R O) (m : C → R) → IsEquivalence M.same_call → IsEquivalence M.same_answer → Respects M.same_call M.same_answer m → (broken : List (C × R) → Type 0) (pairs : List (C × R)) (complete : Bool) → (complete ≡ true → Agrees M.same_answer m pairs) → (complete ≡ false → broken []) → (X : Type 0) {T E : Type 0} (r : Result T E) → OnErr r (X × BreaksOffRun M broken pairs) → OnErr r (X × BrokeOff M.same_answer m broken)
+broke_by_run M m calls answers respects broken pairs complete agrees spoiled X (Ok x) e = tt
 broke_by_run M m calls answers respects broken pairs true agrees spoiled X (Err x) e = (e.0, broke_at_end M m calls answers respects (agrees refl) e.1)
 broke_by_run M m calls answers respects broken pairs false agrees spoiled X (Err x) e = (e.0, record { pairs = []; agrees = tt; is_broken = spoiled refl })

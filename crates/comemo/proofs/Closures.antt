@@ -15,10 +15,10 @@ use Rattle.comemo.specs.declared.pending.Reply.{Reply}
 use Rattle.comemo.specs.declared.pending.How.TheVariants as how
 
 -- only an incomplete recording results in `Incomplete`, so one that is finished was complete
-pub whole_of_ok : {O : Type 0} (r : Result O Fault) (w : Bool) → (r ≡ Err fault.Incomplete) ↔ (w ≡ false) → IfOk r (λ _. w ≡ true)
-whole_of_ok (Ok x) true h = refl
-whole_of_ok (Ok x) false h = let e = h.1 refl in cc
-whole_of_ok (Err e) w h = tt
+pub complete_of_ok : {O : Type 0} (r : Result O Fault) (w : Bool) → (r ≡ Err fault.Incomplete) ↔ (w ≡ false) → IfOk r (λ _. w ≡ true)
+complete_of_ok (Ok x) true h = refl
+complete_of_ok (Ok x) false h = let e = h.1 refl in cc
+complete_of_ok (Err e) w h = tt
 
 -- which fault a run that went so, or its end, returned: a failure to allocate, or one after which the sink took nothing
 pub fault_of_end : {A B : Type 0} (S : Type 0) (w : Bool) (ran : Result A Fault) (r : Result B Fault) → IfOk ran (λ _. (r ≡ Err fault.Incomplete) ↔ (w ≡ false)) → IfOk ran (λ _. IfErr r (λ f. f ≡ fault.Write → ⊥)) → IfErr ran (λ f. (r ≡ Err f) × S) → (w ≡ false → S) → IfErr r (λ f. (f ≡ fault.Memory) ⊎ S)
@@ -50,28 +50,28 @@ err_with f (Err e) p q = f e p q
 pub at_some_pairs : {K C R O I P : Type 0} {M : Meaning K C R O} {es : Entries K C R O} {call : Invocation K C R} {did : I → I → List C → Type 0} {recording : P → Recording C R} {post : MutBor I → MutBor P → Result O Fault → MutBor I → MutBor P → Type 0} {input left : I} → (broken : List (C × R) → Type 0) {after : List (C × R) → List C → Type 0} {es' : Entries K C R O} → IsBroken M es call did recording post input left broken after es' → ((c : C) → M.is_write c ≡ false) → (es' ≡ es) × ((pairs : List (C × R)) × broken pairs)
 at_some_pairs broken (inl (same, inl begun)) reads = (same, (begun.1.pairs, begun.1.is_broken))
 at_some_pairs broken (inl (same, inr (inl (r, t, ran, spoiled, is)))) reads = (same, ([], is))
-at_some_pairs broken (inl (same, inr (inr (output, t, ran, whole, is)))) reads = (same, (is.given, is.is_broken))
+at_some_pairs broken (inl (same, inr (inr (output, t, ran, complete, is)))) reads = (same, (is.given, is.is_broken))
 at_some_pairs broken (inr (touched, is)) reads = absurd (never_refused is reads)
 
 module _ {K C R O : Type 0} {M : Meaning K C R O} {es : Entries K C R O} {call : Invocation K C R} {begun : PendingRun K C R} (is : IsRun M es call begun) where
   module _ {I P : Type 0} (did : I → I → List C → Type 0) (recording : P → Recording C R) (post : MutBor I → MutBor P → Result O Fault → MutBor I → MutBor P → Type 0) (input : I) (t : Recording C R) where
     -- a run of a closure, by what it got and what it left
-    pub ran_from : {i j : MutBor I} {p q : MutBor P} (r : Result O Fault) → did input i.now [] → (recording p.now).pairs ≡ [] → (recording p.now).writes ≡ [] → (recording p.now).whole ≡ true → (recording p.now).late ≡ false → post i p r j q → t ≡ recording q.now → Ran M es call did recording post input r t
-    ran_from {i = i} {j = j} {p = p} {q = q} r unchanged pairs writes whole early gave left = record { i = i; p = p; starts = record { none = is.none; unchanged = unchanged; pairs = pairs; writes = writes; whole = whole; early = early }; j = j; q = q; gave = gave; left = sym left }
+    pub ran_from : {i j : MutBor I} {p q : MutBor P} (r : Result O Fault) → did input i.now [] → (recording p.now).pairs ≡ [] → (recording p.now).writes ≡ [] → (recording p.now).complete ≡ true → (recording p.now).late ≡ false → post i p r j q → t ≡ recording q.now → Ran M es call did recording post input r t
+    ran_from {i = i} {j = j} {p = p} {q = q} r unchanged pairs writes complete early gave left = record { i = i; p = p; starts = record { none = is.none; unchanged = unchanged; pairs = pairs; writes = writes; complete = complete; early = early }; j = j; q = q; gave = gave; left = sym left }
 
     -- so it ran, and left the input so
-    pub ran_to : (left : I) {i j : MutBor I} {p q : MutBor P} (r : Result O Fault) → did input i.now [] → (recording p.now).pairs ≡ [] → (recording p.now).writes ≡ [] → (recording p.now).whole ≡ true → (recording p.now).late ≡ false → post i p r j q → t ≡ recording q.now → j.now ≡ left → RanTo M es call did recording post input left r t
+    pub ran_to : (left : I) {i j : MutBor I} {p q : MutBor P} (r : Result O Fault) → did input i.now [] → (recording p.now).pairs ≡ [] → (recording p.now).writes ≡ [] → (recording p.now).complete ≡ true → (recording p.now).late ≡ false → post i p r j q → t ≡ recording q.now → j.now ≡ left → RanTo M es call did recording post input left r t
     unfolding ran_from
-    ran_to left {i = i} {j = j} {p = p} {q = q} r unchanged pairs writes whole early gave rest ends = record { ran = ran_from {i = i} {j = j} {p = p} {q = q} r unchanged pairs writes whole early gave rest; ends = ends }
+    ran_to left {i = i} {j = j} {p = p} {q = q} r unchanged pairs writes complete early gave rest ends = record { ran = ran_from {i = i} {j = j} {p = p} {q = q} r unchanged pairs writes complete early gave rest; ends = ends }
 
     -- why a call failed whose run ended so
-    pub failed : (left : I) (S : Type 0) (ran : Result O Fault) → RanTo M es call did recording post input left ran t → (r : Result (Reply O) Fault) → IfOk ran (λ _. (r ≡ Err fault.Incomplete) ↔ (t.whole ≡ false)) → IfOk ran (λ _. IfErr r (λ f. f ≡ fault.Write → ⊥)) → IfErr ran (λ f. (r ≡ Err f) × S) → IfErr r (λ f. IsFault M es call did recording post input left f)
+    pub failed : (left : I) (S : Type 0) (ran : Result O Fault) → RanTo M es call did recording post input left ran t → (r : Result (Reply O) Fault) → IfOk ran (λ _. (r ≡ Err fault.Incomplete) ↔ (t.complete ≡ false)) → IfOk ran (λ _. IfErr r (λ f. f ≡ fault.Write → ⊥)) → IfErr ran (λ f. (r ≡ Err f) × S) → IfErr r (λ f. IsFault M es call did recording post input left f)
     failed left S ran has (Ok reply) h never f = tt
     failed left S (Ok output) has (Err e) h never f = inr (inr (inl (output, t, has, (λ is. h.0 (ap Err is), λ spoiled. ap (fault_or e) (h.1 spoiled)), never)))
     failed left S (Err g) has (Err e) h never f = inr (inr (inr (t, subst (λ x. RanTo M es call did recording post input left (Err x) t) (sym (ap (fault_or e) f.0)) has)))
 
     -- how a call that failed is left whose run ended so
-    pub left_broken : (left : I) (broken : List (C × R) → Type 0) (after : List (C × R) → List C → Type 0) {S : Type 0} → (S → broken []) → (es' : Entries K C R O) (ran : Result O Fault) → RanTo M es call did recording post input left ran t → (w : Bool) → t.whole ≡ w → (r : Result (Reply O) Fault) → IfErr ran (λ f. (r ≡ Err f) × S) → (t.whole ≡ false → S) → OnErr r ((es' ≡ es) × BreaksOffRun M broken t.pairs) → OnErr r (IsBroken M es call did recording post input left broken after es')
+    pub left_broken : (left : I) (broken : List (C × R) → Type 0) (after : List (C × R) → List C → Type 0) {S : Type 0} → (S → broken []) → (es' : Entries K C R O) (ran : Result O Fault) → RanTo M es call did recording post input left ran t → (w : Bool) → t.complete ≡ w → (r : Result (Reply O) Fault) → IfErr ran (λ f. (r ≡ Err f) × S) → (t.complete ≡ false → S) → OnErr r ((es' ≡ es) × BreaksOffRun M broken t.pairs) → OnErr r (IsBroken M es call did recording post input left broken after es')
     left_broken left broken after spoils es' ran has w e (Ok reply) given_up spoiled b = tt
     left_broken left broken after spoils es' (Err f) has w e (Err g) given_up spoiled b = inl (b.0, inr (inl (Err f, t, has, tt, spoils given_up.1)))
     left_broken left broken after spoils es' (Ok output) has false e (Err g) given_up spoiled b = inl (b.0, inr (inl (Ok output, t, has, e, spoils (spoiled e))))
@@ -82,7 +82,7 @@ module _ {K C R O : Type 0} {M : Meaning K C R O} {es : Entries K C R O} {call :
     ended left sent {output = output} {reply = reply} {mid = mid} {es' = es'} ran stands done = record {
       recording = t;
       has_run = subst (λ x. RanTo M es call did recording post input left (Ok x) t) (sym done.same) ran;
-      whole = done.whole;
+      complete = done.complete;
       own = begun.key;
       has_key = is.has_key;
       stands = λ early. subst (λ o. Stands M (run call.key t.pairs o t.writes)) (sym done.same) (stands_at_call is t.pairs output t.writes (stands early));

@@ -15,7 +15,7 @@ pub none_mapped : {X P Q : Type 0} (r : Option X) → (P → Q) → IfNone r P �
 none_mapped (Some x) f p = tt
 none_mapped None f p = f p
 
-module _ {K C R O : Type 0} (M : Meaning K C R O) (calls : IsEquivalence M.same_call) (answers : IsEquivalence M.same_answer) (keys : IsEquivalence M.same_key) {key_clone : K → K → Type 0} {answer_clone : R → R → Type 0} (laws : FunctionLaws M.same_call M.same_answer M.same_key key_clone answer_clone M.is_clone M.def) (own key : K) (alike : IsTrue (M.same_key own key)) (m : C → R) (respects : Respects M.same_call M.same_answer m) (es : Entries K C R O) {output : O} {writes : List C} {age : ℕ} (found : IsPeeked M es (invocation own m true) output writes age) where
+module _ {K C R O : Type 0} (M : Meaning K C R O) (calls : IsEquivalence M.same_call) (answers : IsEquivalence M.same_answer) (keys : IsEquivalence M.same_key) {key_clone : K → K → Type 0} {answer_clone : R → R → Type 0} (laws : FunctionLaws M.same_call M.same_answer M.same_key key_clone answer_clone M.is_clone M.right) (own key : K) (alike : IsTrue (M.same_key own key)) (m : C → R) (respects : Respects M.same_call M.same_answer m) (es : Entries K C R O) {output : O} {writes : List C} {age : ℕ} (found : IsPeeked M es (invocation own m true) output writes age) where
   own_has : Has M es (invocation own m true) (run own found.pairs output writes)
   own_has = has_so M (invocation own m true) (run own found.pairs output writes) age es found.kept
 
@@ -47,11 +47,11 @@ module _ {K C R O : Type 0} (M : Meaning K C R O) (calls : IsEquivalence M.same_
   pub broken_of : {broken : List (C × R) → Type 0} → broken found.pairs → IsBrokenOff M es (invocation key m true) broken
   broken_of is = record { pairs = found.pairs; found = inr (output, writes, has); agrees = agrees; is_broken = is }
 
-  pub stopped_of : (front : List C) (next : C) (rest : List C) → writes ≡ front ++ next ∷ rest → M.is_write next ≡ true → {done : List C → Type 0} {spoiled : List (C × R) → List C → Type 0} → done front → spoiled found.pairs front → IsStopped M es (invocation key m true) done spoiled
-  stopped_of front next rest is refused are_done is_spoiled = record {
+  pub stopped_of : (prefix : List C) (next : C) (rest : List C) → writes ≡ prefix ++ next ∷ rest → M.is_write next ≡ true → {done : List C → Type 0} {spoiled : List (C × R) → List C → Type 0} → done prefix → spoiled found.pairs prefix → IsStopped M es (invocation key m true) done spoiled
+  stopped_of prefix next rest is refused are_done is_spoiled = record {
     pairs = found.pairs;
     output = output;
-    front = front;
+    prefix = prefix;
     next = next;
     rest = rest;
     is_refused = refused;

@@ -19,23 +19,23 @@ use Rattle.comemo.specs.Called.{IsReply}
 use Rattle.comemo.specs.Function.{Fits, SettlesAs, SettlesRun}
 use Rattle.comemo.specs.declared.pending.Fault.{Fault}
 use Rattle.comemo.specs.declared.pending.Reply.{Reply}
-use Rattle.comemo.proofs.Recorders.{was_whole, in_time, agrees_from}
+use Rattle.comemo.proofs.Recorders.{was_complete, in_time, agrees_from}
 
-pub settled_end : {K C R X : Type 0} (eqk : K → K → Bool) (eq : C → C → Bool) (same : R → R → Bool) (N : Naming K C R) (key : K) (t : Recording C R) (r : Result X Fault) (output : X) → SettlesAs eqk eq same N key t r → r ≡ Ok output → t.whole ≡ true → t.late ≡ false → IsRunOf eqk eq same N key t.pairs
+pub settled_end : {K C R X : Type 0} (eqk : K → K → Bool) (eq : C → C → Bool) (same : R → R → Bool) (N : Naming K C R) (key : K) (t : Recording C R) (r : Result X Fault) (output : X) → SettlesAs eqk eq same N key t r → r ≡ Ok output → t.complete ≡ true → t.late ≡ false → IsRunOf eqk eq same N key t.pairs
 settled_end eqk eq same unnamed key t r output s e w l = tt
-settled_end eqk eq same (names asks) key t r output s e w l = subst (λ r. OnOk r (t.whole ≡ true → t.late ≡ false → IsRun eq same (AsksAlike eqk eq asks key) t.pairs)) e s w l
+settled_end eqk eq same (names asks) key t r output s e w l = subst (λ r. OnOk r (t.complete ≡ true → t.late ≡ false → IsRun eq same (AsksAlike eqk eq asks key) t.pairs)) e s w l
 
 held_last : {C R : Type 0} (eq : C → C → Bool) (xs : List (C × R)) (q : C × R) (c : C) → eq c q.0 ≡ true → IsTrue (held eq (xs ++ q ∷ []) c)
 held_last eq [] q c e = rw e refl
 held_last eq (x ∷ xs) q c e = elim (cases_Bool (eq c x.0)) [ inl a ↦ rw a refl | inr a ↦ rw a (held_last eq xs q c e) ]
 
-held_front : {C R : Type 0} (eq : C → C → Bool) (xs ys : List (C × R)) (c : C) → IsTrue (held eq xs c) → IsTrue (held eq (xs ++ ys) c)
-held_front eq [] ys c h = let z : false ≡ true = h in cc
-held_front eq (x ∷ xs) ys c h = elim (cases_Bool (eq c x.0)) [ inl e ↦ rw e refl | inr e ↦ rw e (held_front eq xs ys c (rw e at h)) ]
+held_prefix : {C R : Type 0} (eq : C → C → Bool) (xs ys : List (C × R)) (c : C) → IsTrue (held eq xs c) → IsTrue (held eq (xs ++ ys) c)
+held_prefix eq [] ys c h = let z : false ≡ true = h in cc
+held_prefix eq (x ∷ xs) ys c h = elim (cases_Bool (eq c x.0)) [ inl e ↦ rw e refl | inr e ↦ rw e (held_prefix eq xs ys c (rw e at h)) ]
 
-agrees_front : {C R : Type 0} (same : R → R → Bool) (m : C → R) (ps qs : List (C × R)) → Agrees same m (ps ++ qs) → Agrees same m ps
-agrees_front same m [] qs a = tt
-agrees_front same m (p ∷ ps) qs a = (a.0, agrees_front same m ps qs a.1)
+agrees_prefix : {C R : Type 0} (same : R → R → Bool) (m : C → R) (ps qs : List (C × R)) → Agrees same m (ps ++ qs) → Agrees same m ps
+agrees_prefix same m [] qs a = tt
+agrees_prefix same m (p ∷ ps) qs a = (a.0, agrees_prefix same m ps qs a.1)
 
 module _ {C R : Type 0} {eq : C → C → Bool} {same : R → R → Bool} (calls : IsEquivalence eq) (answers : IsEquivalence same) where
   settles_one : (s : List (C × R)) (q : C × R) → Settles eq same (λ m c. IsTrue (eq q.0 c)) nothing_left s (absorbed eq s (q ∷ []))
@@ -69,14 +69,14 @@ module _ {K C R : Type 0} {eqk : K → K → Bool} {eq : C → C → Bool} {same
   asked_alike asks key m c d e (k, b, f, g, a) = (k, b, f, joined calls b c d g e, a)
 
   -- after a call of a function that names its calls, these are recorded, and nothing else was: from the reply of a recorder's `call`
-  pub settles_called : {O : Type 0} {is_write : C → Bool} {is_clone : O → O → Type 0} {def : K → (C → R) → O → List C → Type 0} {asks : K → (C → R) → C → Type 0} {call : Invocation K C R} {es mid es' : Entries K C R O} {touches : C → C → Bool} {s t : Recording C R} {reply : Reply O} → Respects eq same call.answers → Agrees same call.answers s.pairs → IsReply (record { same_call = eq; same_answer = same; same_key = eqk; is_write = is_write; is_clone = is_clone; def = def; naming = names asks }) call es mid (Took eq touches s t) reply es' → Settles eq same (AsksAlike eqk eq asks call.key) nothing_left s.pairs t.pairs
+  pub settles_called : {O : Type 0} {is_write : C → Bool} {is_clone : O → O → Type 0} {def : K → (C → R) → O → List C → Type 0} {asks : K → (C → R) → C → Type 0} {call : Invocation K C R} {es mid es' : Entries K C R O} {touches : C → C → Bool} {s t : Recording C R} {reply : Reply O} → Respects eq same call.answers → Agrees same call.answers s.pairs → IsReply (record { same_call = eq; same_answer = same; same_key = eqk; is_write = is_write; is_clone = is_clone; right = def; naming = names asks }) call es mid (Took eq touches s t) reply es' → Settles eq same (AsksAlike eqk eq asks call.key) nothing_left s.pairs t.pairs
   settles_called {asks = asks} {call = call} {s = s} respects agrees k =
       let asked = AsksAlike eqk eq asks call.key in
       let run = run_alike calls answers asked (asked_alike asks call.key) k.pairs k.gives.given k.gives.alike k.settled in
       subst (λ ps. Settles eq same asked nothing_left s.pairs ps) (sym k.gives.are_sent.pairs) (settles_absorbed calls answers call.answers respects asked s.pairs k.gives.given agrees ((k.gives.agreeing call.answers respects).1 k.agrees) run)
 
   -- then the present answers still agree with what is recorded
-  pub agrees_called : {O : Type 0} {is_write : C → Bool} {is_clone : O → O → Type 0} {def : K → (C → R) → O → List C → Type 0} {N : Naming K C R} {call : Invocation K C R} {es mid es' : Entries K C R O} {touches : C → C → Bool} {s t : Recording C R} {reply : Reply O} → Respects eq same call.answers → Agrees same call.answers s.pairs → IsReply (record { same_call = eq; same_answer = same; same_key = eqk; is_write = is_write; is_clone = is_clone; def = def; naming = N }) call es mid (Took eq touches s t) reply es' → Agrees same call.answers t.pairs
+  pub agrees_called : {O : Type 0} {is_write : C → Bool} {is_clone : O → O → Type 0} {def : K → (C → R) → O → List C → Type 0} {N : Naming K C R} {call : Invocation K C R} {es mid es' : Entries K C R O} {touches : C → C → Bool} {s t : Recording C R} {reply : Reply O} → Respects eq same call.answers → Agrees same call.answers s.pairs → IsReply (record { same_call = eq; same_answer = same; same_key = eqk; is_write = is_write; is_clone = is_clone; right = def; naming = N }) call es mid (Took eq touches s t) reply es' → Agrees same call.answers t.pairs
   agrees_called {call = call} respects before k = agrees_from calls answers call.answers respects k.gives.given k.writes k.gives.are_sent before ((k.gives.agreeing call.answers respects).1 k.agrees)
 
   -- what was settled from no pair on is a run of what is asked
@@ -102,7 +102,7 @@ module _ {K C R : Type 0} (eq : C → C → Bool) (same : R → R → Bool) (ask
   -- What a run under the key has recorded so far, from no pair on, is asked in turn. And it holds each call that is `covered`, under
   -- all answers that agree with it.
   pub record HasAsked (covered : (C → R) → C → Type 0) (t : Recording C R) : Type 0 where
-    pub in_turn : (like : K → Bool) → Tests like key eq same → t.whole ≡ true → t.late ≡ false → Settles eq same (AsksLike like eq asks) (λ m c. ⊤) [] t.pairs
+    pub in_turn : (like : K → Bool) → Tests like key eq same → t.complete ≡ true → t.late ≡ false → Settles eq same (AsksLike like eq asks) (λ m c. ⊤) [] t.pairs
     pub holds : IsEquivalence eq → IsEquivalence same → (m : C → R) → Respects eq same m → Agrees same m t.pairs → (c : C) → covered m c → IsTrue (held eq t.pairs c)
 
 module _ {K C R : Type 0} {eq : C → C → Bool} {same : R → R → Bool} {asks : K → (C → R) → C → Type 0} {key : K} where
@@ -116,11 +116,11 @@ module _ {K C R : Type 0} {eq : C → C → Bool} {same : R → R → Bool} {ask
   -- one stretch more, which asks what it asks under all answers that fitted before it
   asked_on : {touches : C → C → Bool} {covered part more : (C → R) → C → Type 0} {s t : Recording C R} (P : List (C × R)) (W : List C) → Took eq touches s t P W → HasAsked eq same asks key covered s → (IsEquivalence eq → IsEquivalence same → Settles eq same part nothing_left s.pairs t.pairs) → ((m : C → R) → Fits eq same s m → (c : C) → part m c → (d : C) × IsTrue (eq d c) × asks key m d) → (IsEquivalence eq → (m : C → R) (c : C) → more m c → part m c) → HasAsked eq same asks key (λ m c. more m c ⊎ covered m c) t
   asked_on {part = part} {s = s} {t = t} P W took before next up of_part = record {
-    in_turn = λ like is w l. settles_on is.calls is.answers (AsksLike like eq asks) (λ m c. ⊤) part (λ m c. ⊤) [] s.pairs t.pairs (before.in_turn like is (was_whole took w) (in_time took l).0) (next is.calls is.answers)
-        (λ m r k c a. let u = up m (record { whole = was_whole took w; early = (in_time took l).0; respects = r; agrees = k }) c a in (key, u.0, is.own, u.1, u.2)) (λ m r k c a. inr tt);
+    in_turn = λ like is w l. settles_on is.calls is.answers (AsksLike like eq asks) (λ m c. ⊤) part (λ m c. ⊤) [] s.pairs t.pairs (before.in_turn like is (was_complete took w) (in_time took l).0) (next is.calls is.answers)
+        (λ m r k c a. let u = up m (record { complete = was_complete took w; early = (in_time took l).0; respects = r; agrees = k }) c a in (key, u.0, is.own, u.1, u.2)) (λ m r k c a. inr tt);
     holds = λ calls answers m r k c h. let n = next calls answers in elim h [
       | inl a ↦ elim (n.complete m r k c (of_part calls m c a)) [ inl there ↦ there | inr never ↦ absurd never ]
-      | inr a ↦ subst (λ ps. IsTrue (held eq ps c)) (sym n.parts) (held_front eq s.pairs n.added c (before.holds calls answers m r (agrees_front same m s.pairs n.added (subst (λ ps. Agrees same m ps) n.parts k)) c a))
+      | inr a ↦ subst (λ ps. IsTrue (held eq ps c)) (sym n.parts) (held_prefix eq s.pairs n.added c (before.holds calls answers m r (agrees_prefix same m s.pairs n.added (subst (λ ps. Agrees same m ps) n.parts k)) c a))
     ];
   }
 
@@ -132,19 +132,19 @@ module _ {K C R : Type 0} {eq : C → C → Bool} {same : R → R → Bool} {ask
 
   -- After a call of a function that names its calls, which are asked under all answers that fitted before it, these are covered
   -- too: from what the clause `reply` of a recorder's `call` says of entries.
-  pub called_then : {L O : Type 0} {eql : L → L → Bool} {is_write : C → Bool} {is_clone : O → O → Type 0} {def : L → (C → R) → O → List C → Type 0} {inner : L → (C → R) → C → Type 0} {call : Invocation L C R} {es mid es' : Entries L C R O} {touches : C → C → Bool} {covered : (C → R) → C → Type 0} {s t : Recording C R} {reply : Reply O} → IsReply (record { same_call = eq; same_answer = same; same_key = eql; is_write = is_write; is_clone = is_clone; def = def; naming = names inner }) call es mid (Took eq touches s t) reply es' → IsEquivalence eql → Respects eq same call.answers → Agrees same call.answers s.pairs → ((n : C → R) → Fits eq same s n → (k : L) → IsTrue (eql k call.key) → (c : C) → inner k n c → asks key n c) → HasAsked eq same asks key covered s → HasAsked eq same asks key (λ n c. inner call.key n c ⊎ covered n c) t
+  pub called_then : {L O : Type 0} {eql : L → L → Bool} {is_write : C → Bool} {is_clone : O → O → Type 0} {def : L → (C → R) → O → List C → Type 0} {inner : L → (C → R) → C → Type 0} {call : Invocation L C R} {es mid es' : Entries L C R O} {touches : C → C → Bool} {covered : (C → R) → C → Type 0} {s t : Recording C R} {reply : Reply O} → IsReply (record { same_call = eq; same_answer = same; same_key = eql; is_write = is_write; is_clone = is_clone; right = def; naming = names inner }) call es mid (Took eq touches s t) reply es' → IsEquivalence eql → Respects eq same call.answers → Agrees same call.answers s.pairs → ((n : C → R) → Fits eq same s n → (k : L) → IsTrue (eql k call.key) → (c : C) → inner k n c → asks key n c) → HasAsked eq same asks key covered s → HasAsked eq same asks key (λ n c. inner call.key n c ⊎ covered n c) t
   called_then {eql = eql} {inner = inner} {call = call} k others respects agrees up before =
       asked_on k.gives.given k.writes k.gives.are_sent before (λ calls answers. settles_called others calls answers respects agrees k)
       (λ n f c (l, d, e, same_c, a). (d, same_c, up n f l e d a)) (λ calls n c a. (call.key, c, others.refl call.key, calls.refl c, a))
 
 module _ {K C R : Type 0} {eq : C → C → Bool} {same : R → R → Bool} {asks : K → (C → R) → C → Type 0} (key : K) where
   -- The end of a run under this key: each call that is asked, under a key like it, has to be covered, under all answers that fit.
-  pub settled_run : {like : K → Bool} {covered : (C → R) → C → Type 0} {t : Recording C R} → Tests like key eq same → HasAsked eq same asks key covered t → ((n : C → R) → Fits eq same t n → (k : K) → IsTrue (like k) → (c : C) → asks k n c → covered n c) → t.whole ≡ true → t.late ≡ false → IsRun eq same (AsksLike like eq asks) t.pairs
+  pub settled_run : {like : K → Bool} {covered : (C → R) → C → Type 0} {t : Recording C R} → Tests like key eq same → HasAsked eq same asks key covered t → ((n : C → R) → Fits eq same t n → (k : K) → IsTrue (like k) → (c : C) → asks k n c → covered n c) → t.complete ≡ true → t.late ≡ false → IsRun eq same (AsksLike like eq asks) t.pairs
   settled_run {like = like} {t = t} is h all w l =
       let turn = h.in_turn like is w l in
       run_from_settles is.calls is.answers (AsksLike like eq asks) (λ m c d e (k, b, f, g, a). (k, b, f, joined is.calls b c d g e, a)) t.pairs (record {
         added = turn.added;
         parts = turn.parts;
         in_turn = turn.in_turn;
-        complete = λ n r a c (k, b, e, f, asked). inl (held-alike is.calls is.answers t.pairs b c f (h.holds is.calls is.answers n r a b (all n (record { whole = w; early = l; respects = r; agrees = a }) k e b asked)));
+        complete = λ n r a c (k, b, e, f, asked). inl (held-alike is.calls is.answers t.pairs b c f (h.holds is.calls is.answers n r a b (all n (record { complete = w; early = l; respects = r; agrees = a }) k e b asked)));
       })

@@ -48,9 +48,9 @@ module _ {S M C D R Q : Type 0} (maps : M → C → D) (answers : M → R → Q)
 module _ {S M C D R Q : Type 0} (maps : M → C → D) (answers : M → R → Q) {took : S → S → List (D × Q) → List D → Type 0} where
   pub broken_as : {spoils : S → S → Type 0} (s t : MappedSink S M) (P : List (C × R)) → BreaksOff (MapsTook took maps answers) (MapsSpoils spoils) s t P → BreaksOff took spoils s.sink.now t.sink.now (mapped_pairs (maps s.map) (answers s.map) P)
   broken_as s t P is = record {
-    front = mapped_pairs (maps s.map) (answers s.map) is.front;
+    prefix = mapped_pairs (maps s.map) (answers s.map) is.prefix;
     rest = mapped_pairs (maps s.map) (answers s.map) is.rest;
-    parts = ap (mapped_pairs (maps s.map) (answers s.map)) is.parts ∙ map-append (λ (p : C × R). (maps s.map p.0, answers s.map p.1)) is.front is.rest;
+    parts = ap (mapped_pairs (maps s.map) (answers s.map)) is.parts ∙ map-append (λ (p : C × R). (maps s.map p.0, answers s.map p.1)) is.prefix is.rest;
     mid = is.mid.sink.now;
     taken = is.taken.sent;
     spoiled = is.spoiled.spoiled;
@@ -95,18 +95,18 @@ module _ {K C R O : Type 0} {M : Meaning K C R O} {touches : C → C → Bool} {
   failed_as d b p (inl a) = inl (a.0, record { pairs = a.1.pairs; agrees = a.1.agrees; is_broken = b a.1.pairs a.1.is_broken })
   failed_as d b p (inr k) =
       let is = k.1 in
-      inr (k.0, record { pairs = is.pairs; output = is.output; front = is.front; next = is.next; rest = is.rest; is_refused = is.is_refused; is_enabled = is.is_enabled; kept = is.kept; agrees = is.agrees; stands = is.stands; reads = is.reads; written = is.written; are_done = d is.front is.are_done; is_spoiled = p is.pairs is.front is.is_spoiled })
+      inr (k.0, record { pairs = is.pairs; output = is.output; prefix = is.prefix; next = is.next; rest = is.rest; is_refused = is.is_refused; is_enabled = is.is_enabled; kept = is.kept; agrees = is.agrees; stands = is.stands; reads = is.reads; written = is.written; are_done = d is.prefix is.are_done; is_spoiled = p is.pairs is.prefix is.is_spoiled })
 
 -- after a fault of a call of a function of a part, the recording of the whole is incomplete
-pub mapped_spoils : {K M C D R Q O : Type 0} {maps : M → C → D} {answers : M → R → Q} {N : Meaning K C R O} {touching : C → C → Bool} {es es' : Entries K C R O} {call : Invocation K C R} {done : List C → Type 0} {eq touches : D → D → Bool} (s t : MappedSink (Recording D Q) M) → IsFailed N touching es call done (BreaksOff (MapsTook (Took eq touches) maps answers) (MapsSpoils Spoiled) s t) (SpoiledAfter (MapsTook (Took eq touches) maps answers) (MapsSpoils Spoiled) s t) es' → t.sink.now.whole ≡ false
-mapped_spoils s t (inl a) = a.1.is_broken.spoiled.spoiled.whole
-mapped_spoils s t (inr b) = b.1.is_spoiled.spoiled.spoiled.whole
+pub mapped_spoils : {K M C D R Q O : Type 0} {maps : M → C → D} {answers : M → R → Q} {N : Meaning K C R O} {touching : C → C → Bool} {es es' : Entries K C R O} {call : Invocation K C R} {done : List C → Type 0} {eq touches : D → D → Bool} (s t : MappedSink (Recording D Q) M) → IsFailed N touching es call done (BreaksOff (MapsTook (Took eq touches) maps answers) (MapsSpoils Spoiled) s t) (SpoiledAfter (MapsTook (Took eq touches) maps answers) (MapsSpoils Spoiled) s t) es' → t.sink.now.complete ≡ false
+mapped_spoils s t (inl a) = a.1.is_broken.spoiled.spoiled.complete
+mapped_spoils s t (inr b) = b.1.is_spoiled.spoiled.spoiled.complete
 
 -- what was established of a part, whose calls are those of the whole by f and whose answers are those of the whole by g
 module _ {C D R Q : Type 0} (eq : C → C → Bool) (same : R → R → Bool) (eqd : D → D → Bool) (like : Q → Q → Bool) (f : C → D) (g : R → Q) (apart : (x y : C) → eqd (f x) (f y) ≡ eq x y) (answers_apart : (x y : R) → like (g x) (g y) ≡ same x y) where
   -- a read of the part is one of the whole
-  asked_whole : (n : D → Q) (m : C → R) → ((c : C) → n (f c) ≡ g (m c)) → {went : List (D × Q) → List D → Type 0} (call : C) (answer : R) → Asks same m call answer (Through f g went) → Asks like n (f call) (g answer) went
-  asked_whole n m each call answer k = record {
+  asked_complete : (n : D → Q) (m : C → R) → ((c : C) → n (f c) ≡ g (m c)) → {went : List (D × Q) → List D → Type 0} (call : C) (answer : R) → Asks same m call answer (Through f g went) → Asks like n (f call) (g answer) went
+  asked_complete n m each call answer k = record {
     gives = rw (each call) (rw (answers_apart (m call) answer) k.gives);
     noted = g k.noted;
     alike = rw (each call) (rw (answers_apart (m call) k.noted) k.alike);
@@ -116,23 +116,23 @@ module _ {C D R Q : Type 0} (eq : C → C → Bool) (same : R → R → Bool) (e
   module _ {V : Type 0} (wrote : V → D → V → Type 0) (w : D → Bool) (touches : D → D → Bool) (answers : V → D → Q) (calls : IsEquivalence eqd) (laws : IsEquivalence like) (alike : (v : V) → Respects eqd like (answers v)) (s t : Lent V D Q) (place : t.value.ghost_name ≡ s.value.ghost_name) (same_recording : t.recording.ghost_name ≡ s.recording.ghost_name) (has : HasBegun (Done wrote w touches like answers) like answers s) (m : C → R) (each : (c : C) → answers s.value.now (f c) ≡ g (m c)) where
     module _ (value : t.value.now ≡ s.value.now) (call : C) (read : w (f call) ≡ false) (answer : R) (k : Asks same m call answer (Through f g (Took eqd touches s.recording.now t.recording.now))) where
       pub part_asked_begun : HasBegun (Done wrote w touches like answers) like answers t
-      part_asked_begun = asked_begun wrote w touches like answers calls laws alike place same_recording has value (f call) read (g answer) (asked_whole (answers s.value.now) m each call answer k)
+      part_asked_begun = asked_begun wrote w touches like answers calls laws alike place same_recording has value (f call) read (g answer) (asked_complete (answers s.value.now) m each call answer k)
 
       pub tells_asked_part : TellsMut (Goes (Done wrote w touches like answers) touches like answers) (Fits eqd like) s t (Ok answer) (λ a n. OnPart f g n (λ part. IsTrue (same (part call) a)))
       tells_asked_part =
-          let a = tells_answer_mut wrote w touches like answers calls laws alike place same_recording has value (f call) read (g answer) (asked_whole (answers s.value.now) m each call answer k) in
+          let a = tells_answer_mut wrote w touches like answers calls laws alike place same_recording has value (f call) read (g answer) (asked_complete (answers s.value.now) m each call answer k) in
           record {
             goes = a.goes;
             before = a.before;
             told = λ n fits part e. rw (answers_apart (part call) answer) at (rw (e call) at (a.told n fits));
-            whole = a.whole;
+            complete = a.complete;
             fault = tt;
           }
 
     -- a called function of the part
     module _ {K O : Type 0} (eqk : K → K → Bool) (kind : C → Bool) (cloned : O → O → Type 0) (def : K → (C → R) → O → List C → Type 0) (naming : Naming K C R) (kinds : (x y : D) → IsTrue (eqd x y) → w x ≡ w y) (all : All (λ p. w p.0 ≡ false) t.recording.now.pairs) (key : K) {es mid es' : Entries K C R O} (reply : Reply O) where
       -- which sent these on, and did what it wrote
-      module _ {sent : List (C × R) → List C → Type 0} (k : IsReply (record { same_call = eq; same_answer = same; same_key = eqk; is_write = kind; is_clone = cloned; def = def; naming = naming }) (invocation key m true) es mid sent reply es') (took : Took eqd touches s.recording.now t.recording.now (mapped_pairs f g k.gives.given) (map f k.writes)) (did : Done wrote w touches like answers s.value.now t.value.now (map f k.writes)) where
+      module _ {sent : List (C × R) → List C → Type 0} (k : IsReply (record { same_call = eq; same_answer = same; same_key = eqk; is_write = kind; is_clone = cloned; right = def; naming = naming }) (invocation key m true) es mid sent reply es') (took : Took eqd touches s.recording.now t.recording.now (mapped_pairs f g k.gives.given) (map f k.writes)) (did : Done wrote w touches like answers s.value.now t.value.now (map f k.writes)) where
         agreed : Agrees like (answers s.value.now) (mapped_pairs f g k.gives.given)
         agreed = agrees_mapped eq same eqd like f g apart answers_apart (answers s.value.now) m each k.gives.given ((k.gives.agreeing m (part_respects eq same eqd like f g apart answers_apart (answers s.value.now) m each (alike s.value.now))).1 k.agrees)
 
@@ -158,12 +158,12 @@ module _ {C D R Q : Type 0} (eq : C → C → Bool) (same : R → R → Bool) (e
           goes = part_goes;
           before = part_before;
           told = λ n fits. (map f k.writes, took.writes, (k.writes, refl, part_told n fits));
-          whole = took.whole;
+          complete = took.complete;
           fault = tt;
         }
 
       -- which reads alone
-      module _ (value : t.value.now ≡ s.value.now) (reads : (o : C → R) (writes : List C) → def key o reply.output writes → writes ≡ []) (k : IsReply (record { same_call = eq; same_answer = same; same_key = eqk; is_write = kind; is_clone = cloned; def = def; naming = naming }) (invocation key m true) es mid (Through f g (Took eqd touches s.recording.now t.recording.now)) reply es') where
+      module _ (value : t.value.now ≡ s.value.now) (reads : (o : C → R) (writes : List C) → def key o reply.output writes → writes ≡ []) (k : IsReply (record { same_call = eq; same_answer = same; same_key = eqk; is_write = kind; is_clone = cloned; right = def; naming = naming }) (invocation key m true) es mid (Through f g (Took eqd touches s.recording.now t.recording.now)) reply es') where
         none : k.writes ≡ []
         none = reads m k.writes (k.stands m (part_respects eq same eqd like f g apart answers_apart (answers s.value.now) m each (alike s.value.now)) k.agrees)
 
@@ -178,12 +178,12 @@ module _ {C D R Q : Type 0} (eq : C → C → Bool) (same : R → R → Bool) (e
           goes = part_goes k k.gives.are_sent nothing;
           before = part_before k k.gives.are_sent nothing;
           told = λ n fits part e. so part (part_told k k.gives.are_sent nothing n fits part e);
-          whole = k.gives.are_sent.whole;
+          complete = k.gives.are_sent.complete;
           fault = tt;
         }
 
       -- which writes, and may be late
-      module _ (touching : C → C → Bool) (same_touch : (x y : C) → touches (f x) (f y) ≡ touching x y) (k : IsReplyMut (record { same_call = eq; same_answer = same; same_key = eqk; is_write = kind; is_clone = cloned; def = def; naming = naming }) (invocation key m true) touching es mid (λ late. Through f g (λ P W. TookAs (Took eqd touches) MarkedLate late s.recording.now t.recording.now P W × Done wrote w touches like answers s.value.now t.value.now W)) reply es') where
+      module _ (touching : C → C → Bool) (same_touch : (x y : C) → touches (f x) (f y) ≡ touching x y) (k : IsReplyMut (record { same_call = eq; same_answer = same; same_key = eqk; is_write = kind; is_clone = cloned; right = def; naming = naming }) (invocation key m true) touching es mid (λ late. Through f g (λ P W. TookAs (Took eqd touches) MarkedLate late s.recording.now t.recording.now P W × Done wrote w touches like answers s.value.now t.value.now W)) reply es') where
         pub part_any_begun : HasBegun (Done wrote w touches like answers) like answers t
         part_any_begun = elim k [
           | inl a ↦ part_begun a a.gives.are_sent.0 a.gives.are_sent.1
@@ -197,7 +197,7 @@ module _ {C D R Q : Type 0} (eq : C → C → Bool) (same : R → R → Bool) (e
         ]
 
 -- what a call of a function of a part that reads wrote: nothing
-pub part_writes : {C D R Q K O : Type 0} (f : C → D) (g : R → Q) {M : Meaning K C R O} {eqd touches : D → D → Bool} {es mid es' : Entries K C R O} {key : K} (m : C → R) → Respects M.same_call M.same_answer m → (s t : Recording D Q) (reply : Reply O) (k : IsReply M (invocation key m true) es mid (Through f g (Took eqd touches s t)) reply es') → ((o : C → R) (writes : List C) → M.def key o reply.output writes → writes ≡ []) → t.writes ≡ s.writes
+pub part_writes : {C D R Q K O : Type 0} (f : C → D) (g : R → Q) {M : Meaning K C R O} {eqd touches : D → D → Bool} {es mid es' : Entries K C R O} {key : K} (m : C → R) → Respects M.same_call M.same_answer m → (s t : Recording D Q) (reply : Reply O) (k : IsReply M (invocation key m true) es mid (Through f g (Took eqd touches s t)) reply es') → ((o : C → R) (writes : List C) → M.right key o reply.output writes → writes ≡ []) → t.writes ≡ s.writes
 part_writes f g m respects s t reply k reads = k.gives.are_sent.writes ∙ (ap (λ W. s.writes ++ map f W) (reads m k.writes (k.stands m respects k.agrees)) ∙ append-nil s.writes)
 
 -- how calls of either part, and answers of either, are told apart: as those of the parts are
@@ -410,7 +410,7 @@ module _ {S U V X Y P Q : Type 0} (j : Joined S U V X Y P Q) where
       tells_asked_second = tells_asked_part j.parts.second_calls j.parts.second_likes j.parts.calls j.parts.likes second_call second_answer j.parts.by_calls.seconds j.parts.by_likes.seconds j.wrote are_writes touch Answers equal alike respects s t place same_recording has (j.parts.second_answers (j.second_of s.value.now)) (λ c. refl) value call read answer k
 
     -- after a call of a function of the first, which reads
-    module _ {K O : Type 0} (eqk : K → K → Bool) (cloned : O → O → Type 0) (def : K → (X → P) → O → List X → Type 0) (naming : Naming K X P) (all : All (λ p. are_writes p.0 ≡ false) t.recording.now.pairs) (key : K) {es mid es' : Entries K X P O} (reply : Reply O) (value : t.value.now ≡ s.value.now) (reads : (o : X → P) (writes : List X) → def key o reply.output writes → writes ≡ []) (k : IsReply (record { same_call = j.parts.first_calls; same_answer = j.parts.first_likes; same_key = eqk; is_write = j.parts.first_writes; is_clone = cloned; def = def; naming = naming }) (invocation key (j.parts.first_answers (j.first_of s.value.now)) true) es mid (Through first_call first_answer (Took j.parts.calls touch s.recording.now t.recording.now)) reply es') where
+    module _ {K O : Type 0} (eqk : K → K → Bool) (cloned : O → O → Type 0) (def : K → (X → P) → O → List X → Type 0) (naming : Naming K X P) (all : All (λ p. are_writes p.0 ≡ false) t.recording.now.pairs) (key : K) {es mid es' : Entries K X P O} (reply : Reply O) (value : t.value.now ≡ s.value.now) (reads : (o : X → P) (writes : List X) → def key o reply.output writes → writes ≡ []) (k : IsReply (record { same_call = j.parts.first_calls; same_answer = j.parts.first_likes; same_key = eqk; is_write = j.parts.first_writes; is_clone = cloned; right = def; naming = naming }) (invocation key (j.parts.first_answers (j.first_of s.value.now)) true) es mid (Through first_call first_answer (Took j.parts.calls touch s.recording.now t.recording.now)) reply es') where
       pub read_first_begun : HasBegun Did j.parts.likes Answers t
       read_first_begun = part_read_begun j.parts.first_calls j.parts.first_likes j.parts.calls j.parts.likes first_call first_answer j.parts.by_calls.firsts j.parts.by_likes.firsts j.wrote are_writes touch Answers equal alike respects s t place same_recording has (j.parts.first_answers (j.first_of s.value.now)) (λ c. refl) eqk j.parts.first_writes cloned def naming kinds all key reply value reads k
 
@@ -418,7 +418,7 @@ module _ {S U V X Y P Q : Type 0} (j : Joined S U V X Y P Q) where
       tells_read_first so = tells_read_part j.parts.first_calls j.parts.first_likes j.parts.calls j.parts.likes first_call first_answer j.parts.by_calls.firsts j.parts.by_likes.firsts j.wrote are_writes touch Answers equal alike respects s t place same_recording has (j.parts.first_answers (j.first_of s.value.now)) (λ c. refl) eqk j.parts.first_writes cloned def naming kinds all key reply value reads k so
 
     -- after a call of a function of the second, which reads
-    module _ {K O : Type 0} (eqk : K → K → Bool) (cloned : O → O → Type 0) (def : K → (Y → Q) → O → List Y → Type 0) (naming : Naming K Y Q) (all : All (λ p. are_writes p.0 ≡ false) t.recording.now.pairs) (key : K) {es mid es' : Entries K Y Q O} (reply : Reply O) (value : t.value.now ≡ s.value.now) (reads : (o : Y → Q) (writes : List Y) → def key o reply.output writes → writes ≡ []) (k : IsReply (record { same_call = j.parts.second_calls; same_answer = j.parts.second_likes; same_key = eqk; is_write = j.parts.second_writes; is_clone = cloned; def = def; naming = naming }) (invocation key (j.parts.second_answers (j.second_of s.value.now)) true) es mid (Through second_call second_answer (Took j.parts.calls touch s.recording.now t.recording.now)) reply es') where
+    module _ {K O : Type 0} (eqk : K → K → Bool) (cloned : O → O → Type 0) (def : K → (Y → Q) → O → List Y → Type 0) (naming : Naming K Y Q) (all : All (λ p. are_writes p.0 ≡ false) t.recording.now.pairs) (key : K) {es mid es' : Entries K Y Q O} (reply : Reply O) (value : t.value.now ≡ s.value.now) (reads : (o : Y → Q) (writes : List Y) → def key o reply.output writes → writes ≡ []) (k : IsReply (record { same_call = j.parts.second_calls; same_answer = j.parts.second_likes; same_key = eqk; is_write = j.parts.second_writes; is_clone = cloned; right = def; naming = naming }) (invocation key (j.parts.second_answers (j.second_of s.value.now)) true) es mid (Through second_call second_answer (Took j.parts.calls touch s.recording.now t.recording.now)) reply es') where
       pub read_second_begun : HasBegun Did j.parts.likes Answers t
       read_second_begun = part_read_begun j.parts.second_calls j.parts.second_likes j.parts.calls j.parts.likes second_call second_answer j.parts.by_calls.seconds j.parts.by_likes.seconds j.wrote are_writes touch Answers equal alike respects s t place same_recording has (j.parts.second_answers (j.second_of s.value.now)) (λ c. refl) eqk j.parts.second_writes cloned def naming kinds all key reply value reads k
 
@@ -426,7 +426,7 @@ module _ {S U V X Y P Q : Type 0} (j : Joined S U V X Y P Q) where
       tells_read_second so = tells_read_part j.parts.second_calls j.parts.second_likes j.parts.calls j.parts.likes second_call second_answer j.parts.by_calls.seconds j.parts.by_likes.seconds j.wrote are_writes touch Answers equal alike respects s t place same_recording has (j.parts.second_answers (j.second_of s.value.now)) (λ c. refl) eqk j.parts.second_writes cloned def naming kinds all key reply value reads k so
 
     -- after a call of a function of the first, which writes
-    module _ {K O : Type 0} (eqk : K → K → Bool) (cloned : O → O → Type 0) (def : K → (X → P) → O → List X → Type 0) (naming : Naming K X P) (all : All (λ p. are_writes p.0 ≡ false) t.recording.now.pairs) (key : K) {es mid es' : Entries K X P O} (reply : Reply O) (k : IsReplyMut (record { same_call = j.parts.first_calls; same_answer = j.parts.first_likes; same_key = eqk; is_write = j.parts.first_writes; is_clone = cloned; def = def; naming = naming }) (invocation key (j.parts.first_answers (j.first_of s.value.now)) true) j.parts.first_touches es mid (λ late. Through first_call first_answer (λ L W. TookAs (Took j.parts.calls touch) MarkedLate late s.recording.now t.recording.now L W × Did s.value.now t.value.now W)) reply es') where
+    module _ {K O : Type 0} (eqk : K → K → Bool) (cloned : O → O → Type 0) (def : K → (X → P) → O → List X → Type 0) (naming : Naming K X P) (all : All (λ p. are_writes p.0 ≡ false) t.recording.now.pairs) (key : K) {es mid es' : Entries K X P O} (reply : Reply O) (k : IsReplyMut (record { same_call = j.parts.first_calls; same_answer = j.parts.first_likes; same_key = eqk; is_write = j.parts.first_writes; is_clone = cloned; right = def; naming = naming }) (invocation key (j.parts.first_answers (j.first_of s.value.now)) true) j.parts.first_touches es mid (λ late. Through first_call first_answer (λ L W. TookAs (Took j.parts.calls touch) MarkedLate late s.recording.now t.recording.now L W × Did s.value.now t.value.now W)) reply es') where
       pub called_first_begun : HasBegun Did j.parts.likes Answers t
       called_first_begun = part_any_begun j.parts.first_calls j.parts.first_likes j.parts.calls j.parts.likes first_call first_answer j.parts.by_calls.firsts j.parts.by_likes.firsts j.wrote are_writes touch Answers equal alike respects s t place same_recording has (j.parts.first_answers (j.first_of s.value.now)) (λ c. refl) eqk j.parts.first_writes cloned def naming kinds all key reply j.parts.first_touches (λ x y. refl) k
 
@@ -434,7 +434,7 @@ module _ {S U V X Y P Q : Type 0} (j : Joined S U V X Y P Q) where
       tells_called_first = tells_any_part j.parts.first_calls j.parts.first_likes j.parts.calls j.parts.likes first_call first_answer j.parts.by_calls.firsts j.parts.by_likes.firsts j.wrote are_writes touch Answers equal alike respects s t place same_recording has (j.parts.first_answers (j.first_of s.value.now)) (λ c. refl) eqk j.parts.first_writes cloned def naming kinds all key reply j.parts.first_touches (λ x y. refl) k
 
     -- after a call of a function of the second, which writes
-    module _ {K O : Type 0} (eqk : K → K → Bool) (cloned : O → O → Type 0) (def : K → (Y → Q) → O → List Y → Type 0) (naming : Naming K Y Q) (all : All (λ p. are_writes p.0 ≡ false) t.recording.now.pairs) (key : K) {es mid es' : Entries K Y Q O} (reply : Reply O) (k : IsReplyMut (record { same_call = j.parts.second_calls; same_answer = j.parts.second_likes; same_key = eqk; is_write = j.parts.second_writes; is_clone = cloned; def = def; naming = naming }) (invocation key (j.parts.second_answers (j.second_of s.value.now)) true) j.parts.second_touches es mid (λ late. Through second_call second_answer (λ P W. TookAs (Took j.parts.calls touch) MarkedLate late s.recording.now t.recording.now P W × Did s.value.now t.value.now W)) reply es') where
+    module _ {K O : Type 0} (eqk : K → K → Bool) (cloned : O → O → Type 0) (def : K → (Y → Q) → O → List Y → Type 0) (naming : Naming K Y Q) (all : All (λ p. are_writes p.0 ≡ false) t.recording.now.pairs) (key : K) {es mid es' : Entries K Y Q O} (reply : Reply O) (k : IsReplyMut (record { same_call = j.parts.second_calls; same_answer = j.parts.second_likes; same_key = eqk; is_write = j.parts.second_writes; is_clone = cloned; right = def; naming = naming }) (invocation key (j.parts.second_answers (j.second_of s.value.now)) true) j.parts.second_touches es mid (λ late. Through second_call second_answer (λ P W. TookAs (Took j.parts.calls touch) MarkedLate late s.recording.now t.recording.now P W × Did s.value.now t.value.now W)) reply es') where
       pub called_second_begun : HasBegun Did j.parts.likes Answers t
       called_second_begun = part_any_begun j.parts.second_calls j.parts.second_likes j.parts.calls j.parts.likes second_call second_answer j.parts.by_calls.seconds j.parts.by_likes.seconds j.wrote are_writes touch Answers equal alike respects s t place same_recording has (j.parts.second_answers (j.second_of s.value.now)) (λ c. refl) eqk j.parts.second_writes cloned def naming kinds all key reply j.parts.second_touches (λ x y. refl) k
 
@@ -457,7 +457,7 @@ module _ {S U V X Y P Q : Type 0} (j : Joined S U V X Y P Q) where
       pub tells_refused_part : {Z : Type 0} {H : Z → (MultiCall X Y → MultiAnswer P Q) → Type 0} (r : Result Z Fault) → IsErrAnd r (λ f. f ≡ fault.Memory) → TellsMut (Goes Did touch j.parts.likes Answers) (Fits j.parts.calls j.parts.likes) s t r H
       tells_refused_part r h = tells_refused j.wrote are_writes touch j.parts.likes Answers equal alike respects place same_recording has value took r h
 
-  module _ {s t : Lent S (MultiCall X Y) (MultiAnswer P Q)} (place : t.value.ghost_name ≡ s.value.ghost_name) (same_recording : t.recording.ghost_name ≡ s.recording.ghost_name) (reached : Reaches Did s.value.now t.value.now) (broken : t.recording.now.whole ≡ false) where
+  module _ {s t : Lent S (MultiCall X Y) (MultiAnswer P Q)} (place : t.value.ghost_name ≡ s.value.ghost_name) (same_recording : t.recording.ghost_name ≡ s.recording.ghost_name) (reached : Reaches Did s.value.now t.value.now) (broken : t.recording.now.complete ≡ false) where
     -- after a fault that made the recording incomplete
     pub tells_failed_part : {fits : Recording (MultiCall X Y) (MultiAnswer P Q) → (MultiCall X Y → MultiAnswer P Q) → Type 0} {Z : Type 0} {H : Z → (MultiCall X Y → MultiAnswer P Q) → Type 0} (r : Result Z Fault) → IsErr r → TellsMut (Goes Did touch j.parts.likes Answers) fits s t r H
     tells_failed_part r h = tells_failed j.wrote are_writes touch j.parts.likes Answers place same_recording reached broken r h

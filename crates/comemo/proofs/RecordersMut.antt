@@ -27,7 +27,7 @@ use Rattle.comemo.specs.Finish.{BreaksOffRun}
 use Rattle.comemo.specs.FunctionMut.{Lent, Began, HasBegun, NoneTouches, Goes, TellsMut, TellsWrites, BrokeOffMut, IsFailed}
 use Rattle.comemo.specs.declared.pending.Fault.{Fault}
 use Rattle.comemo.specs.declared.pending.Fault.TheVariants as fault
-use Rattle.comemo.proofs.Recorders.{was_whole, in_time, agrees_from, fitted_from, taken_from}
+use Rattle.comemo.proofs.Recorders.{was_complete, in_time, agrees_from, fitted_from, taken_from}
 
 -- for authors of functions of two values that write: output and writes, both right by the parts' answers
 pub right_on_parts : {X Y P Q : Type 0} {right written : (X → P) → (Y → Q) → Type 0} (m : MultiCall X Y → MultiAnswer P Q) → OnParts m (λ a b. right a b × written a b) → OnParts m written × OnParts m right
@@ -82,7 +82,7 @@ done_at did i j k W e d = subst (λ v. did i v W) (sym e) d
 
 -- what was made incomplete is not complete
 pub spoiled_any : (b : Bool) {X : Type 0} → b ≡ false → b ≡ true → X
-spoiled_any b broken whole = let e : true ≡ false = sym whole ∙ broken in cc
+spoiled_any b broken complete = let e : true ≡ false = sym complete ∙ broken in cc
 
 module _ {V C R : Type 0} (wrote : V → C → V → Type 0) (w : C → Bool) (touches : C → C → Bool) (same : R → R → Bool) (answers : V → C → R) {eq : C → C → Bool} (calls : IsEquivalence eq) (laws : IsEquivalence same) (alike : (v : V) → Respects eq same (answers v)) where
   -- answers that agree with reads which no write touched agreed with them before the writes
@@ -105,18 +105,18 @@ module _ {V C R : Type 0} (wrote : V → C → V → Type 0) (w : C → Bool) (t
     }
 
     pub has_begun_on : Done wrote w touches same answers s.value.now t.value.now W → HasBegun (Done wrote w touches same answers) same answers s → HasBegun (Done wrote w touches same answers) same answers t
-    has_begun_on did has = λ whole. let b = has (was_whole took whole) in (b.0, began_on did b.0 b.1)
+    has_begun_on did has = λ complete. let b = has (was_complete took complete) in (b.0, began_on did b.0 b.1)
 
     module _ (has : HasBegun (Done wrote w touches same answers) same answers s) where
       -- answers that fit the recording fitted it before, and agree with what was taken
       pub fitted_mut : (n : C → R) → Fits eq same t.recording.now n → Fits eq same s.recording.now n
       fitted_mut n f =
-          let b = has (was_whole took f.whole) in
+          let b = has (was_complete took f.complete) in
           fitted_from calls laws (answers b.0) (alike b.0) P W took (b.1.agrees (in_time took f.early).0) (taken_agrees b.0 b.1 f.early) n f
 
       pub taken_mut : (n : C → R) → Fits eq same t.recording.now n → Agrees same n P
       taken_mut n f =
-          let b = has (was_whole took f.whole) in
+          let b = has (was_complete took f.complete) in
           taken_from calls laws (answers b.0) (alike b.0) P W took (b.1.agrees (in_time took f.early).0) (taken_agrees b.0 b.1 f.early) n f
 
     -- so it goes
@@ -124,9 +124,9 @@ module _ {V C R : Type 0} (wrote : V → C → V → Type 0) (w : C → Bool) (t
     goes_on place same_recording did = record {
       same_value = place;
       same_recording = same_recording;
-      was_whole = was_whole took;
-      began = λ whole start b. began_on did start b;
-      early = λ none whole l. took.late ∙ ap (λ x. x || touched touches s.recording.now.writes P) l ∙ none_touched touches none s.recording.now.writes P;
+      was_complete = was_complete took;
+      began = λ complete start b. began_on did start b;
+      early = λ none complete l. took.late ∙ ap (λ x. x || touched touches s.recording.now.writes P) l ∙ none_touched touches none s.recording.now.writes P;
       reached = λ start r. (r.0 ++ W, done_both wrote w touches same answers start s.value.now t.value.now r.0 W r.1 did);
     }
 
@@ -138,8 +138,8 @@ module _ {V C R : Type 0} (wrote : V → C → V → Type 0) (w : C → Bool) (t
     pub late_any : {X : Type 0} → t.recording.now.late ≡ false → X
     late_any l = let no : true ≡ false = sym took.2.late ∙ l in cc
 
-    late_whole : t.recording.now.whole ≡ s.recording.now.whole
-    late_whole = took.2.whole ∙ took.1.whole
+    late_complete : t.recording.now.complete ≡ s.recording.now.complete
+    late_complete = took.2.complete ∙ took.1.complete
 
     began_late : (start : V) → Began (Done wrote w touches same answers) same answers start s → Began (Done wrote w touches same answers) same answers start t
     began_late start b = record {
@@ -148,21 +148,21 @@ module _ {V C R : Type 0} (wrote : V → C → V → Type 0) (w : C → Bool) (t
     }
 
     pub has_begun_late : HasBegun (Done wrote w touches same answers) same answers s → HasBegun (Done wrote w touches same answers) same answers t
-    has_begun_late has = λ whole. let b = has (sym late_whole ∙ whole) in (b.0, began_late b.0 b.1)
+    has_begun_late has = λ complete. let b = has (sym late_complete ∙ complete) in (b.0, began_late b.0 b.1)
 
     pub tells_late : (NoneTouches touches → ⊥) → t.value.ghost_name ≡ s.value.ghost_name → t.recording.ghost_name ≡ s.recording.ghost_name → {X : Type 0} (x : X) {Q : X → (C → R) → List C → Type 0} → TellsWrites (Goes (Done wrote w touches same answers) touches same answers) (Fits eq same) s t (Ok x) Q
     tells_late touching place same_recording x = record {
       goes = record {
         same_value = place;
         same_recording = same_recording;
-        was_whole = λ whole. sym late_whole ∙ whole;
-        began = λ whole start b. began_late start b;
-        early = λ none whole l. absurd (touching none);
+        was_complete = λ complete. sym late_complete ∙ complete;
+        began = λ complete start b. began_late start b;
+        early = λ none complete l. absurd (touching none);
         reached = λ start r. (r.0 ++ W, done_both wrote w touches same answers start s.value.now t.value.now r.0 W r.1 did);
       };
       before = λ m f. late_any f.early;
       told = λ m f. late_any f.early;
-      whole = late_whole;
+      complete = late_complete;
       fault = tt;
     }
 
@@ -177,7 +177,7 @@ module _ {V C R : Type 0} (wrote : V → C → V → Type 0) (w : C → Bool) (t
         goes = goes_on s t ((call, k.noted) ∷ []) [] k.sent (read, tt) (k.alike, tt) place same_recording value;
         before = fitted_mut s t ((call, k.noted) ∷ []) [] k.sent (read, tt) (k.alike, tt) has;
         told = λ n f. joined laws (n call) k.noted answer (taken_mut s t ((call, k.noted) ∷ []) [] k.sent (read, tt) (k.alike, tt) has n f).0 (joined laws k.noted (answers s.value.now call) answer (turned laws (answers s.value.now call) k.noted k.alike) k.gives);
-        whole = k.sent.whole;
+        complete = k.sent.complete;
         fault = tt;
       }
 
@@ -195,7 +195,7 @@ module _ {V C R : Type 0} (wrote : V → C → V → Type 0) (w : C → Bool) (t
         goes = goes_on s t [] W took tt tt place same_recording did;
         before = fitted_mut s t [] W took tt tt has;
         told = λ n f. tt;
-        whole = took.whole;
+        complete = took.complete;
         fault = tt;
       }
 
@@ -206,7 +206,7 @@ module _ {V C R : Type 0} (wrote : V → C → V → Type 0) (w : C → Bool) (t
       goes = goes_on s t [] [] took tt tt place same_recording value;
       before = tt;
       told = tt;
-      whole = tt;
+      complete = tt;
       fault = λ e. let no : fault.Memory ≡ fault.Incomplete = sym h ∙ e in cc;
     }
 
@@ -219,17 +219,17 @@ fresh_began wrote w touches same answers s pairs writes = record {
 
 -- what a run did that began with an empty recording: the recording that it left began at the value that it got
 module _ {V C R : Type 0} (wrote : V → C → V → Type 0) (w : C → Bool) (touches : C → C → Bool) (same : R → R → Bool) (answers : V → C → R) {s t : Lent V C R} (goes : Goes (Done wrote w touches same answers) touches same answers s t) (pairs : s.recording.now.pairs ≡ []) (writes : s.recording.now.writes ≡ []) where
-  ran_began : t.recording.now.whole ≡ true → Began (Done wrote w touches same answers) same answers s.value.now t
-  ran_began whole = goes.began whole s.value.now (fresh_began wrote w touches same answers s pairs writes)
+  ran_began : t.recording.now.complete ≡ true → Began (Done wrote w touches same answers) same answers s.value.now t
+  ran_began complete = goes.began complete s.value.now (fresh_began wrote w touches same answers s pairs writes)
 
-  pub ran_agrees : (ps : List (C × R)) (whole late : Bool) → ps ≡ t.recording.now.pairs → whole ≡ t.recording.now.whole → late ≡ t.recording.now.late → whole ≡ true → late ≡ false → Agrees same (answers s.value.now) ps
-  ran_agrees ps whole late e a b is early = subst (λ x. Agrees same (answers s.value.now) x) (sym e) ((ran_began (sym a ∙ is)).agrees (sym b ∙ early))
+  pub ran_agrees : (ps : List (C × R)) (complete late : Bool) → ps ≡ t.recording.now.pairs → complete ≡ t.recording.now.complete → late ≡ t.recording.now.late → complete ≡ true → late ≡ false → Agrees same (answers s.value.now) ps
+  ran_agrees ps complete late e a b is early = subst (λ x. Agrees same (answers s.value.now) x) (sym e) ((ran_began (sym a ∙ is)).agrees (sym b ∙ early))
 
-  pub ran_did : (ws : List C) (whole : Bool) (j : V) → ws ≡ t.recording.now.writes → whole ≡ t.recording.now.whole → j ≡ t.value.now → whole ≡ true → Done wrote w touches same answers s.value.now j ws
-  ran_did ws whole j e a v is = subst (λ x. Done wrote w touches same answers s.value.now j x) (sym e) (subst (λ k. Done wrote w touches same answers s.value.now k t.recording.now.writes) (sym v) (ran_began (sym a ∙ is)).done)
+  pub ran_did : (ws : List C) (complete : Bool) (j : V) → ws ≡ t.recording.now.writes → complete ≡ t.recording.now.complete → j ≡ t.value.now → complete ≡ true → Done wrote w touches same answers s.value.now j ws
+  ran_did ws complete j e a v is = subst (λ x. Done wrote w touches same answers s.value.now j x) (sym e) (subst (λ k. Done wrote w touches same answers s.value.now k t.recording.now.writes) (sym v) (ran_began (sym a ∙ is)).done)
 
-  pub ran_early : s.recording.now.late ≡ false → (whole late : Bool) → whole ≡ t.recording.now.whole → late ≡ t.recording.now.late → NoneTouches touches → whole ≡ true → late ≡ false
-  ran_early l whole late a b none is = b ∙ goes.early none (sym a ∙ is) l
+  pub ran_early : s.recording.now.late ≡ false → (complete late : Bool) → complete ≡ t.recording.now.complete → late ≡ t.recording.now.late → NoneTouches touches → complete ≡ true → late ≡ false
+  ran_early l complete late a b none is = b ∙ goes.early none (sym a ∙ is) l
 
 module _ {V C R : Type 0} {did : V → V → List C → Type 0} {touches : C → C → Bool} {same : R → R → Bool} {answers : V → C → R} where
   -- first to a recorder, and then on to another
@@ -237,9 +237,9 @@ module _ {V C R : Type 0} {did : V → V → List C → Type 0} {touches : C →
   goes_both a b = record {
     same_value = b.same_value ∙ a.same_value;
     same_recording = b.same_recording ∙ a.same_recording;
-    was_whole = λ w. a.was_whole (b.was_whole w);
-    began = λ w start d. b.began w start (a.began (b.was_whole w) start d);
-    early = λ none w l. b.early none w (a.early none (b.was_whole w) l);
+    was_complete = λ w. a.was_complete (b.was_complete w);
+    began = λ w start d. b.began w start (a.began (b.was_complete w) start d);
+    early = λ none w l. b.early none w (a.early none (b.was_complete w) l);
     reached = λ start r. b.reached start (a.reached start r);
   }
 
@@ -256,12 +256,12 @@ module _ {V K C R O : Type 0} (M : Meaning K C R O) (wrote : V → C → V → T
       pub called_begun : HasBegun (Done wrote w touches M.same_answer answers) M.same_answer answers t
       called_begun = has_begun_on wrote w touches M.same_answer answers calls laws alike s t k.gives.given k.writes k.gives.are_sent.0 called_reads called_agrees k.gives.are_sent.1 has
 
-      pub tells_called : TellsWrites (Goes (Done wrote w touches M.same_answer answers) touches M.same_answer answers) (Fits M.same_call M.same_answer) s t (Ok reply.output) (λ output n writes. M.def key n output writes)
+      pub tells_called : TellsWrites (Goes (Done wrote w touches M.same_answer answers) touches M.same_answer answers) (Fits M.same_call M.same_answer) s t (Ok reply.output) (λ output n writes. M.right key n output writes)
       tells_called = record {
         goes = goes_on wrote w touches M.same_answer answers calls laws alike s t k.gives.given k.writes k.gives.are_sent.0 called_reads called_agrees place same_recording k.gives.are_sent.1;
         before = fitted_mut wrote w touches M.same_answer answers calls laws alike s t k.gives.given k.writes k.gives.are_sent.0 called_reads called_agrees has;
         told = λ n f. (k.writes, k.gives.are_sent.0.writes, k.stands n f.respects ((k.gives.agreeing n f.respects).0 (taken_mut wrote w touches M.same_answer answers calls laws alike s t k.gives.given k.writes k.gives.are_sent.0 called_reads called_agrees has n f)));
-        whole = k.gives.are_sent.0.whole;
+        complete = k.gives.are_sent.0.complete;
         fault = tt;
       }
 
@@ -273,7 +273,7 @@ module _ {V K C R O : Type 0} (M : Meaning K C R O) (wrote : V → C → V → T
         | inr b ↦ has_begun_late wrote w touches M.same_answer answers calls laws alike s t b.gives.given b.writes b.gives.are_sent.0 b.gives.are_sent.1 has
       ]
 
-      pub tells_any : TellsWrites (Goes (Done wrote w touches M.same_answer answers) touches M.same_answer answers) (Fits M.same_call M.same_answer) s t (Ok reply.output) (λ output n writes. M.def key n output writes)
+      pub tells_any : TellsWrites (Goes (Done wrote w touches M.same_answer answers) touches M.same_answer answers) (Fits M.same_call M.same_answer) s t (Ok reply.output) (λ output n writes. M.right key n output writes)
       tells_any = elim k [
         | inl a ↦ tells_called a
         | inr b ↦ tells_late wrote w touches M.same_answer answers calls laws alike s t b.gives.given b.writes b.gives.are_sent.0 b.gives.are_sent.1 b.touching place same_recording reply.output
@@ -293,30 +293,30 @@ module _ {V K C R O : Type 0} (M : Meaning K C R O) (wrote : V → C → V → T
       pub read_begun : HasBegun (Done wrote w touches M.same_answer answers) M.same_answer answers t
       read_begun = has_begun_on wrote w touches M.same_answer answers calls laws alike s t k.gives.given k.writes k.gives.are_sent read_reads read_agreed nothing has
 
-      pub tells_read : {P : O → (C → R) → Type 0} → ((n : C → R) → M.def key n reply.output k.writes → P reply.output n) → TellsMut (Goes (Done wrote w touches M.same_answer answers) touches M.same_answer answers) (Fits M.same_call M.same_answer) s t (Ok reply.output) (λ output n. P output n)
+      pub tells_read : {P : O → (C → R) → Type 0} → ((n : C → R) → M.right key n reply.output k.writes → P reply.output n) → TellsMut (Goes (Done wrote w touches M.same_answer answers) touches M.same_answer answers) (Fits M.same_call M.same_answer) s t (Ok reply.output) (λ output n. P output n)
       tells_read so = record {
         goes = goes_on wrote w touches M.same_answer answers calls laws alike s t k.gives.given k.writes k.gives.are_sent read_reads read_agreed place same_recording nothing;
         before = fitted_mut wrote w touches M.same_answer answers calls laws alike s t k.gives.given k.writes k.gives.are_sent read_reads read_agreed has;
         told = λ n f. so n (k.stands n f.respects ((k.gives.agreeing n f.respects).0 (taken_mut wrote w touches M.same_answer answers calls laws alike s t k.gives.given k.writes k.gives.are_sent read_reads read_agreed has n f)));
-        whole = k.gives.are_sent.whole;
+        complete = k.gives.are_sent.complete;
         fault = tt;
       }
 
 -- after a fault of a call the recording is incomplete
-pub failed_spoils : {K C R O : Type 0} {touches : C → C → Bool} {M : Meaning K C R O} {es es' : Entries K C R O} {call : Invocation K C R} {done : List C → Type 0} {s t : Recording C R} → IsFailed M touches es call done (BreaksOff (Took M.same_call touches) Spoiled s t) (SpoiledAfter (Took M.same_call touches) Spoiled s t) es' → t.whole ≡ false
-failed_spoils (inl a) = a.1.is_broken.spoiled.whole
-failed_spoils (inr b) = b.1.is_spoiled.spoiled.whole
+pub failed_spoils : {K C R O : Type 0} {touches : C → C → Bool} {M : Meaning K C R O} {es es' : Entries K C R O} {call : Invocation K C R} {done : List C → Type 0} {s t : Recording C R} → IsFailed M touches es call done (BreaksOff (Took M.same_call touches) Spoiled s t) (SpoiledAfter (Took M.same_call touches) Spoiled s t) es' → t.complete ≡ false
+failed_spoils (inl a) = a.1.is_broken.spoiled.complete
+failed_spoils (inr b) = b.1.is_spoiled.spoiled.complete
 
 -- after a call of a function that reads the writes are unchanged
 pub read_writes : {K C R O : Type 0} {touches : C → C → Bool} {M : Meaning K C R O} {es mid es' : Entries K C R O} {call : Invocation K C R} (s t : Recording C R) (reply : Reply O) (k : IsReply M call es mid (Took M.same_call touches s t) reply es') → k.writes ≡ [] → t.writes ≡ s.writes
 read_writes s t reply k none = k.gives.are_sent.writes ∙ (ap (λ W. s.writes ++ W) none ∙ append-nil s.writes)
 
-module _ {V C R : Type 0} (wrote : V → C → V → Type 0) (w : C → Bool) (touches : C → C → Bool) (same : R → R → Bool) (answers : V → C → R) {s t : Lent V C R} (same_value : t.value.ghost_name ≡ s.value.ghost_name) (same_recording : t.recording.ghost_name ≡ s.recording.ghost_name) (reached : Reaches (Done wrote w touches same answers) s.value.now t.value.now) (broken : t.recording.now.whole ≡ false) where
+module _ {V C R : Type 0} (wrote : V → C → V → Type 0) (w : C → Bool) (touches : C → C → Bool) (same : R → R → Bool) (answers : V → C → R) {s t : Lent V C R} (same_value : t.value.ghost_name ≡ s.value.ghost_name) (same_recording : t.recording.ghost_name ≡ s.recording.ghost_name) (reached : Reaches (Done wrote w touches same answers) s.value.now t.value.now) (broken : t.recording.now.complete ≡ false) where
   goes_failed : Goes (Done wrote w touches same answers) touches same answers s t
   goes_failed = record {
     same_value = same_value;
     same_recording = same_recording;
-    was_whole = λ w. spoiled_any _ broken w;
+    was_complete = λ w. spoiled_any _ broken w;
     began = λ w. spoiled_any _ broken w;
     early = λ none w. spoiled_any _ broken w;
     reached = λ start r. (r.0 ++ reached.0, done_both wrote w touches same answers start s.value.now t.value.now r.0 reached.0 r.1 reached.1);
@@ -325,12 +325,12 @@ module _ {V C R : Type 0} (wrote : V → C → V → Type 0) (w : C → Bool) (t
   -- after a fault that made the recording incomplete
   pub tells_failed : {fits : Recording C R → (C → R) → Type 0} {X : Type 0} {P : X → (C → R) → Type 0} (r : Result X Fault) → IsErr r → TellsMut (Goes (Done wrote w touches same answers) touches same answers) fits s t r P
   tells_failed (Ok x) h = let no : false ≡ true = h in cc
-  tells_failed (Err f) h = record { goes = goes_failed; before = tt; told = tt; whole = tt; fault = λ e. broken }
+  tells_failed (Err f) h = record { goes = goes_failed; before = tt; told = tt; complete = tt; fault = λ e. broken }
 
   -- the same, for a call of a function that writes
   pub writes_failed : {fits : Recording C R → (C → R) → Type 0} {X : Type 0} {P : X → (C → R) → List C → Type 0} (r : Result X Fault) → IsErr r → TellsWrites (Goes (Done wrote w touches same answers) touches same answers) fits s t r P
   writes_failed (Ok x) h = let no : false ≡ true = h in cc
-  writes_failed (Err f) h = record { goes = goes_failed; before = tt; told = tt; whole = tt; fault = λ e. broken }
+  writes_failed (Err f) h = record { goes = goes_failed; before = tt; told = tt; complete = tt; fault = λ e. broken }
 
 -- a call of a function that writes and that did not begin broke off what was sent to its sink
 pub broke_at_begin_mut : {K C R O : Type 0} {M : Meaning K C R O} {es : Entries K C R O} {call : Invocation K C R} {broken : List (C × R) → Type 0} (touches : C → C → Bool) → IsBrokenOff M es call broken → BrokeOffMut touches M.same_answer call.answers broken
@@ -338,7 +338,7 @@ broke_at_begin_mut touches is = record { pairs = is.pairs; agrees = λ _. is.agr
 
 -- so did its run: if it is complete it agrees with the answers where no write touches a read, and if not, its sink is
 -- incomplete and otherwise unchanged
-pub broke_by_run_mut : {K C R O : Type 0} (M : Meaning K C R O) (touches : C → C → Bool) (m : C → R) → IsEquivalence M.same_call → IsEquivalence M.same_answer → Respects M.same_call M.same_answer m → (broken : List (C × R) → Type 0) (pairs : List (C × R)) (whole : Bool) → (whole ≡ true → NoneTouches touches → Agrees M.same_answer m pairs) → (whole ≡ false → broken []) → (X : Type 0) {T E : Type 0} (r : Result T E) → OnErr r (X × BreaksOffRun M broken pairs) → OnErr r (X × BrokeOffMut touches M.same_answer m broken)
-broke_by_run_mut M touches m calls answers respects broken pairs whole agrees spoiled X (Ok x) e = tt
+pub broke_by_run_mut : {K C R O : Type 0} (M : Meaning K C R O) (touches : C → C → Bool) (m : C → R) → IsEquivalence M.same_call → IsEquivalence M.same_answer → Respects M.same_call M.same_answer m → (broken : List (C × R) → Type 0) (pairs : List (C × R)) (complete : Bool) → (complete ≡ true → NoneTouches touches → Agrees M.same_answer m pairs) → (complete ≡ false → broken []) → (X : Type 0) {T E : Type 0} (r : Result T E) → OnErr r (X × BreaksOffRun M broken pairs) → OnErr r (X × BrokeOffMut touches M.same_answer m broken)
+broke_by_run_mut M touches m calls answers respects broken pairs complete agrees spoiled X (Ok x) e = tt
 broke_by_run_mut M touches m calls answers respects broken pairs true agrees spoiled X (Err x) e = (e.0, record { pairs = e.1.given; agrees = λ none. Agrees-same calls answers m respects pairs e.1.given (IsSamePath-turned calls answers e.1.given pairs e.1.alike) (agrees refl none); is_broken = e.1.is_broken })
 broke_by_run_mut M touches m calls answers respects broken pairs false agrees spoiled X (Err x) e = (e.0, record { pairs = []; agrees = λ _. tt; is_broken = spoiled refl })

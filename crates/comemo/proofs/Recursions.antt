@@ -19,23 +19,23 @@ use Rattle.comemo.proofs.Recorders.{still_agrees, fitted, fits_taken, stays_earl
 module _ {V C R X : Type 0} {fits : Recording C R → (C → R) → Type 0} {s t : Recorded V C R} where
   -- a call of a function that calls itself is a call
   pub own_tells : {P : X → (C → R) → Type 0} (r : Result X Fault) → TellsOwn fits s t r P → Tells fits s t r P
-  own_tells (Ok x) a = record { same_value = a.same_value; before = a.before; told = a.told; whole = a.whole; fault = tt }
-  own_tells (Err f) a = record { same_value = a.same_value; before = tt; told = tt; whole = tt; fault = λ e. absurd (a.fault e) }
+  own_tells (Ok x) a = record { same_value = a.same_value; before = a.before; told = a.told; complete = a.complete; fault = tt }
+  own_tells (Err f) a = record { same_value = a.same_value; before = tt; told = tt; complete = tt; fault = λ e. absurd (a.fault e) }
 
   -- a question or a call of another function establishes what a nested call does, unless it fails with `Incomplete`
   pub tells_own : {P : X → (C → R) → Type 0} (r : Result X Fault) → Tells fits s t r P → IfErr r (λ f. f ≡ fault.Incomplete → ⊥) → TellsOwn fits s t r P
-  tells_own (Ok x) a never = record { same_value = a.same_value; before = a.before; told = a.told; whole = a.whole; fault = tt }
-  tells_own (Err f) a never = record { same_value = a.same_value; before = tt; told = tt; whole = tt; fault = never }
+  tells_own (Ok x) a never = record { same_value = a.same_value; before = a.before; told = a.told; complete = a.complete; fault = tt }
+  tells_own (Err f) a never = record { same_value = a.same_value; before = tt; told = tt; complete = tt; fault = never }
 
   -- a failure to allocate
   pub own_memory : {P : X → (C → R) → Type 0} (r : Result X Fault) → t.value ≡ s.value → IsErrAnd r (λ f. f ≡ fault.Memory) → TellsOwn fits s t r P
   own_memory (Ok x) v h = absurd h
-  own_memory (Err f) v h = record { same_value = v; before = tt; told = tt; whole = tt; fault = λ e. let no : fault.Memory ≡ fault.Incomplete = sym h ∙ e in cc }
+  own_memory (Err f) v h = record { same_value = v; before = tt; told = tt; complete = tt; fault = λ e. let no : fault.Memory ≡ fault.Incomplete = sym h ∙ e in cc }
 
 module _ {V C R : Type 0} {fits : Recording C R → (C → R) → Type 0} {X Y : Type 0} {P : X → (C → R) → Type 0} {Q : Y → (C → R) → Type 0} {x : X} {y : Y} where
   -- what was established establishes what follows from it
   pub own_as : {s t : Recorded V C R} → TellsOwn fits s t (Ok x) P → ((m : C → R) → fits t.recording m → P x m → Q y m) → TellsOwn fits s t (Ok y) Q
-  own_as a so = record { same_value = a.same_value; before = a.before; told = λ m f. so m f (a.told m f); whole = a.whole; fault = tt }
+  own_as a so = record { same_value = a.same_value; before = a.before; told = λ m f. so m f (a.told m f); complete = a.complete; fault = tt }
 
   -- two calls in turn establish what follows from both
   pub own_then : {Z : Type 0} {s t u : Recorded V C R} {S : Z → (C → R) → Type 0} {z : Z} → TellsOwn fits s t (Ok x) P → TellsOwn fits t u (Ok y) Q → ((m : C → R) → fits u.recording m → P x m → Q y m → S z m) → TellsOwn fits s u (Ok z) S
@@ -43,7 +43,7 @@ module _ {V C R : Type 0} {fits : Recording C R → (C → R) → Type 0} {X Y :
     same_value = b.same_value ∙ a.same_value;
     before = λ m f. a.before m (b.before m f);
     told = λ m f. both m f (a.told m (b.before m f)) (b.told m f);
-    whole = b.whole ∙ a.whole;
+    complete = b.complete ∙ a.complete;
     fault = tt;
   }
 
@@ -53,18 +53,18 @@ module _ {V C R : Type 0} {fits : Recording C R → (C → R) → Type 0} {X Y :
     same_value = b.same_value ∙ a.same_value;
     before = λ m f. a.before m (b.before m f);
     told = λ m f. both m f (a.told m (b.before m f)) (b.told m f);
-    whole = b.whole ∙ a.whole;
+    complete = b.complete ∙ a.complete;
     fault = tt;
   }
 
 -- what a recorder with a complete recording learnt holds of the answers of its value, as seen at the end
-pub own_now : {V C R X : Type 0} {eq : C → C → Bool} {same : R → R → Bool} {s t seen : Recorded V C R} {P : X → (C → R) → Type 0} (r : Result X Fault) (answers : V → C → R) → ((v : V) → Respects eq same (answers v)) → s.recording.whole ≡ true → seen ≡ t → IsRecorded same (answers seen.value) seen.recording → TellsOwn (Fits eq same) s t r P → IfOk r (λ x. P x (answers s.value))
+pub own_now : {V C R X : Type 0} {eq : C → C → Bool} {same : R → R → Bool} {s t seen : Recorded V C R} {P : X → (C → R) → Type 0} (r : Result X Fault) (answers : V → C → R) → ((v : V) → Respects eq same (answers v)) → s.recording.complete ≡ true → seen ≡ t → IsRecorded same (answers seen.value) seen.recording → TellsOwn (Fits eq same) s t r P → IfOk r (λ x. P x (answers s.value))
 own_now {eq = eq} {same = same} {s = s} {t = t} {P = P} (Ok x) answers alike w is kept a =
     let agrees : IsRecorded same (answers t.value) t.recording = subst (λ u. IsRecorded same (answers u.value) u.recording) is kept in
-    subst (λ v. P x (answers v)) a.same_value (a.told (answers t.value) (record { whole = a.whole ∙ w; early = agrees.early; respects = alike t.value; agrees = agrees.agrees (a.whole ∙ w) }))
+    subst (λ v. P x (answers v)) a.same_value (a.told (answers t.value) (record { complete = a.complete ∙ w; early = agrees.early; respects = alike t.value; agrees = agrees.agrees (a.complete ∙ w) }))
 own_now (Err f) answers alike w is kept a = tt
 
-module _ {K C R O : Type 0} (M : Meaning K C R O) (calls : IsEquivalence M.same_call) (answers : IsEquivalence M.same_answer) (m : C → R) (respects : Respects M.same_call M.same_answer m) {V : Type 0} {touches : C → C → Bool} {s t : Recorded V C R} (before : s.recording.whole ≡ true → Agrees M.same_answer m s.recording.pairs) (pairs : List (C × R)) (writes : List C) (agrees : Agrees M.same_answer m pairs) (gives : Gives M (Took M.same_call touches s.recording t.recording) pairs writes) where
+module _ {K C R O : Type 0} (M : Meaning K C R O) (calls : IsEquivalence M.same_call) (answers : IsEquivalence M.same_answer) (m : C → R) (respects : Respects M.same_call M.same_answer m) {V : Type 0} {touches : C → C → Bool} {s t : Recorded V C R} (before : s.recording.complete ≡ true → Agrees M.same_answer m s.recording.pairs) (pairs : List (C × R)) (writes : List C) (agrees : Agrees M.same_answer m pairs) (gives : Gives M (Took M.same_call touches s.recording t.recording) pairs writes) where
   -- a call that rests on pairs with which the present answers agree, and which went to the recorder, establishes what
   -- is right by these
   pub own_given : {X : Type 0} (output : X) {P : X → (C → R) → Type 0} → t.value ≡ s.value → ((n : C → R) → Respects M.same_call M.same_answer n → Agrees M.same_answer n pairs → P output n) → TellsOwn (Fits M.same_call M.same_answer) s t (Ok output) P
@@ -74,7 +74,7 @@ module _ {K C R O : Type 0} (M : Meaning K C R O) (calls : IsEquivalence M.same_
         same_value = value;
         before = fitted calls answers m respects gives.given writes gives.are_sent taken before;
         told = λ n f. right n f.respects ((gives.agreeing n f.respects).0 (fits_taken calls answers m respects gives.given writes gives.are_sent taken before n f));
-        whole = gives.are_sent.whole;
+        complete = gives.are_sent.complete;
         fault = tt;
       }
 

@@ -32,14 +32,14 @@ module _ {C D R Q : Type 0} (eq : C → C → Bool) (same : R → R → Bool) (e
   -- what a function of a part added to a recording of the whole, whose answers are n
   module _ {K O : Type 0} (eqk : K → K → Bool) (w : C → Bool) (cloned : O → O → Type 0) (def : K → (C → R) → O → List C → Type 0) (naming : Naming K C R) (calls : IsEquivalence eqd) (answers : IsEquivalence like) (n : D → Q) (respects : Respects eqd like n) (m : C → R) (each : (c : C) → n (f c) ≡ g (m c)) (key : K)
       (es mid es' : Entries K C R O) (reply : Reply O) {touches : D → D → Bool} where
-    module _ {s t : Recording D Q} (before : s.whole ≡ true → Agrees like n s.pairs) (k : IsReply (record { same_call = eq; same_answer = same; same_key = eqk; is_write = w; is_clone = cloned; def = def; naming = naming }) (invocation key m true) es mid (Through f g (Took eqd touches s t)) reply es') where
+    module _ {s t : Recording D Q} (before : s.complete ≡ true → Agrees like n s.pairs) (k : IsReply (record { same_call = eq; same_answer = same; same_key = eqk; is_write = w; is_clone = cloned; right = def; naming = naming }) (invocation key m true) es mid (Through f g (Took eqd touches s t)) reply es') where
       given_agrees : Agrees like n (mapped_pairs f g k.gives.given)
       given_agrees = agrees_mapped n m each k.gives.given ((k.gives.agreeing m (part_respects n m each respects)).1 k.agrees)
 
-      pub still_agrees_through : t.whole ≡ true → Agrees like n t.pairs
+      pub still_agrees_through : t.complete ≡ true → Agrees like n t.pairs
       still_agrees_through = still_agrees calls answers n respects (mapped_pairs f g k.gives.given) (map f k.writes) k.gives.are_sent given_agrees before
 
-    pub keeps_through : (s t : Recording D Q) → IsRecorded like n s → (k : IsReply (record { same_call = eq; same_answer = same; same_key = eqk; is_write = w; is_clone = cloned; def = def; naming = naming }) (invocation key m true) es mid (Through f g (Took eqd touches s t)) reply es') → ((m : C → R) (writes : List C) → def key m reply.output writes → writes ≡ []) → IsRecorded like n t
+    pub keeps_through : (s t : Recording D Q) → IsRecorded like n s → (k : IsReply (record { same_call = eq; same_answer = same; same_key = eqk; is_write = w; is_clone = cloned; right = def; naming = naming }) (invocation key m true) es mid (Through f g (Took eqd touches s t)) reply es') → ((m : C → R) (writes : List C) → def key m reply.output writes → writes ≡ []) → IsRecorded like n t
     keeps_through s t before k reads = record {
       agrees = still_agrees_through before.agrees k;
       no_writes = k.gives.are_sent.writes ∙ ap (λ V. V ++ map f k.writes) before.no_writes ∙ ap (map f) (reads m k.writes (k.stands m (part_respects n m each respects) k.agrees));
@@ -47,7 +47,7 @@ module _ {C D R Q : Type 0} (eq : C → C → Bool) (same : R → R → Bool) (e
     }
 
     -- and what the run around it learnt
-    pub tells_through : {V : Type 0} {s t : Recorded V D Q} → t.value ≡ s.value → (s.recording.whole ≡ true → Agrees like n s.recording.pairs) → IsReply (record { same_call = eq; same_answer = same; same_key = eqk; is_write = w; is_clone = cloned; def = def; naming = naming }) (invocation key m true) es mid (Through f g (Took eqd touches s.recording t.recording)) reply es' → {P : O → (C → R) → Type 0} → ((m : C → R) (writes : List C) → def key m reply.output writes → P reply.output m) → Tells (Fits eqd like) s t (Ok reply.output) (λ output o. OnPart f g o (P output))
+    pub tells_through : {V : Type 0} {s t : Recorded V D Q} → t.value ≡ s.value → (s.recording.complete ≡ true → Agrees like n s.recording.pairs) → IsReply (record { same_call = eq; same_answer = same; same_key = eqk; is_write = w; is_clone = cloned; right = def; naming = naming }) (invocation key m true) es mid (Through f g (Took eqd touches s.recording t.recording)) reply es' → {P : O → (C → R) → Type 0} → ((m : C → R) (writes : List C) → def key m reply.output writes → P reply.output m) → Tells (Fits eqd like) s t (Ok reply.output) (λ output o. OnPart f g o (P output))
     tells_through {s = s} {t = t} value before k so = record {
       same_value = value;
       before = fitted calls answers n respects (mapped_pairs f g k.gives.given) (map f k.writes) k.gives.are_sent (given_agrees before k) before;
@@ -55,7 +55,7 @@ module _ {C D R Q : Type 0} (eq : C → C → Bool) (same : R → R → Bool) (e
           let r = part_respects o part e fits.respects in
           let all = fits_taken calls answers n respects (mapped_pairs f g k.gives.given) (map f k.writes) k.gives.are_sent (given_agrees before k) before o fits in
           so part k.writes (k.stands part r ((k.gives.agreeing part r).0 (agrees_part o part e k.gives.given all)));
-      whole = k.gives.are_sent.whole;
+      complete = k.gives.are_sent.complete;
       fault = tt;
     }
 
@@ -65,11 +65,11 @@ module _ {C D R Q : Type 0} (eq : C → C → Bool) (same : R → R → Bool) (e
     pairs = mapped_pairs f g is.pairs;
     agrees = agrees_mapped n m each is.pairs is.agrees;
     is_broken = record {
-      front = mapped_pairs f g is.is_broken.front;
+      prefix = mapped_pairs f g is.is_broken.prefix;
       rest = mapped_pairs f g is.is_broken.rest;
-      parts = ap (mapped_pairs f g) is.is_broken.parts ∙ map-append (λ (p : C × R). (f p.0, g p.1)) is.is_broken.front is.is_broken.rest;
+      parts = ap (mapped_pairs f g) is.is_broken.parts ∙ map-append (λ (p : C × R). (f p.0, g p.1)) is.is_broken.prefix is.is_broken.rest;
       mid = inner is.is_broken.mid;
-      taken = sends is.is_broken.mid is.is_broken.front is.is_broken.taken;
+      taken = sends is.is_broken.mid is.is_broken.prefix is.is_broken.taken;
       spoiled = spoiled is.is_broken.mid t is.is_broken.spoiled;
     };
   }

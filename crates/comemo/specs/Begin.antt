@@ -30,7 +30,7 @@ module _ {K C R O : Type 0} (M : Meaning K C R O) (es : Entries K C R O) (call :
   -- agrees
   pub record HasToRun (own : K) : Type 0 where
     pub has_key : IsTrue (M.same_key call.key own)
-    pub right : (n : C → R) (output : O) (writes : List C) → Respects M.same_call M.same_answer n → M.def own n output writes → M.def call.key n output writes
+    pub right : (n : C → R) (output : O) (writes : List C) → Respects M.same_call M.same_answer n → M.right own n output writes → M.right call.key n output writes
     pub named : (pairs : List (C × R)) → IsNamedRun M own pairs → IsNamedRun M call.key pairs
     pub none : call.enabled ≡ true → HasNone M es call
 
@@ -38,12 +38,12 @@ module _ {K C R O : Type 0} (M : Meaning K C R O) (es : Entries K C R O) (call :
   -- enabled, no entry has the key and agrees
   pub record IsRun (begun : PendingRun K C R) : Type 0 where
     pub has_key : IsTrue (M.same_key call.key begun.key)
-    pub right : (n : C → R) (output : O) (writes : List C) → Respects M.same_call M.same_answer n → M.def begun.key n output writes → M.def call.key n output writes
+    pub right : (n : C → R) (output : O) (writes : List C) → Respects M.same_call M.same_answer n → M.right begun.key n output writes → M.right call.key n output writes
     pub named : (pairs : List (C × R)) → IsNamedRun M begun.key pairs → IsNamedRun M call.key pairs
     pub is_enabled : begun.enabled ≡ call.enabled
     pub pairs : begun.recording.pairs ≡ []
     pub writes : begun.recording.writes ≡ []
-    pub whole : begun.recording.whole ≡ true
+    pub complete : begun.recording.complete ≡ true
     pub early : begun.recording.late ≡ false
     pub none : call.enabled ≡ true → HasNone M es call
 
@@ -62,7 +62,7 @@ module _ {K C R O : Type 0} (M : Meaning K C R O) (es : Entries K C R O) (call :
     pub settled : IsNamedRun M call.key pairs
     pub are_done : done writes
     pub are_sent : sent pairs writes
-    pub right : M.def call.key call.answers output writes
+    pub right : M.right call.key call.answers output writes
 
   -- a call that did not begin: its sink, broken off, took a prefix of these pairs, which are none or the path of an
   -- entry that has the key and agrees with the answers
@@ -78,15 +78,15 @@ module _ {K C R O : Type 0} (M : Meaning K C R O) (es : Entries K C R O) (call :
   pub record IsStopped (done : List C → Type 0) (spoiled : List (C × R) → List C → Type 0) : Type 0 where
     pub pairs : List (C × R)
     pub output : O
-    pub front : List C
+    pub prefix : List C
     pub next : C
     pub rest : List C
     pub is_refused : M.is_write next ≡ true
     pub is_enabled : call.enabled ≡ true
-    pub kept : Has M es call (run call.key pairs output (front ++ next ∷ rest))
+    pub kept : Has M es call (run call.key pairs output (prefix ++ next ∷ rest))
     pub agrees : Agrees M.same_answer call.answers pairs
-    pub stands : Stands M (run call.key pairs output (front ++ next ∷ rest))
+    pub stands : Stands M (run call.key pairs output (prefix ++ next ∷ rest))
     pub reads : All (λ p. M.is_write p.0 ≡ false) pairs
-    pub written : All (λ c. M.is_write c ≡ true) (front ++ next ∷ rest)
-    pub are_done : done front
-    pub is_spoiled : spoiled pairs front
+    pub written : All (λ c. M.is_write c ≡ true) (prefix ++ next ∷ rest)
+    pub are_done : done prefix
+    pub is_spoiled : spoiled pairs prefix

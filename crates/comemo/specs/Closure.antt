@@ -24,7 +24,7 @@ module _ {K C R O : Type 0} (M : Meaning K C R O) (es : Entries K C R O) (call :
       pub unchanged : did input i.now []
       pub pairs : (recorded p.now).pairs ≡ []
       pub writes : (recorded p.now).writes ≡ []
-      pub whole : (recorded p.now).whole ≡ true
+      pub complete : (recorded p.now).complete ≡ true
       pub early : (recorded p.now).late ≡ false
 
     module _ (post : MutBor I → MutBor P → Result O Fault → MutBor I → MutBor P → Type 0) (input : I) where
@@ -49,7 +49,7 @@ module _ {K C R O : Type 0} (M : Meaning K C R O) (es : Entries K C R O) (call :
         -- exactly if its recording is incomplete; or the closure returned that fault
         abbrev pub IsFault : Fault → Type 0
         IsFault f =
-            ((f ≡ fault.Memory) × did input left []) ⊎ ((f ≡ fault.Write) × IsStopped M es call (did input left) (λ _ _. ⊤)) ⊎ ((output : O) × (t : Recording C R) × RanTo (Ok output) t × ((f ≡ fault.Incomplete) ↔ (t.whole ≡ false)) × (f ≡ fault.Write → ⊥)) ⊎ ((t : Recording C R) × RanTo (Err f) t)
+            ((f ≡ fault.Memory) × did input left []) ⊎ ((f ≡ fault.Write) × IsStopped M es call (did input left) (λ _ _. ⊤)) ⊎ ((output : O) × (t : Recording C R) × RanTo (Ok output) t × ((f ≡ fault.Incomplete) ↔ (t.complete ≡ false)) × (f ≡ fault.Write → ⊥)) ⊎ ((t : Recording C R) × RanTo (Err f) t)
 
         -- what a failed call that left the input so did to sink and entries: the entries are unchanged, and the sink is
         -- as after a call that did not begin; or the closure failed or its recording is incomplete, and the sink took
@@ -57,7 +57,7 @@ module _ {K C R O : Type 0} (M : Meaning K C R O) (es : Entries K C R O) (call :
         -- hit touched its entry, and stopped
         abbrev pub IsBroken : (List (C × R) → Type 0) → (List (C × R) → List C → Type 0) → Entries K C R O → Type 0
         IsBroken broken after es' =
-            ((es' ≡ es) × ((did input left [] × IsBrokenOff M es call broken) ⊎ ((r : Result O Fault) × (t : Recording C R) × RanTo r t × IfOk r (λ _. t.whole ≡ false) × broken []) ⊎ ((output : O) × (t : Recording C R) × RanTo (Ok output) t × (t.whole ≡ true) × BreaksOffRun M broken t.pairs)))
+            ((es' ≡ es) × ((did input left [] × IsBrokenOff M es call broken) ⊎ ((r : Result O Fault) × (t : Recording C R) × RanTo r t × IfOk r (λ _. t.complete ≡ false) × broken []) ⊎ ((output : O) × (t : Recording C R) × RanTo (Ok output) t × (t.complete ≡ true) × BreaksOffRun M broken t.pairs)))
             ⊎ (Touches M es call es' × IsStopped M es call (did input left) after)
 
   -- the closure, with these runs, ran and returned the output; its recording, which is complete, went to the sink, and
@@ -65,7 +65,7 @@ module _ {K C R O : Type 0} (M : Meaning K C R O) (es : Entries K C R O) (call :
   pub record Ended (ran : Result O Fault → Recording C R → Type 0) (sent : Bool → List (C × R) → List C → Type 0) (output : O) (reply : How) (es' : Entries K C R O) : Type 0 where
     pub recording : Recording C R
     pub has_run : ran (Ok output) recording
-    pub whole : recording.whole ≡ true
+    pub complete : recording.complete ≡ true
     pub own : K
     pub has_key : IsTrue (M.same_key call.key own)
     pub stands : recording.late ≡ false → Stands M (run call.key recording.pairs output recording.writes)

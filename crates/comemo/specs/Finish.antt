@@ -36,7 +36,7 @@ pub record Gives {K C R O : Type 0} (M : Meaning K C R O) (sent : List (C × R) 
 -- the reply says what became of the entries; it is late exactly if the recording is, and disabled exactly if the
 -- recording isn't late and the run began so; if the asked calls are named, a recording that isn't late is a run of them
 pub record Finished {K C R O : Type 0} (M : Meaning K C R O) (es : Entries K C R O) (pending : PendingRun K C R) (sent : List (C × R) → List C → Type 0) (output : O) (reply : Reply O) (es' : Entries K C R O) : Type 0 where
-  pub whole : pending.recording.whole ≡ true
+  pub complete : pending.recording.complete ≡ true
   pub same : reply.output ≡ output
   pub ends : Ends M es (came_to pending output) reply.how es'
   pub late : (reply.how ≡ how.Late) ↔ (pending.recording.late ≡ true)

@@ -19,14 +19,14 @@ recorded_code {V} {C} {R} v c r = code_by (V × Recording C R) (coded× v (recor
 -- a recorder's invariant: while the recording is complete, the value's answers agree with it; and there are no writes,
 -- so no read is late
 pub record IsRecorded {C R : Type 0} (same : R → R → Bool) (m : C → R) (recording : Recording C R) : Type 0 where
-  pub agrees : recording.whole ≡ true → Agrees same m recording.pairs
+  pub agrees : recording.complete ≡ true → Agrees same m recording.pairs
   pub no_writes : recording.writes ≡ []
   pub early : recording.late ≡ false
 
 module _ {C R : Type 0} (eq : C → C → Bool) (same : R → R → Bool) where
   -- the recording is complete and not late, and the answers, which treat equal calls alike, agree with it
   pub record Fits (recording : Recording C R) (m : C → R) : Type 0 where
-    pub whole : recording.whole ≡ true
+    pub complete : recording.complete ≡ true
     pub early : recording.late ≡ false
     pub respects : Respects eq same m
     pub agrees : Agrees same m recording.pairs
@@ -47,7 +47,7 @@ module _ {C R : Type 0} (eq : C → C → Bool) (same : R → R → Bool) where
 -- incomplete or late: its pairs are causal and complete
 abbrev pub SettlesAs : {K C R X : Type 0} → (K → K → Bool) → (C → C → Bool) → (R → R → Bool) → Naming K C R → K → Recording C R → Result X Fault → Type 0
 SettlesAs eqk eq same unnamed key t r = Unit {0}
-SettlesAs eqk eq same (names asks) key t r = OnOk r (t.whole ≡ true → t.late ≡ false → IsRun eq same (AsksAlike eqk eq asks key) t.pairs)
+SettlesAs eqk eq same (names asks) key t r = OnOk r (t.complete ≡ true → t.late ≡ false → IsRun eq same (AsksAlike eqk eq asks key) t.pairs)
 
 -- so it is for a run that began with no pairs
 abbrev pub SettlesRun : {K C R X : Type 0} → (K → K → Bool) → (C → C → Bool) → (R → R → Bool) → Naming K C R → K → Recording C R → Recording C R → Result X Fault → Type 0
@@ -60,8 +60,8 @@ pub record Tells {V C R X : Type 0} (fits : Recording C R → (C → R) → Type
   pub same_value : t.value ≡ s.value
   pub before : OnOk r ((m : C → R) → fits t.recording m → fits s.recording m)
   pub told : IfOk r (λ answer. (m : C → R) → fits t.recording m → P answer m)
-  pub whole : OnOk r (t.recording.whole ≡ s.recording.whole)
-  pub fault : IfErr r (λ f. f ≡ fault.Incomplete → t.recording.whole ≡ false)
+  pub complete : OnOk r (t.recording.complete ≡ s.recording.complete)
+  pub fault : IfErr r (λ f. f ≡ fault.Incomplete → t.recording.complete ≡ false)
 
 -- what holds of the answers of a part, whatever they are: the part's calls are calls of the whole by f, and its answers
 -- are answers of the whole by g

@@ -29,7 +29,7 @@ module _ {V C R : Type 0} (did : V → V → List C → Type 0) (same : R → R 
 
   -- while the recording is complete, it began at some value
   abbrev pub HasBegun : Lent V C R → Type 0
-  HasBegun s = s.recording.now.whole ≡ true → (start : V) × Began start s
+  HasBegun s = s.recording.now.complete ≡ true → (start : V) × Began start s
 
 -- no write touches a read
 abbrev pub NoneTouches : {C : Type 0} → (C → C → Bool) → Type 0
@@ -42,9 +42,9 @@ module _ {V C R : Type 0} (did : V → V → List C → Type 0) (touches : C →
   pub record Goes (s t : Lent V C R) : Type 0 where
     pub same_value : t.value.ghost_name ≡ s.value.ghost_name
     pub same_recording : t.recording.ghost_name ≡ s.recording.ghost_name
-    pub was_whole : t.recording.now.whole ≡ true → s.recording.now.whole ≡ true
-    pub began : t.recording.now.whole ≡ true → (start : V) → Began did same answers start s → Began did same answers start t
-    pub early : NoneTouches touches → t.recording.now.whole ≡ true → s.recording.now.late ≡ false → t.recording.now.late ≡ false
+    pub was_complete : t.recording.now.complete ≡ true → s.recording.now.complete ≡ true
+    pub began : t.recording.now.complete ≡ true → (start : V) → Began did same answers start s → Began did same answers start t
+    pub early : NoneTouches touches → t.recording.now.complete ≡ true → s.recording.now.late ≡ false → t.recording.now.late ≡ false
     pub reached : (start : V) → Reaches did start s.value.now → Reaches did start t.value.now
 
 -- the writes that were recorded from s to t satisfy this
@@ -63,8 +63,8 @@ module _ {V C R : Type 0} (leads : Lent V C R → Lent V C R → Type 0) where
     pub goes : leads s t
     pub before : OnOk r ((m : C → R) → fits t.recording.now m → fits s.recording.now m)
     pub told : IfOk r (λ answer. (m : C → R) → fits t.recording.now m → P answer m)
-    pub whole : OnOk r (t.recording.now.whole ≡ s.recording.now.whole)
-    pub fault : IfErr r (λ f. f ≡ fault.Incomplete → t.recording.now.whole ≡ false)
+    pub complete : OnOk r (t.recording.now.complete ≡ s.recording.now.complete)
+    pub fault : IfErr r (λ f. f ≡ fault.Incomplete → t.recording.now.complete ≡ false)
 
   -- what a run learns from a call of a function that writes: the same, where P holds of the answer, of all that fits,
   -- and of the writes that were recorded since
@@ -72,8 +72,8 @@ module _ {V C R : Type 0} (leads : Lent V C R → Lent V C R → Type 0) where
     pub goes : leads s t
     pub before : OnOk r ((m : C → R) → fits t.recording.now m → fits s.recording.now m)
     pub told : IfOk r (λ answer. (m : C → R) → fits t.recording.now m → Since s t (P answer m))
-    pub whole : OnOk r (t.recording.now.whole ≡ s.recording.now.whole)
-    pub fault : IfErr r (λ f. f ≡ fault.Incomplete → t.recording.now.whole ≡ false)
+    pub complete : OnOk r (t.recording.now.complete ≡ s.recording.now.complete)
+    pub fault : IfErr r (λ f. f ≡ fault.Incomplete → t.recording.now.complete ≡ false)
 
 -- what holds after a hit that stopped at a refused write
 abbrev pub WasStopped : {K C R O : Type 0} → Meaning K C R O → Entries K C R O → Invocation K C R → (List C → Type 0) → (List (C × R) → List C → Type 0) → Entries K C R O → Type 0

@@ -25,7 +25,7 @@ pub record TellsOwn {V C R X : Type 0} (fits : Recording C R → (C → R) → T
   pub same_value : t.value ≡ s.value
   pub before : OnOk r ((m : C → R) → fits t.recording m → fits s.recording m)
   pub told : IfOk r (λ answer. (m : C → R) → fits t.recording m → P answer m)
-  pub whole : OnOk r (t.recording.whole ≡ s.recording.whole)
+  pub complete : OnOk r (t.recording.complete ≡ s.recording.complete)
   pub fault : IfErr r (λ f. f ≡ fault.Incomplete → ⊥)
 
 -- whatever a call establishes from the recorder state t on also holds from s on
@@ -39,7 +39,7 @@ module _ {K C R O : Type 0} (M : Meaning K C R O) (es : Entries K C R O) where
     pub has_key : IsTrue (M.same_key call.key own)
     pub same_value : inner.value ≡ outer.value
     pub pairs : inner.recording.pairs ≡ []
-    pub whole : inner.recording.whole ≡ true
+    pub complete : inner.recording.complete ≡ true
     pub early : inner.recording.late ≡ false
     pub none : HasNone M es call
 

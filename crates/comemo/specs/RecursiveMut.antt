@@ -14,15 +14,15 @@ pub record Within {V C R : Type 0} (did : V → V → List C → Type 0) (touche
   pub agreed : HasBegun did same answers s
   pub same_value : t.value.ghost_name ≡ s.value.ghost_name
   pub same_recording : t.recording.ghost_name ≡ s.recording.ghost_name
-  pub began : t.recording.now.whole ≡ true → Began did same answers s.value.now t
-  pub early : NoneTouches touches → t.recording.now.whole ≡ true → t.recording.now.late ≡ false
+  pub began : t.recording.now.complete ≡ true → Began did same answers s.value.now t
+  pub early : NoneTouches touches → t.recording.now.complete ≡ true → t.recording.now.late ≡ false
   pub reached : Reaches did s.value.now t.value.now
 
 -- an empty recording, complete and not late
 pub record IsEmpty {C R : Type 0} (recording : Recording C R) : Type 0 where
   pub pairs : recording.pairs ≡ []
   pub writes : recording.writes ≡ []
-  pub whole : recording.whole ≡ true
+  pub complete : recording.complete ≡ true
   pub early : recording.late ≡ false
 
 -- a run begins under a key that equals the call's; no entry has the key and agrees

@@ -32,7 +32,7 @@ pub trait Record {
     fn empty(alloc: Global) -> Self
         ensures pairs { (recorded result).pairs ≡ [] }
         ensures writes { (recorded result).writes ≡ [] }
-        ensures whole { (recorded result).whole ≡ true }
+        ensures complete { (recorded result).complete ≡ true }
         ensures early { (recorded result).late ≡ false };
 
     /// The recording itself.
@@ -105,14 +105,14 @@ where
         → Held (H.entries h) (λ es. Ran ⟦<M as Meant>⟧.meaning es
         (⟦<In as Invoked>⟧.invoked input enabled)
         In.did P.recorded post input (Ok output) t)
-        → t.whole ≡ true → t.late ≡ false
+        → t.complete ≡ true → t.late ≡ false
         → Stands ⟦<M as Meant>⟧.meaning (run (In.key_of input) t.pairs output t.writes) };
 
     ghost named = { λ post h input enabled. (output : M.Out) (t : Recording M.Call M.Answer)
         → Held (H.entries h) (λ es. Ran ⟦<M as Meant>⟧.meaning es
         (⟦<In as Invoked>⟧.invoked input enabled)
         In.did P.recorded post input (Ok output) t)
-        → t.whole ≡ true → t.late ≡ false
+        → t.complete ≡ true → t.late ≡ false
         → IsNamedRun ⟦<M as Meant>⟧.meaning (In.key_of input) t.pairs };
 
     ghost ran = { λ post enabled h h' i j s t reply.

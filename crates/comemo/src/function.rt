@@ -67,7 +67,7 @@ pub trait Run<T: Track>: Function<Call = T::Call, Answer = T::Answer> {
         ensures settled { SettlesRun Self.Key.eq T.Call.eq T.Answer.eq Self.naming key.now
             of.old.recording of.new.recording result }
         ensures fault { IfErr result
-            (λ fault. fault ≡ Fault.Incomplete → of.new.recording.whole ≡ false) };
+            (λ fault. fault ≡ Fault.Incomplete → of.new.recording.complete ≡ false) };
 }
 
 /// A view of a tracked value that records what it is asked. A run gets one.
@@ -96,7 +96,7 @@ impl<'a, T: Track> Recorder<'a, T> {
         ensures value { result.value ≡ view.entry }
         ensures pairs { result.recording.pairs ≡ [] }
         ensures writes { result.recording.writes ≡ [] }
-        ensures whole { result.recording.whole ≡ true }
+        ensures complete { result.recording.complete ≡ true }
         ensures early { result.recording.late ≡ false }
     {
         Recorder {

@@ -344,7 +344,7 @@ pub trait RunMut<T: Track>: Function<Call = T::Call, Answer = T::Answer> {
         ensures settled { SettlesRun Self.Key.eq T.Call.eq T.Answer.eq Self.naming key.now
             of.old.recording.now of.new.recording.now result }
         ensures fault { IfErr result
-            (λ fault. fault ≡ Fault.Incomplete → of.new.recording.now.whole ≡ false) };
+            (λ fault. fault ≡ Fault.Incomplete → of.new.recording.now.complete ≡ false) };
 }
 
 /// Runs a function on a value. Returns the run's result, and its recording.
@@ -360,12 +360,12 @@ fn run_recorded<M: RunMut<T>, T: Track>(
     ensures settled { SettlesAs M.Key.eq T.Call.eq T.Answer.eq M.naming key.now
         result.1 result.0 }
     ensures fault { IfErr result.0
-        (λ fault. fault ≡ Fault.Incomplete → result.1.whole ≡ false) }
-    ensures done { result.1.whole ≡ true
+        (λ fault. fault ≡ Fault.Incomplete → result.1.complete ≡ false) }
+    ensures done { result.1.complete ≡ true
         → ⟦<T as Written>⟧.did of.old of.new result.1.writes }
-    ensures agrees { result.1.whole ≡ true → result.1.late ≡ false
+    ensures agrees { result.1.complete ≡ true → result.1.late ≡ false
         → Agrees T.Answer.eq (T.answers of.old) result.1.pairs }
-    ensures early { NoneTouches T.Call.touches → result.1.whole ≡ true
+    ensures early { NoneTouches T.Call.touches → result.1.complete ≡ true
         → result.1.late ≡ false }
     ensures reached { Reaches ⟦<T as Written>⟧.did of.old of.new }
 {

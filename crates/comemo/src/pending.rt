@@ -1,6 +1,6 @@
 //! Calls of memoized functions, from begin to end: a hit, or a run, which is finished and stored if possible, or given
 //! up. Each call clones its key, also for a hit. On error each function here makes its sink incomplete.
-ghost use Rattle.std.specs.Prelude.{◌≡◌, ◌≤◌, [], ◌∷◌, ◌++◌, ◌↔◌, List, Bool, true, false, length, IsTrue, IfOk, IfErr, IfSome, IfNone, OnOk, OnErr, Ok, Err, ⊤};
+ghost use Rattle.std.specs.Prelude.{◌≡◌, ◌≤◌, [], ◌↔◌, List, Bool, true, false, length, IsTrue, IfOk, IfErr, IfSome, IfNone, OnOk, OnErr, Ok, Err, ⊤};
 ghost use Rattle.std.specs.List.{All};
 ghost use Rattle.comemo_base.specs.Tree.{IsSamePath};
 ghost use Rattle.comemo_cache.specs.Meaning.{Invocation, SameWrites, IsNamedRun, exactly, invocation, run};
@@ -8,7 +8,7 @@ ghost use Rattle.comemo_cache.specs.Cache.{Stands, HasNone};
 ghost use Rattle.comemo_cache.specs.Found.{TouchesFound};
 ghost use Rattle.comemo_tree.specs.Change.{HasAnswers};
 ghost use Rattle.comemo.specs.Begin.{Reaches, HasToRun, IsRun, came_to};
-ghost use Rattle.comemo.specs.Begun.{OnBegun, OnFault, BeganByHit, FailedToBegin};
+ghost use Rattle.comemo.specs.Begun.{OnBegun, OnFault, StopsIn, BeganByHit, FailedToBegin};
 ghost use Rattle.comemo.specs.Finish.{Ends, Gives, Finished, BreaksOffRun};
 ghost use Rattle.comemo_cache.specs.Held.{Held, Leads, Stays};
 
@@ -185,17 +185,17 @@ impl<M: Function> Pending<M> {
         sink: &mut S,
         output: M::Out,
     ) -> Result<Reply<M::Out>, Fault>
-        requires stands { self.recording.whole ≡ true → self.recording.late ≡ false
+        requires stands { self.recording.complete ≡ true → self.recording.late ≡ false
             → Stands ⟦<M as Meant>⟧.meaning (came_to self output) }
-        requires settled { self.recording.whole ≡ true → self.recording.late ≡ false
+        requires settled { self.recording.complete ≡ true → self.recording.late ≡ false
             → IsNamedRun ⟦<M as Meant>⟧.meaning self.key self.recording.pairs }
         ensures finished { IfOk result (λ reply.
             Leads (H.entries cache.old) (H.entries cache.new) (λ es es'.
             Finished ⟦<M as Meant>⟧.meaning es self
             (⟦<S as Breaking>⟧.took_as self.recording.late sink.old sink.new) output reply es')) }
-        ensures incomplete { (result ≡ Err Fault.Incomplete) ↔ (self.recording.whole ≡ false) }
+        ensures incomplete { (result ≡ Err Fault.Incomplete) ↔ (self.recording.complete ≡ false) }
         ensures fault { IfErr result (λ fault. fault ≡ Fault.Write → ⊥) }
-        ensures spoils { self.recording.whole ≡ false → S.spoils sink.old sink.new }
+        ensures spoils { self.recording.complete ≡ false → S.spoils sink.old sink.new }
         ensures err { OnErr result (Stays (H.entries cache.old) (H.entries cache.new)
             × BreaksOffRun ⟦<M as Meant>⟧.meaning (⟦<S as Breaking>⟧.breaks_off sink.old sink.new)
             self.recording.pairs) }
@@ -236,20 +236,20 @@ impl<M: Function> Pending<M> {
         ran: Result<M::Out, Fault>,
     ) -> Result<Reply<M::Out>, Fault>
         requires stands { (output : M.Out) → ran ≡ Ok output
-            → self.recording.whole ≡ true → self.recording.late ≡ false
+            → self.recording.complete ≡ true → self.recording.late ≡ false
             → Stands ⟦<M as Meant>⟧.meaning (came_to self output) }
         requires settled { (output : M.Out) → ran ≡ Ok output
-            → self.recording.whole ≡ true → self.recording.late ≡ false
+            → self.recording.complete ≡ true → self.recording.late ≡ false
             → IsNamedRun ⟦<M as Meant>⟧.meaning self.key self.recording.pairs }
         ensures finished { IfOk result (λ reply. (output : M.Out) × (ran ≡ Ok output)
             × Leads (H.entries cache.old) (H.entries cache.new) (λ es es'.
             Finished ⟦<M as Meant>⟧.meaning es self
             (⟦<S as Breaking>⟧.took_as self.recording.late sink.old sink.new) output reply es')) }
         ensures incomplete { IfOk ran
-            (λ _. (result ≡ Err Fault.Incomplete) ↔ (self.recording.whole ≡ false)) }
+            (λ _. (result ≡ Err Fault.Incomplete) ↔ (self.recording.complete ≡ false)) }
         ensures write { IfOk ran (λ _. IfErr result (λ fault. fault ≡ Fault.Write → ⊥)) }
         ensures fault { IfErr ran (λ fault. (result ≡ Err fault) × S.spoils sink.old sink.new) }
-        ensures spoils { self.recording.whole ≡ false → S.spoils sink.old sink.new }
+        ensures spoils { self.recording.complete ≡ false → S.spoils sink.old sink.new }
         ensures err { OnErr result (Stays (H.entries cache.old) (H.entries cache.new)
             × BreaksOffRun ⟦<M as Meant>⟧.meaning (⟦<S as Breaking>⟧.breaks_off sink.old sink.new)
             self.recording.pairs) }
@@ -529,10 +529,10 @@ fn replay<In: Input, S: Sink<Call = In::Call, Answer = In::Answer>>(
     ensures done { OnOk result (In.did input.old input.new writes.items) }
     ensures sent { OnOk result (S.took sink.old sink.new [] writes.items) }
     ensures fault { IfErr result (λ fault. fault ≡ Fault.Write) }
-    ensures err { OnErr result ((front : List In.Call) × (next : In.Call) × (rest : List In.Call)
-        × (writes.items ≡ front ++ next ∷ rest) × In.did input.old input.new front
-        × ⟦<S as Breaking>⟧.spoiled_after sink.old sink.new [] front
-        × (In.Call.is_write next ≡ true)) }
+    ensures err { OnErr result (StopsIn writes.items (λ prefix next.
+        In.did input.old input.new prefix
+        × ⟦<S as Breaking>⟧.spoiled_after sink.old sink.new [] prefix
+        × (In.Call.is_write next ≡ true))) }
 {
     for write in writes {
         let Ok(()) = input.call_mut(&write) else {
@@ -598,11 +598,10 @@ where
     ensures err { IfErr result (λ fault. OnFault fault
         (Stays (H.entries cache.old) (H.entries cache.new) × In.did input.old input.new []
         × ⟦<S as Breaking>⟧.breaks_off sink.old sink.new found.pairs.items)
-        ((front : List M.Call) × (next : M.Call) × (rest : List M.Call)
-        × (found.writes.items ≡ front ++ next ∷ rest) × In.did input.old input.new front
-        × ⟦<S as Breaking>⟧.spoiled_after sink.old sink.new found.pairs.items front
+        (StopsIn found.writes.items (λ prefix next. In.did input.old input.new prefix
+        × ⟦<S as Breaking>⟧.spoiled_after sink.old sink.new found.pairs.items prefix
         × (M.Call.is_write next ≡ true) × Leads (H.entries cache.old) (H.entries cache.new)
-        (TouchesFound M.Answer.eq M.Key.eq key.now found.pairs.items found.age))) }
+        (TouchesFound M.Answer.eq M.Key.eq key.now found.pairs.items found.age)))) }
 {
     let Ok(answers) = answers_of_aged(alloc, &found) else {
         sink.spoil();
@@ -642,10 +641,9 @@ where
     ensures sent { OnOk result (S.took sink.old sink.new [] peeked.writes.items) }
     ensures err { IfErr result (λ fault. OnFault fault
         (In.did input.old input.new [] × ⟦<S as Breaking>⟧.breaks_off sink.old sink.new [])
-        ((front : List M.Call) × (next : M.Call) × (rest : List M.Call)
-        × (peeked.writes.items ≡ front ++ next ∷ rest) × In.did input.old input.new front
-        × ⟦<S as Breaking>⟧.spoiled_after sink.old sink.new [] front
-        × (M.Call.is_write next ≡ true))) }
+        (StopsIn peeked.writes.items (λ prefix next. In.did input.old input.new prefix
+        × ⟦<S as Breaking>⟧.spoiled_after sink.old sink.new [] prefix
+        × (M.Call.is_write next ≡ true)))) }
 {
     let Peeked {
         output,

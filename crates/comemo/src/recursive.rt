@@ -80,7 +80,7 @@ impl<'a, T: Track> Recorder<'a, T> {
         requires reads { WritesNone G.writes }
         requires own { IsTrue (G.Key.eq key.now inner.own) }
         requires value { inner.recorder.value ≡ self.now.value }
-        requires whole { inner.recorder.recording.whole ≡ true }
+        requires complete { inner.recorder.recording.complete ≡ true }
         requires right { (m : T.Call → T.Answer)
             → ⟦<T as Told>⟧.fits inner.recorder.recording m → G.means key.now m output }
         requires settled { IsNamedRun ⟦<G as Meant>⟧.meaning key.now
@@ -110,7 +110,7 @@ impl<'a, T: Track> Recorder<'a, T> {
         requires reads { WritesNone G.writes }
         requires own { IsTrue (G.Key.eq key.now inner.own) }
         requires value { inner.recorder.value ≡ self.now.value }
-        requires whole { inner.recorder.recording.whole ≡ true }
+        requires complete { inner.recorder.recording.complete ≡ true }
         requires right { (m : T.Call → T.Answer)
             → ⟦<T as Told>⟧.fits inner.recorder.recording m → G.means key.now m output }
         requires settled { IsNamedRun ⟦<G as Meant>⟧.meaning key.now

@@ -90,7 +90,7 @@ where
         → Fits M.Call.eq M.Answer.eq (R.recording s) m
         → IsRight M.means M.writes key m output (R.recording s).writes };
 
-    ghost named = { λ key s. (R.recording s).whole ≡ true → (R.recording s).late ≡ false
+    ghost named = { λ key s. (R.recording s).complete ≡ true → (R.recording s).late ≡ false
         → IsNamedRun ⟦<M as Meant>⟧.meaning key (R.recording s).pairs };
 
     ghost ends = { λ h h' own around s t output became.
@@ -173,7 +173,7 @@ impl<'a, 'b, T: Track> RecorderMut<'a, 'b, T> {
             self.old self.new output became) }
         ensures value { self.new.value ≡ self.old.value }
         ensures incomplete { IfOk ran
-            (λ _. (result ≡ Err Fault.Incomplete) ↔ (self.old.recording.now.whole ≡ false)) }
+            (λ _. (result ≡ Err Fault.Incomplete) ↔ (self.old.recording.now.complete ≡ false)) }
         ensures write { IfOk ran (λ _. IfErr result (λ fault. fault ≡ Fault.Write → ⊥)) }
         ensures fault { IfErr ran (λ fault. result ≡ Err fault) }
         ensures err { OnErr result (⟦<G as Nesting<H, Self>>⟧.breaks
@@ -204,7 +204,7 @@ impl<'a, 'b, T: Track> RecorderMut<'a, 'b, T> {
             cache.old cache.new inner.own inner.around self.old self.new r.output r.how) }
         ensures value { self.new.value ≡ self.old.value }
         ensures incomplete { IfOk ran
-            (λ _. (result ≡ Err Fault.Incomplete) ↔ (self.old.recording.now.whole ≡ false)) }
+            (λ _. (result ≡ Err Fault.Incomplete) ↔ (self.old.recording.now.complete ≡ false)) }
         ensures write { IfOk ran (λ _. IfErr result (λ fault. fault ≡ Fault.Write → ⊥)) }
         ensures fault { IfErr ran (λ fault. result ≡ Err fault) }
         ensures err { OnErr result (⟦<G as Nesting<H, Self>>⟧.breaks

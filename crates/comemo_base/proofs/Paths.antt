@@ -10,7 +10,7 @@ use Rattle.std.specs.declared.alloc.AllocError.{AllocError}
 use denote.Ref.{Bor}
 use Rattle.comemo_base.specs.Answers.{Agrees, Respects}
 use Rattle.comemo_base.specs.Lookup.{under, FindsAgreeing, FindsAgreeingPath, Answered, AnswersAs, IsNext, IsAsked, IsRefused, IsStoredCall}
-use Rattle.comemo_base.specs.Tree.{Stored, Parts, IsSamePath, IsFront, IsTree}
+use Rattle.comemo_base.specs.Tree.{Stored, Parts, IsSamePath, IsPrefix, IsTree}
 use Rattle.comemo_base.specs.Steps.{Follows}
 use Rattle.comemo_base.proofs.Under.{Any-under, Any-from_under, All-under, All-from_under}
 
@@ -72,39 +72,39 @@ module _ {C R : Type 0} {eq : C → C → Bool} {same : R → R → Bool} (calls
 
   -- one more pair was asked, and the second path has its answer there
   pub IsSamePath-more : (n : ℕ) (asked ps qs : List (C × R)) (p : C × R) (answer : R) → IsSamePath eq same asked (take n ps) → n < length ps → p ≡ get_or ps n p → Fit ps qs → Follows same qs ps n answer → IsSamePath eq same (asked ++ (p.0, answer) ∷ []) (take (suc n) qs)
-  IsSamePath-more n asked [] qs p answer front l e fit f = absurd (omega arith)
-  IsSamePath-more n asked (x ∷ ps) [] p answer front l e fit f = absurd (omega (arith, f.0))
-  IsSamePath-more zero [] (x ∷ ps) (q ∷ qs) p answer front l e fit f =
+  IsSamePath-more n asked [] qs p answer prefix l e fit f = absurd (omega arith)
+  IsSamePath-more n asked (x ∷ ps) [] p answer prefix l e fit f = absurd (omega (arith, f.0))
+  IsSamePath-more zero [] (x ∷ ps) (q ∷ qs) p answer prefix l e fit f =
       (ap (λ z. eq z.0 q.0) e ∙ fit.0, turned answers q.1 answer (f.1 q), tt)
-  IsSamePath-more zero (a ∷ rest) (x ∷ ps) (q ∷ qs) p answer front l e fit f = absurd front
-  IsSamePath-more (suc n) [] (x ∷ ps) (q ∷ qs) p answer front l e fit f = absurd front
-  IsSamePath-more (suc n) (a ∷ rest) (x ∷ ps) (q ∷ qs) p answer front l e fit f =
+  IsSamePath-more zero (a ∷ rest) (x ∷ ps) (q ∷ qs) p answer prefix l e fit f = absurd prefix
+  IsSamePath-more (suc n) [] (x ∷ ps) (q ∷ qs) p answer prefix l e fit f = absurd prefix
+  IsSamePath-more (suc n) (a ∷ rest) (x ∷ ps) (q ∷ qs) p answer prefix l e fit f =
       let k : IsTrue (same x.1 q.1) = turned answers q.1 x.1 (f.2 0 q (omega arith)) in
-      (joined calls a.0 x.0 q.0 front.0 fit.0, joined answers a.1 x.1 q.1 front.1 k, IsSamePath-more n rest ps qs p answer front.2 (omega arith) e (fit.1 k) (omega (arith, f.0), λ d. f.1 d, λ i d j. f.2 (suc i) d (omega arith)))
+      (joined calls a.0 x.0 q.0 prefix.0 fit.0, joined answers a.1 x.1 q.1 prefix.1 k, IsSamePath-more n rest ps qs p answer prefix.2 (omega arith) e (fit.1 k) (omega (arith, f.0), λ d. f.1 d, λ i d j. f.2 (suc i) d (omega arith)))
 
   below : (x q : C × R) → IsTrue (same q.1 x.1) → (n : ℕ) (ps qs : List (C × R)) → ((k : ℕ) (d : C × R) → k < n → IsTrue (same (get_or qs k d).1 (get_or ps k d).1)) → (k : ℕ) (d : C × R) → k < suc n → IsTrue (same (get_or (q ∷ qs) k d).1 (get_or (x ∷ ps) k d).1)
   below x q e n ps qs h zero d l = e
   below x q e n ps qs h (suc k) d l = h k d (omega arith)
 
-  -- a path that has all that was asked as its front has the last answer there
-  pub Follows-from_front : (n : ℕ) (asked ps qs : List (C × R)) (c : C) (answer : R) → IsSamePath eq same asked (take n ps) → n < length ps → IsFront eq same (asked ++ (c, answer) ∷ []) qs → Follows same qs ps n answer
-  Follows-from_front n asked [] qs c answer front l f = absurd (omega arith)
-  Follows-from_front zero [] (x ∷ ps) [] c answer front l f = absurd f
-  Follows-from_front zero [] (x ∷ ps) (q ∷ qs) c answer front l f = (omega arith, λ d. turned answers answer q.1 f.1, λ k d j. absurd (omega arith))
-  Follows-from_front zero (a ∷ rest) (x ∷ ps) qs c answer front l f = absurd front
-  Follows-from_front (suc n) [] (x ∷ ps) qs c answer front l f = absurd front
-  Follows-from_front (suc n) (a ∷ rest) (x ∷ ps) [] c answer front l f = absurd f
-  Follows-from_front (suc n) (a ∷ rest) (x ∷ ps) (q ∷ qs) c answer front l f =
-      let r = Follows-from_front n rest ps qs c answer front.2 (omega arith) f.2 in
-      (omega (arith, r.0), r.1, below x q (joined answers q.1 a.1 x.1 (turned answers a.1 q.1 f.1) front.1) n ps qs r.2)
+  -- a path that has all that was asked as its prefix has the last answer there
+  pub Follows-from_prefix : (n : ℕ) (asked ps qs : List (C × R)) (c : C) (answer : R) → IsSamePath eq same asked (take n ps) → n < length ps → IsPrefix eq same (asked ++ (c, answer) ∷ []) qs → Follows same qs ps n answer
+  Follows-from_prefix n asked [] qs c answer prefix l f = absurd (omega arith)
+  Follows-from_prefix zero [] (x ∷ ps) [] c answer prefix l f = absurd f
+  Follows-from_prefix zero [] (x ∷ ps) (q ∷ qs) c answer prefix l f = (omega arith, λ d. turned answers answer q.1 f.1, λ k d j. absurd (omega arith))
+  Follows-from_prefix zero (a ∷ rest) (x ∷ ps) qs c answer prefix l f = absurd prefix
+  Follows-from_prefix (suc n) [] (x ∷ ps) qs c answer prefix l f = absurd prefix
+  Follows-from_prefix (suc n) (a ∷ rest) (x ∷ ps) [] c answer prefix l f = absurd f
+  Follows-from_prefix (suc n) (a ∷ rest) (x ∷ ps) (q ∷ qs) c answer prefix l f =
+      let r = Follows-from_prefix n rest ps qs c answer prefix.2 (omega arith) f.2 in
+      (omega (arith, r.0), r.1, below x q (joined answers q.1 a.1 x.1 (turned answers a.1 q.1 f.1) prefix.1) n ps qs r.2)
 
-  -- what was asked is a front of the path, and the call at n is the next
+  -- what was asked is a prefix of the path, and the call at n is the next
   pub IsNext-more : (n : ℕ) (asked ps : List (C × R)) (p : C × R) → IsSamePath eq same asked (take n ps) → n < length ps → p ≡ get_or ps n p → IsNext eq same asked p.0 ps
-  IsNext-more n asked [] p front l e = absurd (omega arith)
-  IsNext-more zero [] (x ∷ ps) p front l e = ap (λ z. eq p.0 z.0) (sym e) ∙ calls.refl p.0
-  IsNext-more zero (a ∷ rest) (x ∷ ps) p front l e = absurd front
-  IsNext-more (suc n) [] (x ∷ ps) p front l e = absurd front
-  IsNext-more (suc n) (a ∷ rest) (x ∷ ps) p front l e = (front.0, front.1, IsNext-more n rest ps p front.2 (omega arith) e)
+  IsNext-more n asked [] p prefix l e = absurd (omega arith)
+  IsNext-more zero [] (x ∷ ps) p prefix l e = ap (λ z. eq p.0 z.0) (sym e) ∙ calls.refl p.0
+  IsNext-more zero (a ∷ rest) (x ∷ ps) p prefix l e = absurd prefix
+  IsNext-more (suc n) [] (x ∷ ps) p prefix l e = absurd prefix
+  IsNext-more (suc n) (a ∷ rest) (x ∷ ps) p prefix l e = (prefix.0, prefix.1, IsNext-more n rest ps p prefix.2 (omega arith) e)
 
   module _ {K T : Type 0} {eqk : K → K → Bool} (keys : IsEquivalence eqk) where
     -- any two entries of a tree under one key fit
@@ -118,20 +118,20 @@ module _ {C R : Type 0} {eq : C → C → Bool} {same : R → R → Bool} (calls
         subst (λ (x : Stored K C R T). Fit x.path (get_or es j d).path) is (Fit-from_tree es i j d tree m l (ap (λ (x : Stored K C R T). eqk x.key (get_or es j d).key) is ∙ k))
 
     -- a step of a look-up: the entry at i is e, whose path is ps, and n pairs were asked
-    module _ (es : List (Stored K C R T)) (i n : ℕ) (key : K) (e : Stored K C R T) (asked ps : List (C × R)) (l : i < length es) (at : e ≡ get_or es i e) (k : IsTrue (eqk (get_or es i e).key key)) (front : IsSamePath eq same asked (take n (get_or es i e).path)) (own : ps ≡ e.path) where
+    module _ (es : List (Stored K C R T)) (i n : ℕ) (key : K) (e : Stored K C R T) (asked ps : List (C × R)) (l : i < length es) (at : e ≡ get_or es i e) (k : IsTrue (eqk (get_or es i e).key key)) (prefix : IsSamePath eq same asked (take n (get_or es i e).path)) (own : ps ≡ e.path) where
       own_key : IsTrue (eqk e.key key)
       own_key = ap (λ (x : Stored K C R T). eqk x.key key) at ∙ k
 
       asked_own : IsSamePath eq same asked (take n ps)
       asked_own =
           let P : List (C × R) → Type 0 = λ qs. IsSamePath eq same asked (take n qs) in
-          subst P (ap (λ (x : Stored K C R T). x.path) (sym at) ∙ sym own) front
+          subst P (ap (λ (x : Stored K C R T). x.path) (sym at) ∙ sym own) prefix
 
       -- the path at hand was asked to its end
       pub whole_path : n ≡ length ps → IsSamePath eq same asked e.path
       whole_path whole =
           let P : List (C × R) → Type 0 = λ ps. IsSamePath eq same asked ps in
-          subst P (ap (λ (x : Stored K C R T). take n x.path) (sym at) ∙ take_all n e.path (omega (arith, ap length own))) front
+          subst P (ap (λ (x : Stored K C R T). take n x.path) (sym at) ∙ take_all n e.path (omega (arith, ap length own))) prefix
 
       pub found : (v : T) → n ≡ length ps → e.value ≡ v → Any (λ x. IsSamePath eq same asked x.path × (x.value ≡ v)) (under eqk es key)
       found v whole is = Any-under eqk es key (λ x. IsSamePath eq same asked x.path × (x.value ≡ v)) (i, e, l, sym at, (own_key, (whole_path whole, is)))
@@ -153,11 +153,11 @@ module _ {C R : Type 0} {eq : C → C → Bool} {same : R → R → Bool} (calls
         -- no path goes on with the answer that was given
         pub missed : (answer : R) → All (λ x. IsTrue (eqk x.key key) → ¬ Follows same x.path ps n answer) es → IsAsked eq same (under eqk es key) (asked ++ (p.0, answer) ∷ []) None
         missed answer none = (
-          All-under eqk es key (λ x. ¬ IsFront eq same (asked ++ (p.0, answer) ∷ []) x.path) (λ j d m h f. none j d m h (Follows-from_front n asked ps (get_or es j d).path p.0 answer asked_own deep f)),
-          inr (record { front = asked; last = (p.0, answer); splits = refl; next = refused }),
+          All-under eqk es key (λ x. ¬ IsPrefix eq same (asked ++ (p.0, answer) ∷ []) x.path) (λ j d m h f. none j d m h (Follows-from_prefix n asked ps (get_or es j d).path p.0 answer asked_own deep f)),
+          inr (record { prefix = asked; last = (p.0, answer); splits = refl; next = refused }),
         )
 
-        -- what was asked is the front of the path to go on with
+        -- what was asked is the prefix of the path to go on with
         pub stepped : (j : ℕ) (answer : R) → IsTree eq same eqk es → j < length es → HoldsAt (λ x. IsTrue (eqk x.key key) × Follows same x.path ps n answer) es j → (d : Stored K C R T) → IsSamePath eq same (asked ++ (p.0, answer) ∷ []) (take (n + 1) (get_or es j d).path)
         stepped j answer tree m f d =
             let Q : List (C × R) → Type 0 = λ qs. Fit qs (get_or es j d).path in
@@ -173,34 +173,34 @@ module _ {C R : Type 0} {eq : C → C → Bool} {same : R → R → Bool} (calls
     answered_alike : (x q : C × R) → IsTrue (eq x.0 q.0) → IsTrue (same (m x.0) x.1) → IsTrue (same (m q.0) q.1) → IsTrue (same x.1 q.1)
     answered_alike x q e a b = joined answers x.1 (m x.0) q.1 (turned answers (m x.0) x.1 a) (joined answers (m x.0) (m q.0) q.1 (respects x.0 q.0 e) b)
 
-    -- what was asked along one path is a front of each path that fits it and agrees with the answers
-    IsFront-agreeing : (front ps qs : List (C × R)) (last : C × R) → IsNext eq same front last.0 ps → Fit ps qs → Agrees same m (front ++ last ∷ []) → Agrees same m qs → IsFront eq same (front ++ last ∷ []) qs
-    IsFront-agreeing [] [] qs last k f a b = absurd k
-    IsFront-agreeing [] (p ∷ ps) [] last k f a b = absurd f
-    IsFront-agreeing [] (p ∷ ps) (q ∷ qs) last k f a b =
+    -- what was asked along one path is a prefix of each path that fits it and agrees with the answers
+    IsPrefix-agreeing : (prefix ps qs : List (C × R)) (last : C × R) → IsNext eq same prefix last.0 ps → Fit ps qs → Agrees same m (prefix ++ last ∷ []) → Agrees same m qs → IsPrefix eq same (prefix ++ last ∷ []) qs
+    IsPrefix-agreeing [] [] qs last k f a b = absurd k
+    IsPrefix-agreeing [] (p ∷ ps) [] last k f a b = absurd f
+    IsPrefix-agreeing [] (p ∷ ps) (q ∷ qs) last k f a b =
         let e : IsTrue (eq last.0 q.0) = joined calls last.0 p.0 q.0 k f.0 in
         (e, answered_alike last q e a.0 b.0, tt)
-    IsFront-agreeing (x ∷ front) [] qs last k f a b = absurd k
-    IsFront-agreeing (x ∷ front) (p ∷ ps) [] last k f a b = absurd f
-    IsFront-agreeing (x ∷ front) (p ∷ ps) (q ∷ qs) last k f a b =
+    IsPrefix-agreeing (x ∷ prefix) [] qs last k f a b = absurd k
+    IsPrefix-agreeing (x ∷ prefix) (p ∷ ps) [] last k f a b = absurd f
+    IsPrefix-agreeing (x ∷ prefix) (p ∷ ps) (q ∷ qs) last k f a b =
         let e : IsTrue (eq x.0 q.0) = joined calls x.0 p.0 q.0 k.0 f.0 in
         let h : IsTrue (same x.1 q.1) = answered_alike x q e a.0 b.0 in
-        (e, h, IsFront-agreeing front ps qs last k.2 (f.1 (joined answers p.1 x.1 q.1 (turned answers x.1 p.1 k.1) h)) a.1 b.1)
+        (e, h, IsPrefix-agreeing prefix ps qs last k.2 (f.1 (joined answers p.1 x.1 q.1 (turned answers x.1 p.1 k.1) h)) a.1 b.1)
 
     -- a look-up whose answers are those of m finds what agrees with m
     pub FindsAgreeing-from_asked : {K T : Type 0} {eqk : K → K → Bool} (keys : IsEquivalence eqk) (es : List (Stored K C R T)) (key : K) (asked : List (C × R)) (r : Option T) → IsTree eq same eqk es → Agrees same m asked → IsAsked eq same (under eqk es key) asked r → FindsAgreeing eq same (under eqk es key) m r
     FindsAgreeing-from_asked keys es key asked (Some v) tree a k =
         (k.0, k.1, k.2, k.3, (Agrees-same asked k.1.path k.4.0 a, k.4.1))
     FindsAgreeing-from_asked {K} {T} {eqk} keys es key asked None tree a k =
-        let none = All-from_under eqk es key (λ x. ¬ IsFront eq same asked x.path) k.0 in
+        let none = All-from_under eqk es key (λ x. ¬ IsPrefix eq same asked x.path) k.0 in
         All-under eqk es key (λ x. ¬ Agrees same m x.path) (λ j d l e b.
         let path = (get_or es j d).path in
         elim k.1 [
-          | inl is ↦ none j d l e (subst (λ xs. IsFront eq same xs path) (sym is) tt)
+          | inl is ↦ none j d l e (subst (λ xs. IsPrefix eq same xs path) (sym is) tt)
           | inr along ↦
-              let some = Any-from_under eqk es key (λ x. IsNext eq same along.front along.last.0 x.path) along.next in
+              let some = Any-from_under eqk es key (λ x. IsNext eq same along.prefix along.last.0 x.path) along.next in
               let fit = fits keys es j d some.0 some.1 tree l some.2 some.3 (joined keys some.1.key key (get_or es j d).key some.4.0 (turned keys (get_or es j d).key key e)) in
-              none j d l e (subst (λ xs. IsFront eq same xs path) (sym along.splits) (IsFront-agreeing along.front some.1.path path along.last some.4.1 fit (subst (λ xs. Agrees same m xs) along.splits a) b))
+              none j d l e (subst (λ xs. IsPrefix eq same xs path) (sym along.splits) (IsPrefix-agreeing along.prefix some.1.path path along.last some.4.1 fit (subst (λ xs. Agrees same m xs) along.splits a) b))
         ])
 
     -- so does one that gives the path too

@@ -27,8 +27,8 @@ All-any P Q xs h found = subst P found.3 (h found.0 found.1 found.2)
 module _ {C R : Type 0} {eq : C → C → Bool} {same : R → R → Bool} (calls : IsEquivalence eq) (answers : IsEquivalence same) where
   -- the second list has no call of the first at another answer
   abbrev IsConsistent : List (C × R) → List (C × R) → Type 0
-  IsConsistent front [] = Unit {0}
-  IsConsistent front (p ∷ ps) = (IsTrue (held eq front p.0) → Has eq same front p) × IsConsistent front ps
+  IsConsistent prefix [] = Unit {0}
+  IsConsistent prefix (p ∷ ps) = (IsTrue (held eq prefix p.0) → Has eq same prefix p) × IsConsistent prefix ps
 
   -- a path whose calls are asked in turn goes on with a call of the sequence, where what is asked is a call of the sequence
   goes_on_within : (asked : C → Type 0) (m : C → R) (s ps : List (C × R)) → ((c : C) → asked c → IsTrue (held eq s c)) → ((q : C × R) → Has eq same s q → IsTrue (same (m q.0) q.1)) → IsAskedInTurn eq same asked m ps → LacksNextCall eq same s ps → ⊥
@@ -50,28 +50,28 @@ module _ {C R : Type 0} {eq : C → C → Bool} {same : R → R → Bool} (calls
     Parts-agreeing (p ∷ ps) (q ∷ qs) k a b =
         Parts-agreeing ps qs (k.1 (joined answers p.1 (m p.0) q.1 (turned answers (m p.0) p.1 a.0) (joined answers (m p.0) (m q.0) q.1 (respects p.0 q.0 k.0) b.0))) a.1 b.1
 
-    -- a front that was asked along a path, and then what is asked once the front agrees
-    asked_front : (asked asked' : C → Type 0) → ((c c' : C) → IsTrue (eq c c') → asked c → asked' c') → (front ps rest : List (C × R)) (last : C × R) → IsNext eq same front last.0 ps → IsAskedInTurn eq same asked m ps → (Agrees same m (front ++ last ∷ []) → IsAskedInTurn eq same asked' m rest) → IsAskedInTurn eq same asked' m ((front ++ last ∷ []) ++ rest)
-    asked_front asked asked' moves [] [] rest last k a go = absurd k
-    asked_front asked asked' moves (x ∷ front) [] rest last k a go = absurd k
-    asked_front asked asked' moves [] (p ∷ ps) rest last k a go = (moves p.0 last.0 (turned calls last.0 p.0 k) a.0, λ h. go (h, tt))
-    asked_front asked asked' moves (x ∷ front) (p ∷ ps) rest last k a go = (
+    -- a prefix that was asked along a path, and then what is asked once the prefix agrees
+    asked_prefix : (asked asked' : C → Type 0) → ((c c' : C) → IsTrue (eq c c') → asked c → asked' c') → (prefix ps rest : List (C × R)) (last : C × R) → IsNext eq same prefix last.0 ps → IsAskedInTurn eq same asked m ps → (Agrees same m (prefix ++ last ∷ []) → IsAskedInTurn eq same asked' m rest) → IsAskedInTurn eq same asked' m ((prefix ++ last ∷ []) ++ rest)
+    asked_prefix asked asked' moves [] [] rest last k a go = absurd k
+    asked_prefix asked asked' moves (x ∷ prefix) [] rest last k a go = absurd k
+    asked_prefix asked asked' moves [] (p ∷ ps) rest last k a go = (moves p.0 last.0 (turned calls last.0 p.0 k) a.0, λ h. go (h, tt))
+    asked_prefix asked asked' moves (x ∷ prefix) (p ∷ ps) rest last k a go = (
       moves p.0 x.0 (turned calls x.0 p.0 k.0) a.0,
-      λ h. asked_front asked asked' moves front ps rest last k.2 (a.1 (joined answers (m p.0) (m x.0) p.1 (respects p.0 x.0 (turned calls x.0 p.0 k.0)) (joined answers (m x.0) x.1 p.1 h k.1))) (λ g. go (h, g)),
+      λ h. asked_prefix asked asked' moves prefix ps rest last k.2 (a.1 (joined answers (m p.0) (m x.0) p.1 (respects p.0 x.0 (turned calls x.0 p.0 k.0)) (joined answers (m x.0) x.1 p.1 h k.1))) (λ g. go (h, g)),
     )
 
-    -- the pairs of a list outside a front, with which it has no call at two answers, are asked in turn once the front agrees
-    asked_rest : (asked : C → Type 0) (front left : List (C × R)) → IsConsistent front left → Agrees same m front → IsAskedInTurn eq same asked m left → IsAskedInTurn eq same asked m (outside eq front left)
-    asked_rest asked front [] l g a = tt
-    asked_rest asked front (p ∷ left) l g a =
-        elim (cases_Bool (held eq front p.0)) [
-          | inl e ↦ rw e (asked_rest asked front left l.1 g (a.1 (Agrees-has calls answers m respects front p g (l.0 e))))
-          | inr e ↦ rw e (a.0, λ h. asked_rest asked front left l.1 g (a.1 h))
+    -- the pairs of a list outside a prefix, with which it has no call at two answers, are asked in turn once the prefix agrees
+    asked_rest : (asked : C → Type 0) (prefix left : List (C × R)) → IsConsistent prefix left → Agrees same m prefix → IsAskedInTurn eq same asked m left → IsAskedInTurn eq same asked m (outside eq prefix left)
+    asked_rest asked prefix [] l g a = tt
+    asked_rest asked prefix (p ∷ left) l g a =
+        elim (cases_Bool (held eq prefix p.0)) [
+          | inl e ↦ rw e (asked_rest asked prefix left l.1 g (a.1 (Agrees-has calls answers m respects prefix p g (l.0 e))))
+          | inr e ↦ rw e (a.0, λ h. asked_rest asked prefix left l.1 g (a.1 h))
         ]
 
-  IsConsistent-among : (s front left : List (C × R)) → AllAmong eq same s front → AllAmong eq same s left → IsConsistent front left
-  IsConsistent-among s front [] f l = tt
-  IsConsistent-among s front (p ∷ left) f l = (λ e. Has-part calls answers s front p f e l.0, IsConsistent-among s front left f l.1)
+  IsConsistent-among : (s prefix left : List (C × R)) → AllAmong eq same s prefix → AllAmong eq same s left → IsConsistent prefix left
+  IsConsistent-among s prefix [] f l = tt
+  IsConsistent-among s prefix (p ∷ left) f l = (λ e. Has-part calls answers s prefix p f e l.0, IsConsistent-among s prefix left f l.1)
 
   AllAmong-part : (s part qs : List (C × R)) → AllAmong eq same s part → ((q : C × R) → Has eq same s q → IsTrue (held eq part q.0)) → AllAmong eq same s qs → AllAmong eq same part qs
   AllAmong-part s part [] a h k = tt
@@ -143,23 +143,23 @@ module _ {C R : Type 0} {eq : C → C → Bool} {same : R → R → Bool} (calls
       Exists-from_has_set : HasSet eq same (under eqk es key) s → Exists eq same (under eqk es key) s
       Exists-from_has_set some = (some.0, some.1, some.2, some.3, some.4.1)
 
-      new_run : (front : List (C × R)) → IsStem eq same (under eqk es key) s front → HasSamePairs eq same (front ++ outside eq front s) s × IsRun eq same (asks key) (front ++ outside eq front s)
-      new_run front (inl h) =
+      new_run : (prefix : List (C × R)) → IsStem eq same (under eqk es key) s prefix → HasSamePairs eq same (prefix ++ outside eq prefix s) s × IsRun eq same (asks key) (prefix ++ outside eq prefix s)
+      new_run prefix (inl h) =
           let P : List (C × R) → Type 0 = λ f. HasSamePairs eq same (f ++ outside eq f s) s × IsRun eq same (asks key) (f ++ outside eq f s) in
           let Q : List (C × R) → Type 0 = λ n. HasSamePairs eq same n s × IsRun eq same (asks key) n in
           let itself = AllAmong-itself calls answers s distinct in
           subst P (sym h.1) (subst Q (sym (outside-nothing eq s)) ((itself, itself), run))
-      new_run front (inr h) =
+      new_run prefix (inr h) =
           let f = h.1 in
-          let along = Any-from_under eqk es key (λ e. IsNext eq same f.front f.last.0 e.path) f.next in
-          let own = own_run (λ e. IsNext eq same f.front f.last.0 e.path) along in
+          let along = Any-from_under eqk es key (λ e. IsNext eq same f.prefix f.last.0 e.path) f.next in
+          let own = own_run (λ e. IsNext eq same f.prefix f.last.0 e.path) along in
           let itself = AllAmong-itself calls answers s distinct in
-          let same_pairs = HasSamePairs-outside calls answers front s distinct h.0 in
-          let rest : (m : C → R) → Respects eq same m → Agrees same m front → IsAskedInTurn eq same (asks key m) m (outside eq front s) = λ m respects g. asked_rest m respects (asks key m) front s (IsConsistent-among s front s h.0 itself) g (run.causal m respects) in
-          let P : (C → R) → List (C × R) → Type 0 = λ m xs. (Agrees same m xs → IsAskedInTurn eq same (asks key m) m (outside eq front s)) → IsAskedInTurn eq same (asks key m) m (xs ++ outside eq front s) in (
+          let same_pairs = HasSamePairs-outside calls answers prefix s distinct h.0 in
+          let rest : (m : C → R) → Respects eq same m → Agrees same m prefix → IsAskedInTurn eq same (asks key m) m (outside eq prefix s) = λ m respects g. asked_rest m respects (asks key m) prefix s (IsConsistent-among s prefix s h.0 itself) g (run.causal m respects) in
+          let P : (C → R) → List (C × R) → Type 0 = λ m xs. (Agrees same m xs → IsAskedInTurn eq same (asks key m) m (outside eq prefix s)) → IsAskedInTurn eq same (asks key m) m (xs ++ outside eq prefix s) in (
             same_pairs,
-            IsRun-reordered key s (front ++ outside eq front s) run same_pairs
-                (λ m respects. subst (P m) (sym f.splits) (asked_front m respects (asks along.1.key m) (asks key m) (moves along.1.key key m along.4.0) f.front along.1.path (outside eq front s) f.last along.4.1 (own.causal m respects)) (rest m respects)),
+            IsRun-reordered key s (prefix ++ outside eq prefix s) run same_pairs
+                (λ m respects. subst (P m) (sym f.splits) (asked_prefix m respects (asks along.1.key m) (asks key m) (moves along.1.key key m along.4.0) f.prefix along.1.path (outside eq prefix s) f.last along.4.1 (own.causal m respects)) (rest m respects)),
           )
 
       -- the path that an insertion stores has the very pairs of the sequence

@@ -112,24 +112,24 @@ module _ {C R : Type 0} {eq : C → C → Bool} {same : R → R → Bool} (calls
   AllAmong-filter s q (p ∷ ps) a =
       elim (cases_Bool (q p)) [ inl e ↦ rw e (a.0, AllAmong-filter s q ps a.1) | inr e ↦ rw e (AllAmong-filter s q ps a.1) ]
 
-  Has-outside : (front s : List (C × R)) (q : C × R) → AllAmong eq same s front → Has eq same s q → Has eq same (front ++ outside eq front s) q
-  Has-outside front s q a h =
-      elim (cases_Bool (held eq front q.0)) [
-        | inl e ↦ Has-append_left front (outside eq front s) q (Has-part s front q a e h)
+  Has-outside : (prefix s : List (C × R)) (q : C × R) → AllAmong eq same s prefix → Has eq same s q → Has eq same (prefix ++ outside eq prefix s) q
+  Has-outside prefix s q a h =
+      elim (cases_Bool (held eq prefix q.0)) [
+        | inl e ↦ Has-append_left prefix (outside eq prefix s) q (Has-part s prefix q a e h)
         | inr e ↦
-            Has-append_right front (outside eq front s) q e
-            (let own : lookup (eq q.0) (outside eq front s) ≡ lookup (eq q.0) s = lookup-outside calls front s q.0 ∙ ap (λ b. cond b None (lookup (eq q.0) s)) e in subst (λ o. IsSomeAnd o (λ r. IsTrue (same r q.1))) (sym own) h)
+            Has-append_right prefix (outside eq prefix s) q e
+            (let own : lookup (eq q.0) (outside eq prefix s) ≡ lookup (eq q.0) s = lookup-outside calls prefix s q.0 ∙ ap (λ b. cond b None (lookup (eq q.0) s)) e in subst (λ o. IsSomeAnd o (λ r. IsTrue (same r q.1))) (sym own) h)
       ]
 
-  AllAmong-outside : (front s qs : List (C × R)) → AllAmong eq same s front → AllAmong eq same s qs → AllAmong eq same (front ++ outside eq front s) qs
-  AllAmong-outside front s [] a h = tt
-  AllAmong-outside front s (q ∷ qs) a h = (Has-outside front s q a h.0, AllAmong-outside front s qs a h.1)
+  AllAmong-outside : (prefix s qs : List (C × R)) → AllAmong eq same s prefix → AllAmong eq same s qs → AllAmong eq same (prefix ++ outside eq prefix s) qs
+  AllAmong-outside prefix s [] a h = tt
+  AllAmong-outside prefix s (q ∷ qs) a h = (Has-outside prefix s q a h.0, AllAmong-outside prefix s qs a h.1)
 
-  -- a front of a list's pairs and then those outside it are the list's pairs in another order
-  pub HasSamePairs-outside : (front s : List (C × R)) → HasDistinctCalls eq s → AllAmong eq same s front → HasSamePairs eq same (front ++ outside eq front s) s
-  HasSamePairs-outside front s d a =
+  -- a prefix of a list's pairs and then those outside it are the list's pairs in another order
+  pub HasSamePairs-outside : (prefix s : List (C × R)) → HasDistinctCalls eq s → AllAmong eq same s prefix → HasSamePairs eq same (prefix ++ outside eq prefix s) s
+  HasSamePairs-outside prefix s d a =
       let own = AllAmong-itself s d in
-      (AllAmong-outside front s s a own, AllAmong-append s front (outside eq front s) a (AllAmong-filter s _ s own))
+      (AllAmong-outside prefix s s a own, AllAmong-append s prefix (outside eq prefix s) a (AllAmong-filter s _ s own))
 
   pub HasSamePairs-turned : (ps qs : List (C × R)) → HasSamePairs eq same ps qs → HasSamePairs eq same qs ps
   HasSamePairs-turned ps qs h = (h.1, h.0)

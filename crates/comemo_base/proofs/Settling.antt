@@ -20,9 +20,9 @@ agrees_both same m [] qs a b = b
 agrees_both same m (p ∷ ps) qs a b = (a.0, agrees_both same m ps qs a.1 b)
 
 module _ {C R : Type 0} (eq : C → C → Bool) where
-  held_front : (xs ys : List (C × R)) (c : C) → IsTrue (held eq xs c) → IsTrue (held eq (xs ++ ys) c)
-  held_front [] ys c h = let z : false ≡ true = h in cc
-  held_front (x ∷ xs) ys c h = elim (cases_Bool (eq c x.0)) [ inl e ↦ rw e refl | inr e ↦ rw e (held_front xs ys c (rw e at h)) ]
+  held_prefix : (xs ys : List (C × R)) (c : C) → IsTrue (held eq xs c) → IsTrue (held eq (xs ++ ys) c)
+  held_prefix [] ys c h = let z : false ≡ true = h in cc
+  held_prefix (x ∷ xs) ys c h = elim (cases_Bool (eq c x.0)) [ inl e ↦ rw e refl | inr e ↦ rw e (held_prefix xs ys c (rw e at h)) ]
 
   held_last : (xs : List (C × R)) (q : C × R) (c : C) → eq c q.0 ≡ true → IsTrue (held eq (xs ++ q ∷ []) c)
   held_last [] q c e = rw e refl
@@ -89,7 +89,7 @@ module _ {C R : Type 0} {eq : C → C → Bool} {same : R → R → Bool} (calls
                 agrees = λ m r k. (Agrees-has calls answers m r s q (agrees_parts same m s rest.added (subst (λ t. Agrees same m t) rest.parts k)).0 has, rest.agrees m r k);
                 holds = λ c h.
                     elim (cases_Bool (eq c q.0)) [
-                      | inl f ↦ subst (λ t. IsTrue (held eq t c)) (sym rest.parts) (held_front eq s rest.added c (held-alike calls answers s q.0 c (turned calls c q.0 f) e))
+                      | inl f ↦ subst (λ t. IsTrue (held eq t c)) (sym rest.parts) (held_prefix eq s rest.added c (held-alike calls answers s q.0 c (turned calls c q.0 f) e))
                       | inr f ↦ rest.holds c (rw f at h)
                     ];
               })
@@ -103,7 +103,7 @@ module _ {C R : Type 0} {eq : C → C → Bool} {same : R → R → Bool} (calls
                 agrees = λ m r k. ((agrees_parts same m s (q ∷ rest.added) (subst (λ t. Agrees same m t) whole k)).1.0, rest.agrees m r k);
                 holds = λ c h.
                     elim (cases_Bool (eq c q.0)) [
-                      | inl f ↦ subst (λ t. IsTrue (held eq t c)) (sym rest.parts) (held_front eq (s ++ q ∷ []) rest.added c (held_last eq s q c f))
+                      | inl f ↦ subst (λ t. IsTrue (held eq t c)) (sym rest.parts) (held_prefix eq (s ++ q ∷ []) rest.added c (held_last eq s q c f))
                       | inr f ↦ rest.holds c (rw f at h)
                     ];
               })
@@ -148,7 +148,7 @@ module _ {C R : Type 0} {eq : C → C → Bool} {same : R → R → Bool} (calls
         in_turn_more (part m) (asked m) m (λ c. up m r both c) next.added (next.in_turn m r both));
     complete = λ m r k c h.
         let before = (agrees_parts same m t next.added (subst (λ xs. Agrees same m xs) next.parts k)).0 in
-        let held_on : IsTrue (held eq t c) → IsTrue (held eq u c) = λ there. subst (λ xs. IsTrue (held eq xs c)) (sym next.parts) (held_front eq t next.added c there) in
+        let held_on : IsTrue (held eq t c) → IsTrue (held eq u c) = λ there. subst (λ xs. IsTrue (held eq xs c)) (sym next.parts) (held_prefix eq t next.added c there) in
         elim (first.complete m r before c h) [
           | inl there ↦ inl (held_on there)
           | inr more ↦ elim (down m r k c more) [

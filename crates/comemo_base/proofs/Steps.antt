@@ -9,18 +9,18 @@ use Rattle.std.specs.Map.{lookup, remove_entry}
 use Rattle.std.specs.HashMap.Eq.{lookup_congr}
 use Rattle.std.specs.Cmp.{IsEquivalence}
 use Rattle.comemo_base.specs.Sequence.{HasDistinctCalls}
-use Rattle.comemo_base.specs.Tree.{Stored, IsSamePath, IsFront, Parts, IsTree}
-use Rattle.comemo_base.specs.Lookup.{under, IsNext, IsAskedFront}
+use Rattle.comemo_base.specs.Tree.{Stored, IsSamePath, IsPrefix, Parts, IsTree}
+use Rattle.comemo_base.specs.Lookup.{under, IsNext, IsAskedPrefix}
 use Rattle.comemo_base.specs.Steps.{Follows}
 use Rattle.comemo_base.specs.Insertion.{Has, AllAmong, LacksNextCall, outside, Exists, Misses, IsStem}
 use Rattle.comemo_base.proofs.Under.{Any-under, Any-from_under}
-use Rattle.comemo_base.proofs.Paths.{turned, joined, Fit, Fit-from_tree, get_or_same, IsNext-more, IsSamePath-more, Follows-from_front}
+use Rattle.comemo_base.proofs.Paths.{turned, joined, Fit, Fit-from_tree, get_or_same, IsNext-more, IsSamePath-more, Follows-from_prefix}
 
--- a list of pairs is the front of a path under the key, and is among the sequence's pairs
+-- a list of pairs is the prefix of a path under the key, and is among the sequence's pairs
 pub record Walked {K C R T : Type 0} (eq : C → C → Bool) (same : R → R → Bool) (eqk : K → K → Bool) (key : K) (s path : List (C × R)) (e : Stored K C R T) : Type 0 where
   pub under : IsTrue (eqk e.key key)
   pub deep : length path ≤ length e.path
-  pub front : IsSamePath eq same path (take (length path) e.path)
+  pub prefix : IsSamePath eq same path (take (length path) e.path)
   pub among : AllAmong eq same s path
 
 cond_none : {R : Type 0} (b : Bool) (o : Option R) → o ≡ None → cond b None o ≡ None
@@ -70,9 +70,9 @@ module _ {C R : Type 0} (test : C → Bool) where
   lookup-absent (x ∷ ps) (suc n) p l at t e =
       elim (cases_Bool (test x.0)) [ inl a ↦ let h : Some x.1 ≡ None = rw a at e in cc | inr a ↦ lookup-absent ps n p (omega arith) at t (rw a at e) ]
 
-  is_some-lookup-push : (front : List (C × R)) (c : C) (answer : R) → is_some (lookup test (front ++ (c, answer) ∷ [])) ≡ (is_some (lookup test front) || test c)
+  is_some-lookup-push : (prefix : List (C × R)) (c : C) (answer : R) → is_some (lookup test (prefix ++ (c, answer) ∷ [])) ≡ (is_some (lookup test prefix) || test c)
   is_some-lookup-push [] c answer = elim (cases_Bool (test c)) [ inl a ↦ rw a refl | inr a ↦ rw a refl ]
-  is_some-lookup-push (p ∷ front) c answer = elim (cases_Bool (test p.0)) [ inl a ↦ rw a refl | inr a ↦ rw a (is_some-lookup-push front c answer) ]
+  is_some-lookup-push (p ∷ prefix) c answer = elim (cases_Bool (test p.0)) [ inl a ↦ rw a refl | inr a ↦ rw a (is_some-lookup-push prefix c answer) ]
 
   lookup-append_none : (xs ys : List (C × R)) → lookup test (xs ++ ys) ≡ None → lookup test ys ≡ None
   lookup-append_none [] ys e = e
@@ -104,31 +104,31 @@ module _ {C R : Type 0} {eq : C → C → Bool} (calls : IsEquivalence eq) where
         | inr a ↦ rw a (ap (λ qs. p ∷ qs) (remove-distinct c ps h.1))
       ]
 
-  pub lookup-outside : (front s : List (C × R)) (c : C) → lookup (eq c) (outside eq front s) ≡ cond (is_some (lookup (eq c) front)) None (lookup (eq c) s)
-  lookup-outside front [] c = sym (cond_none (is_some (lookup (eq c) front)) None refl)
-  lookup-outside front (p ∷ s) c =
+  pub lookup-outside : (prefix s : List (C × R)) (c : C) → lookup (eq c) (outside eq prefix s) ≡ cond (is_some (lookup (eq c) prefix)) None (lookup (eq c) s)
+  lookup-outside prefix [] c = sym (cond_none (is_some (lookup (eq c) prefix)) None refl)
+  lookup-outside prefix (p ∷ s) c =
       elim (cases_Bool (eq c p.0)) [
         | inl a ↦
-            let same : lookup (eq p.0) front ≡ lookup (eq c) front = sym (lookup_alike front c p.0 a) in
-            elim (cases_Bool (is_some (lookup (eq c) front))) [
-              | inl b ↦ rw (same, b) (lookup-outside front s c ∙ rw b refl)
+            let same : lookup (eq p.0) prefix ≡ lookup (eq c) prefix = sym (lookup_alike prefix c p.0 a) in
+            elim (cases_Bool (is_some (lookup (eq c) prefix))) [
+              | inl b ↦ rw (same, b) (lookup-outside prefix s c ∙ rw b refl)
               | inr b ↦ rw (same, b) (rw a refl)
             ]
-        | inr a ↦ elim (cases_Bool (is_some (lookup (eq p.0) front))) [
-          | inl b ↦ rw (b, a) (lookup-outside front s c)
-          | inr b ↦ rw b (rw a (lookup-outside front s c))
+        | inr a ↦ elim (cases_Bool (is_some (lookup (eq p.0) prefix))) [
+          | inl b ↦ rw (b, a) (lookup-outside prefix s c)
+          | inr b ↦ rw b (rw a (lookup-outside prefix s c))
         ]
       ]
 
-  pub outside-more : (front s : List (C × R)) (c c' : C) (answer : R) → HasDistinctCalls eq s → eq c c' ≡ true → remove_entry (eq c) (outside eq front s) ≡ outside eq (front ++ (c', answer) ∷ []) s
-  outside-more front s c c' answer h e =
-      remove-distinct c (outside eq front s) (HasDistinctCalls-filter _ s h)
-      ∙ filter_twice (λ p. not (is_some (lookup (eq p.0) front))) (λ p. not (eq c p.0)) (λ p. not (is_some (lookup (eq p.0) (front ++ (c', answer) ∷ []))))
-      (λ p. ap not (is_some-lookup-push (eq p.0) front c' answer ∙ ap (λ b. is_some (lookup (eq p.0) front) || b) (calls.symm p.0 c' ∙ sym (calls.congr c c' p.0 e))) ∙ not_or (is_some (lookup (eq p.0) front)) (eq c p.0)) s
+  pub outside-more : (prefix s : List (C × R)) (c c' : C) (answer : R) → HasDistinctCalls eq s → eq c c' ≡ true → remove_entry (eq c) (outside eq prefix s) ≡ outside eq (prefix ++ (c', answer) ∷ []) s
+  outside-more prefix s c c' answer h e =
+      remove-distinct c (outside eq prefix s) (HasDistinctCalls-filter _ s h)
+      ∙ filter_twice (λ p. not (is_some (lookup (eq p.0) prefix))) (λ p. not (eq c p.0)) (λ p. not (is_some (lookup (eq p.0) (prefix ++ (c', answer) ∷ []))))
+      (λ p. ap not (is_some-lookup-push (eq p.0) prefix c' answer ∙ ap (λ b. is_some (lookup (eq p.0) prefix) || b) (calls.symm p.0 c' ∙ sym (calls.congr c c' p.0 e))) ∙ not_or (is_some (lookup (eq p.0) prefix)) (eq c p.0)) s
 
-  tail-distinct : (front s : List (C × R)) → HasDistinctCalls eq (front ++ s) → HasDistinctCalls eq s
+  tail-distinct : (prefix s : List (C × R)) → HasDistinctCalls eq (prefix ++ s) → HasDistinctCalls eq s
   tail-distinct [] s h = h
-  tail-distinct (x ∷ front) s h = tail-distinct front s h.1
+  tail-distinct (x ∷ prefix) s h = tail-distinct prefix s h.1
 
   taken_none : (c : C) (s : List (C × R)) → HasDistinctCalls eq s → lookup (eq c) (remove_entry (eq c) s) ≡ None
   taken_none c [] h = refl
@@ -138,18 +138,18 @@ module _ {C R : Type 0} {eq : C → C → Bool} (calls : IsEquivalence eq) where
         | inr a ↦ rw a (rw a (taken_none c s h.1))
       ]
 
-  -- a pair moves from the sequence to the end of the front
-  pub HasDistinctCalls-moved : (front s : List (C × R)) (c c' : C) (answer : R) → HasDistinctCalls eq (front ++ s) → lookup (eq c) s ≡ Some answer → eq c c' ≡ true → HasDistinctCalls eq (front ++ (c', answer) ∷ remove_entry (eq c) s)
+  -- a pair moves from the sequence to the end of the prefix
+  pub HasDistinctCalls-moved : (prefix s : List (C × R)) (c c' : C) (answer : R) → HasDistinctCalls eq (prefix ++ s) → lookup (eq c) s ≡ Some answer → eq c c' ≡ true → HasDistinctCalls eq (prefix ++ (c', answer) ∷ remove_entry (eq c) s)
   HasDistinctCalls-moved [] s c c' answer h e k =
       (sym (lookup_alike (remove_entry (eq c) s) c c' k) ∙ taken_none c s h, rw (remove-distinct c s h) (HasDistinctCalls-filter _ s h))
-  HasDistinctCalls-moved (x ∷ front) s c c' answer h e k =
-      let none : lookup (eq x.0) s ≡ None = lookup-append_none (eq x.0) front s h.0 in (
-        lookup-swapped (eq x.0) front s ((c', answer) ∷ remove_entry (eq c) s) h.0 (
+  HasDistinctCalls-moved (x ∷ prefix) s c c' answer h e k =
+      let none : lookup (eq x.0) s ≡ None = lookup-append_none (eq x.0) prefix s h.0 in (
+        lookup-swapped (eq x.0) prefix s ((c', answer) ∷ remove_entry (eq c) s) h.0 (
             elim (cases_Bool (eq x.0 c')) [
               | inl t ↦ let w : Some answer ≡ None = sym e ∙ lookup_alike s c c' k ∙ sym (lookup_alike s x.0 c' t) ∙ none in cc
-              | inr t ↦ rw (t, remove-distinct c s (tail-distinct front s h.1)) (lookup-filter_none (eq x.0) _ s none)
+              | inr t ↦ rw (t, remove-distinct c s (tail-distinct prefix s h.1)) (lookup-filter_none (eq x.0) _ s none)
             ]),
-        HasDistinctCalls-moved front s c c' answer h.1 e k,
+        HasDistinctCalls-moved prefix s c c' answer h.1 e k,
       )
 
 module _ {C R : Type 0} {eq : C → C → Bool} {same : R → R → Bool} (calls : IsEquivalence eq) (answers : IsEquivalence same) where
@@ -170,16 +170,16 @@ module _ {C R : Type 0} {eq : C → C → Bool} {same : R → R → Bool} (calls
 
   -- a call of the path that is still to come is none of those asked
   pub lookup-asked_none : (n : ℕ) (asked ps : List (C × R)) (p : C × R) → IsSamePath eq same asked (take n ps) → n < length ps → HasDistinctCalls eq ps → p ≡ get_or ps n p → lookup (eq p.0) asked ≡ None
-  lookup-asked_none n asked [] p front l d at = absurd (omega arith)
-  lookup-asked_none zero [] (x ∷ ps) p front l d at = refl
-  lookup-asked_none zero (a ∷ rest) (x ∷ ps) p front l d at = absurd front
-  lookup-asked_none (suc n) [] (x ∷ ps) p front l d at = absurd front
-  lookup-asked_none (suc n) (a ∷ rest) (x ∷ ps) p front l d at =
+  lookup-asked_none n asked [] p prefix l d at = absurd (omega arith)
+  lookup-asked_none zero [] (x ∷ ps) p prefix l d at = refl
+  lookup-asked_none zero (a ∷ rest) (x ∷ ps) p prefix l d at = absurd prefix
+  lookup-asked_none (suc n) [] (x ∷ ps) p prefix l d at = absurd prefix
+  lookup-asked_none (suc n) (a ∷ rest) (x ∷ ps) p prefix l d at =
       elim (cases_Bool (eq p.0 a.0)) [
         | inl t ↦
-            let h : eq x.0 p.0 ≡ true = calls.symm x.0 p.0 ∙ calls.congr p.0 a.0 x.0 t ∙ front.0 in
+            let h : eq x.0 p.0 ≡ true = calls.symm x.0 p.0 ∙ calls.congr p.0 a.0 x.0 t ∙ prefix.0 in
             absurd (lookup-absent (eq x.0) ps n p (omega arith) at h d.0)
-        | inr t ↦ rw t (lookup-asked_none n rest ps p front.2 (omega arith) d.1 at)
+        | inr t ↦ rw t (lookup-asked_none n rest ps p prefix.2 (omega arith) d.1 at)
       ]
 
   pub AllAmong-more : (s asked : List (C × R)) (c : C) (answer : R) → AllAmong eq same s asked → lookup (eq c) s ≡ Some answer → AllAmong eq same s (asked ++ (c, answer) ∷ [])
@@ -193,77 +193,77 @@ module _ {C R : Type 0} {eq : C → C → Bool} {same : R → R → Bool} (calls
   AllAmong-same s (p ∷ ps) (q ∷ qs) k a = (Has-alike s p q k.0 k.1 a.0, AllAmong-same s ps qs k.2 a.1)
 
   pub LacksNextCall-at : (s : List (C × R)) (n : ℕ) (asked ps : List (C × R)) (p : C × R) → IsSamePath eq same asked (take n ps) → AllAmong eq same s asked → n < length ps → p ≡ get_or ps n p → lookup (eq p.0) s ≡ None → LacksNextCall eq same s ps
-  LacksNextCall-at s n asked [] p front a l at e = absurd (omega arith)
-  LacksNextCall-at s zero asked (x ∷ ps) p front a l at e = inl (ap (λ (z : C × R). lookup (eq z.0) s) (sym at) ∙ e)
-  LacksNextCall-at s (suc n) [] (x ∷ ps) p front a l at e = absurd front
-  LacksNextCall-at s (suc n) (b ∷ asked) (x ∷ ps) p front a l at e =
-      inr (Has-alike s b x front.0 front.1 a.0, LacksNextCall-at s n asked ps p front.2 a.1 (omega arith) at e)
+  LacksNextCall-at s n asked [] p prefix a l at e = absurd (omega arith)
+  LacksNextCall-at s zero asked (x ∷ ps) p prefix a l at e = inl (ap (λ (z : C × R). lookup (eq z.0) s) (sym at) ∙ e)
+  LacksNextCall-at s (suc n) [] (x ∷ ps) p prefix a l at e = absurd prefix
+  LacksNextCall-at s (suc n) (b ∷ asked) (x ∷ ps) p prefix a l at e =
+      inr (Has-alike s b x prefix.0 prefix.1 a.0, LacksNextCall-at s n asked ps p prefix.2 a.1 (omega arith) at e)
 
   -- a call that is equal to the path's next is its next too
-  IsNext-alike : (front ps : List (C × R)) (c c' : C) → eq c' c ≡ true → IsNext eq same front c ps → IsNext eq same front c' ps
+  IsNext-alike : (prefix ps : List (C × R)) (c c' : C) → eq c' c ≡ true → IsNext eq same prefix c ps → IsNext eq same prefix c' ps
   IsNext-alike [] [] c c' e h = absurd h
   IsNext-alike [] (q ∷ qs) c c' e h = joined calls c' c q.0 e h
-  IsNext-alike (p ∷ front) [] c c' e h = absurd h
-  IsNext-alike (p ∷ front) (q ∷ qs) c c' e h = (h.0, h.1, IsNext-alike front qs c c' e h.2)
+  IsNext-alike (p ∷ prefix) [] c c' e h = absurd h
+  IsNext-alike (p ∷ prefix) (q ∷ qs) c c' e h = (h.0, h.1, IsNext-alike prefix qs c c' e h.2)
 
   same_answer : (s : List (C × R)) (x q : C × R) → IsTrue (eq x.0 q.0) → Has eq same s x → Has eq same s q → IsTrue (same x.1 q.1)
   same_answer s x q e f h = has_same (lookup (eq q.0) s) x.1 q.1 (subst (λ o. IsSomeAnd o (λ r. IsTrue (same r x.1))) (lookup_alike calls s x.0 q.0 e) f) h
 
-  pub IsFront-among : (s front ps qs : List (C × R)) (last : C × R) → IsNext eq same front last.0 ps → Fit calls answers ps qs → AllAmong eq same s (front ++ last ∷ []) → AllAmong eq same s qs → IsFront eq same (front ++ last ∷ []) qs
-  IsFront-among s [] [] qs last k f a b = absurd k
-  IsFront-among s [] (p ∷ ps) [] last k f a b = absurd f
-  IsFront-among s [] (p ∷ ps) (q ∷ qs) last k f a b =
+  pub IsPrefix-among : (s prefix ps qs : List (C × R)) (last : C × R) → IsNext eq same prefix last.0 ps → Fit calls answers ps qs → AllAmong eq same s (prefix ++ last ∷ []) → AllAmong eq same s qs → IsPrefix eq same (prefix ++ last ∷ []) qs
+  IsPrefix-among s [] [] qs last k f a b = absurd k
+  IsPrefix-among s [] (p ∷ ps) [] last k f a b = absurd f
+  IsPrefix-among s [] (p ∷ ps) (q ∷ qs) last k f a b =
       let e : eq last.0 q.0 ≡ true = joined calls last.0 p.0 q.0 k f.0 in (e, same_answer s last q e a.0 b.0, tt)
-  IsFront-among s (x ∷ front) [] qs last k f a b = absurd k
-  IsFront-among s (x ∷ front) (p ∷ ps) [] last k f a b = absurd f
-  IsFront-among s (x ∷ front) (p ∷ ps) (q ∷ qs) last k f a b =
+  IsPrefix-among s (x ∷ prefix) [] qs last k f a b = absurd k
+  IsPrefix-among s (x ∷ prefix) (p ∷ ps) [] last k f a b = absurd f
+  IsPrefix-among s (x ∷ prefix) (p ∷ ps) (q ∷ qs) last k f a b =
       let e : eq x.0 q.0 ≡ true = joined calls x.0 p.0 q.0 k.0 f.0 in
       let h : IsTrue (same x.1 q.1) = same_answer s x q e a.0 b.0 in
-      (e, h, IsFront-among s front ps qs last k.2 (f.1 (joined answers p.1 x.1 q.1 (turned answers x.1 p.1 k.1) h)) a.1 b.1)
+      (e, h, IsPrefix-among s prefix ps qs last k.2 (f.1 (joined answers p.1 x.1 q.1 (turned answers x.1 p.1 k.1) h)) a.1 b.1)
 
-  pub IsFront-lacks : (s front ps qs : List (C × R)) (last : C × R) → IsNext eq same front last.0 ps → Fit calls answers ps qs → AllAmong eq same s (front ++ last ∷ []) → LacksNextCall eq same s qs → IsFront eq same (front ++ last ∷ []) qs
-  IsFront-lacks s [] [] qs last k f a b = absurd k
-  IsFront-lacks s [] (p ∷ ps) [] last k f a b = absurd f
-  IsFront-lacks s [] (p ∷ ps) (q ∷ qs) last k f a b =
+  pub IsPrefix-lacks : (s prefix ps qs : List (C × R)) (last : C × R) → IsNext eq same prefix last.0 ps → Fit calls answers ps qs → AllAmong eq same s (prefix ++ last ∷ []) → LacksNextCall eq same s qs → IsPrefix eq same (prefix ++ last ∷ []) qs
+  IsPrefix-lacks s [] [] qs last k f a b = absurd k
+  IsPrefix-lacks s [] (p ∷ ps) [] last k f a b = absurd f
+  IsPrefix-lacks s [] (p ∷ ps) (q ∷ qs) last k f a b =
       let e : eq last.0 q.0 ≡ true = joined calls last.0 p.0 q.0 k f.0 in
       elim b [ inl n ↦ absurd (Has-not s last q e a.0 n) | inr m ↦ (e, same_answer s last q e a.0 m.0, tt) ]
-  IsFront-lacks s (x ∷ front) [] qs last k f a b = absurd k
-  IsFront-lacks s (x ∷ front) (p ∷ ps) [] last k f a b = absurd f
-  IsFront-lacks s (x ∷ front) (p ∷ ps) (q ∷ qs) last k f a b =
+  IsPrefix-lacks s (x ∷ prefix) [] qs last k f a b = absurd k
+  IsPrefix-lacks s (x ∷ prefix) (p ∷ ps) [] last k f a b = absurd f
+  IsPrefix-lacks s (x ∷ prefix) (p ∷ ps) (q ∷ qs) last k f a b =
       let e : eq x.0 q.0 ≡ true = joined calls x.0 p.0 q.0 k.0 f.0 in
       elim b [
         | inl n ↦ absurd (Has-not s x q e a.0 n)
-        | inr m ↦ let h : IsTrue (same x.1 q.1) = same_answer s x q e a.0 m.0 in (e, h, IsFront-lacks s front ps qs last k.2 (f.1 (joined answers p.1 x.1 q.1 (turned answers x.1 p.1 k.1) h)) a.1 m.1)
+        | inr m ↦ let h : IsTrue (same x.1 q.1) = same_answer s x q e a.0 m.0 in (e, h, IsPrefix-lacks s prefix ps qs last k.2 (f.1 (joined answers p.1 x.1 q.1 (turned answers x.1 p.1 k.1) h)) a.1 m.1)
       ]
 
   -- a longer list of pairs of the sequence was asked along a path that fits
-  pub IsFront-longer : (s front ps qs other : List (C × R)) (last end : C × R) → IsNext eq same front last.0 ps → Fit calls answers ps qs → AllAmong eq same s (front ++ last ∷ []) → IsNext eq same other end.0 qs → AllAmong eq same s (other ++ end ∷ []) → length front < length other → IsFront eq same (front ++ last ∷ []) qs
-  IsFront-longer s front ps qs [] last end k f a g b l = absurd (omega arith)
-  IsFront-longer s [] [] qs (y ∷ other) last end k f a g b l = absurd k
-  IsFront-longer s [] (p ∷ ps) [] (y ∷ other) last end k f a g b l = absurd f
-  IsFront-longer s [] (p ∷ ps) (q ∷ qs) (y ∷ other) last end k f a g b l =
+  pub IsPrefix-longer : (s prefix ps qs other : List (C × R)) (last end : C × R) → IsNext eq same prefix last.0 ps → Fit calls answers ps qs → AllAmong eq same s (prefix ++ last ∷ []) → IsNext eq same other end.0 qs → AllAmong eq same s (other ++ end ∷ []) → length prefix < length other → IsPrefix eq same (prefix ++ last ∷ []) qs
+  IsPrefix-longer s prefix ps qs [] last end k f a g b l = absurd (omega arith)
+  IsPrefix-longer s [] [] qs (y ∷ other) last end k f a g b l = absurd k
+  IsPrefix-longer s [] (p ∷ ps) [] (y ∷ other) last end k f a g b l = absurd f
+  IsPrefix-longer s [] (p ∷ ps) (q ∷ qs) (y ∷ other) last end k f a g b l =
       let e : eq last.0 q.0 ≡ true = joined calls last.0 p.0 q.0 k f.0 in
       (e, same_answer s last q e a.0 (Has-alike s y q g.0 g.1 b.0), tt)
-  IsFront-longer s (x ∷ front) [] qs (y ∷ other) last end k f a g b l = absurd k
-  IsFront-longer s (x ∷ front) (p ∷ ps) [] (y ∷ other) last end k f a g b l = absurd f
-  IsFront-longer s (x ∷ front) (p ∷ ps) (q ∷ qs) (y ∷ other) last end k f a g b l =
+  IsPrefix-longer s (x ∷ prefix) [] qs (y ∷ other) last end k f a g b l = absurd k
+  IsPrefix-longer s (x ∷ prefix) (p ∷ ps) [] (y ∷ other) last end k f a g b l = absurd f
+  IsPrefix-longer s (x ∷ prefix) (p ∷ ps) (q ∷ qs) (y ∷ other) last end k f a g b l =
       let e : eq x.0 q.0 ≡ true = joined calls x.0 p.0 q.0 k.0 f.0 in
       let h : IsTrue (same x.1 q.1) = same_answer s x q e a.0 (Has-alike s y q g.0 g.1 b.0) in
-      (e, h, IsFront-longer s front ps qs other last end k.2 (f.1 (joined answers p.1 x.1 q.1 (turned answers x.1 p.1 k.1) h)) a.1 g.2 b.1 (omega arith))
+      (e, h, IsPrefix-longer s prefix ps qs other last end k.2 (f.1 (joined answers p.1 x.1 q.1 (turned answers x.1 p.1 k.1) h)) a.1 g.2 b.1 (omega arith))
 
-  -- a path that does not have the front parts from each path that goes on from it
-  pub Parts-from_front : (front rest ps qs : List (C × R)) (last : C × R) → IsNext eq same front last.0 ps → Fit calls answers ps qs → (IsFront eq same (front ++ last ∷ []) qs → ⊥) → Parts eq same qs ((front ++ last ∷ []) ++ rest) × Parts eq same ((front ++ last ∷ []) ++ rest) qs
-  Parts-from_front [] rest [] qs last k f miss = absurd k
-  Parts-from_front [] rest (p ∷ ps) [] last k f miss = absurd f
-  Parts-from_front [] rest (p ∷ ps) (q ∷ qs) last k f miss =
+  -- a path that does not have the prefix parts from each path that goes on from it
+  pub Parts-from_prefix : (prefix rest ps qs : List (C × R)) (last : C × R) → IsNext eq same prefix last.0 ps → Fit calls answers ps qs → (IsPrefix eq same (prefix ++ last ∷ []) qs → ⊥) → Parts eq same qs ((prefix ++ last ∷ []) ++ rest) × Parts eq same ((prefix ++ last ∷ []) ++ rest) qs
+  Parts-from_prefix [] rest [] qs last k f miss = absurd k
+  Parts-from_prefix [] rest (p ∷ ps) [] last k f miss = absurd f
+  Parts-from_prefix [] rest (p ∷ ps) (q ∷ qs) last k f miss =
       let e : eq last.0 q.0 ≡ true = joined calls last.0 p.0 q.0 k f.0 in
       ((calls.symm q.0 last.0 ∙ e, λ h. absurd (miss (e, turned answers q.1 last.1 h, tt))), (e, λ h. absurd (miss (e, h, tt))))
-  Parts-from_front (x ∷ front) rest [] qs last k f miss = absurd k
-  Parts-from_front (x ∷ front) rest (p ∷ ps) [] last k f miss = absurd f
-  Parts-from_front (x ∷ front) rest (p ∷ ps) (q ∷ qs) last k f miss =
+  Parts-from_prefix (x ∷ prefix) rest [] qs last k f miss = absurd k
+  Parts-from_prefix (x ∷ prefix) rest (p ∷ ps) [] last k f miss = absurd f
+  Parts-from_prefix (x ∷ prefix) rest (p ∷ ps) (q ∷ qs) last k f miss =
       let e : eq x.0 q.0 ≡ true = joined calls x.0 p.0 q.0 k.0 f.0 in (
-        (calls.symm q.0 x.0 ∙ e, λ h. (Parts-from_front front rest ps qs last k.2 (f.1 (joined answers p.1 x.1 q.1 (turned answers x.1 p.1 k.1) (turned answers q.1 x.1 h))) (λ t. miss (e, turned answers q.1 x.1 h, t))).0),
-        (e, λ h. (Parts-from_front front rest ps qs last k.2 (f.1 (joined answers p.1 x.1 q.1 (turned answers x.1 p.1 k.1) h)) (λ t. miss (e, h, t))).1),
+        (calls.symm q.0 x.0 ∙ e, λ h. (Parts-from_prefix prefix rest ps qs last k.2 (f.1 (joined answers p.1 x.1 q.1 (turned answers x.1 p.1 k.1) (turned answers q.1 x.1 h))) (λ t. miss (e, turned answers q.1 x.1 h, t))).0),
+        (e, λ h. (Parts-from_prefix prefix rest ps qs last k.2 (f.1 (joined answers p.1 x.1 q.1 (turned answers x.1 p.1 k.1) h)) (λ t. miss (e, h, t))).1),
       )
 
   IsSamePath-alike : (asked qs : List (C × R)) (c c' : C) (answer : R) → eq c c' ≡ true → IsSamePath eq same (asked ++ (c, answer) ∷ []) qs → IsSamePath eq same (asked ++ (c', answer) ∷ []) qs
@@ -275,10 +275,10 @@ module _ {C R : Type 0} {eq : C → C → Bool} {same : R → R → Bool} (calls
 
   -- a step of the walk: the entry at i is e, whose path is ps, and n pairs were asked
   module _ {K T : Type 0} {eqk : K → K → Bool} (keys : IsEquivalence eqk) (es : List (Stored K C R T)) (tree : IsTree eq same eqk es) (key : K) (s : List (C × R)) (i n : ℕ) (e : Stored K C R T) (asked ps : List (C × R)) (l : i < length es) (at : e ≡ get_or es i e) (walked : (d : Stored K C R T) → Walked eq same eqk key s asked (get_or es i d)) (own : ps ≡ e.path) (len : n ≡ length asked) where
-    same_front : IsSamePath eq same asked (take n ps)
-    same_front =
+    same_prefix : IsSamePath eq same asked (take n ps)
+    same_prefix =
         let P : List (C × R) → Type 0 = λ qs. IsSamePath eq same asked qs in
-        subst P (ap (λ m. take m (get_or es i e).path) (sym len) ∙ ap (λ (x : Stored K C R T). take n x.path) (sym at) ∙ ap (λ qs. take n qs) (sym own)) (walked e).front
+        subst P (ap (λ m. take m (get_or es i e).path) (sym len) ∙ ap (λ (x : Stored K C R T). take n x.path) (sym at) ∙ ap (λ qs. take n qs) (sym own)) (walked e).prefix
 
     own_key : IsTrue (eqk e.key key)
     own_key = ap (λ (x : Stored K C R T). eqk x.key key) at ∙ (walked e).under
@@ -287,7 +287,7 @@ module _ {C R : Type 0} {eq : C → C → Bool} {same : R → R → Bool} (calls
     pub Exists-at : n ≡ length ps → Exists eq same (under eqk es key) s
     Exists-at whole =
         let P : List (C × R) → Type 0 = λ qs. IsSamePath eq same asked qs in
-        Any-under eqk es key (λ x. AllAmong eq same s x.path) (i, e, l, sym at, (own_key, AllAmong-same s asked e.path (subst P (take_all n ps (omega arith) ∙ own) same_front) (walked e).among))
+        Any-under eqk es key (λ x. AllAmong eq same s x.path) (i, e, l, sym at, (own_key, AllAmong-same s asked e.path (subst P (take_all n ps (omega arith) ∙ own) same_prefix) (walked e).among))
 
     -- where the path was not asked to its end, it goes on
     pub deeper : (n ≡ length ps → ⊥) → n < length ps
@@ -303,19 +303,19 @@ module _ {C R : Type 0} {eq : C → C → Bool} {same : R → R → Bool} (calls
           subst P (ap (λ (x : Stored K C R T). x.path) (sym at) ∙ sym own) (tree.distinct i e l)
 
       from_left : lookup (eq p.0) left ≡ lookup (eq p.0) s
-      from_left = ap (λ xs. lookup (eq p.0) xs) k ∙ lookup-outside calls asked s p.0 ∙ ap (λ o. cond (is_some o) None (lookup (eq p.0) s)) (lookup-asked_none n asked ps p same_front deep distinct_own is)
+      from_left = ap (λ xs. lookup (eq p.0) xs) k ∙ lookup-outside calls asked s p.0 ∙ ap (λ o. cond (is_some o) None (lookup (eq p.0) s)) (lookup-asked_none n asked ps p same_prefix deep distinct_own is)
 
       -- the sequence does not have the call
       pub Misses-at : None ≡ lookup (eq p.0) left → Misses eq same (under eqk es key) s
       Misses-at none =
-          Any-under eqk es key (λ x. LacksNextCall eq same s x.path) (i, e, l, sym at, (own_key, subst (λ qs. LacksNextCall eq same s qs) own (LacksNextCall-at s n asked ps p same_front (walked e).among deep is (sym from_left ∙ sym none))))
+          Any-under eqk es key (λ x. LacksNextCall eq same s x.path) (i, e, l, sym at, (own_key, subst (λ qs. LacksNextCall eq same s qs) own (LacksNextCall-at s n asked ps p same_prefix (walked e).among deep is (sym from_left ∙ sym none))))
 
       module _ (answer : R) (c : C) (some : Some answer ≡ lookup (eq p.0) left) (alike : eq p.0 c ≡ true) where
         among_more : AllAmong eq same s (asked ++ (c, answer) ∷ [])
         among_more = AllAmong-more s asked c answer (walked e).among (sym (lookup_alike calls s p.0 c alike) ∙ sym from_left ∙ sym some)
 
         next : IsNext eq same asked c ps
-        next = IsNext-alike asked ps p.0 c (calls.symm c p.0 ∙ alike) (IsNext-more calls answers n asked ps p same_front deep is)
+        next = IsNext-alike asked ps p.0 c (calls.symm c p.0 ∙ alike) (IsNext-more calls answers n asked ps p same_prefix deep is)
 
         pub left_more : HasDistinctCalls eq s → remove_entry (eq p.0) left ≡ outside eq (asked ++ (c, answer) ∷ []) s
         left_more d = ap (λ xs. remove_entry (eq p.0) xs) k ∙ outside-more calls asked s p.0 c answer d alike
@@ -337,41 +337,41 @@ module _ {C R : Type 0} {eq : C → C → Bool} {same : R → R → Bool} (calls
             record {
               under = (f d).0;
               deep = omega (arith, more, (f d).1.0);
-              front = subst (λ r. IsSamePath eq same (asked ++ (c, answer) ∷ []) (take r q.path)) (sym more) (IsSamePath-alike asked (take (suc n) q.path) p.0 c answer alike (IsSamePath-more calls answers n asked ps q.path p answer same_front deep is (fits j d m (f d).0) (f d).1));
+              prefix = subst (λ r. IsSamePath eq same (asked ++ (c, answer) ∷ []) (take r q.path)) (sym more) (IsSamePath-alike asked (take (suc n) q.path) p.0 c answer alike (IsSamePath-more calls answers n asked ps q.path p answer same_prefix deep is (fits j d m (f d).0) (f d).1));
               among = among_more;
             }
 
         module _ (none : (j : ℕ) (d : Stored K C R T) → j < length es → IsTrue (eqk (get_or es j d).key key) → Follows same (get_or es j d).path ps n answer → ⊥) where
-          not_front : (j : ℕ) (d : Stored K C R T) → j < length es → IsTrue (eqk (get_or es j d).key key) → IsFront eq same (asked ++ (c, answer) ∷ []) (get_or es j d).path → ⊥
-          not_front j d m u f = none j d m u (Follows-from_front calls answers n asked ps (get_or es j d).path c answer same_front deep f)
+          not_prefix : (j : ℕ) (d : Stored K C R T) → j < length es → IsTrue (eqk (get_or es j d).key key) → IsPrefix eq same (asked ++ (c, answer) ∷ []) (get_or es j d).path → ⊥
+          not_prefix j d m u f = none j d m u (Follows-from_prefix calls answers n asked ps (get_or es j d).path c answer same_prefix deep f)
 
           pub not_Exists : Exists eq same (under eqk es key) s → ⊥
           not_Exists some =
               let h = Any-from_under eqk es key (λ x. AllAmong eq same s x.path) some in
               let u : IsTrue (eqk (get_or es h.0 h.1).key key) = ap (λ (x : Stored K C R T). eqk x.key key) h.3 ∙ h.4.0 in
-              not_front h.0 h.1 h.2 u (IsFront-among s asked ps (get_or es h.0 h.1).path (c, answer) next (fits h.0 h.1 h.2 u) among_more (subst (λ (x : Stored K C R T). AllAmong eq same s x.path) (sym h.3) h.4.1))
+              not_prefix h.0 h.1 h.2 u (IsPrefix-among s asked ps (get_or es h.0 h.1).path (c, answer) next (fits h.0 h.1 h.2 u) among_more (subst (λ (x : Stored K C R T). AllAmong eq same s x.path) (sym h.3) h.4.1))
 
           pub not_Misses : Misses eq same (under eqk es key) s → ⊥
           not_Misses some =
               let h = Any-from_under eqk es key (λ x. LacksNextCall eq same s x.path) some in
               let u : IsTrue (eqk (get_or es h.0 h.1).key key) = ap (λ (x : Stored K C R T). eqk x.key key) h.3 ∙ h.4.0 in
-              not_front h.0 h.1 h.2 u (IsFront-lacks s asked ps (get_or es h.0 h.1).path (c, answer) next (fits h.0 h.1 h.2 u) among_more (subst (λ (x : Stored K C R T). LacksNextCall eq same s x.path) (sym h.3) h.4.1))
+              not_prefix h.0 h.1 h.2 u (IsPrefix-lacks s asked ps (get_or es h.0 h.1).path (c, answer) next (fits h.0 h.1 h.2 u) among_more (subst (λ (x : Stored K C R T). LacksNextCall eq same s x.path) (sym h.3) h.4.1))
 
-          longest : (other : List (C × R)) → AllAmong eq same s other → IsAskedFront eq same (under eqk es key) other → length other ≤ length (asked ++ (c, answer) ∷ [])
+          longest : (other : List (C × R)) → AllAmong eq same s other → IsAskedPrefix eq same (under eqk es key) other → length other ≤ length (asked ++ (c, answer) ∷ [])
           longest other a along =
-              let h = Any-from_under eqk es key (λ x. IsNext eq same along.front along.last.0 x.path) along.next in
+              let h = Any-from_under eqk es key (λ x. IsNext eq same along.prefix along.last.0 x.path) along.next in
               let u : IsTrue (eqk (get_or es h.0 h.1).key key) = ap (λ (x : Stored K C R T). eqk x.key key) h.3 ∙ h.4.0 in
-              elim (cases_lt (length asked) (length along.front)) [
+              elim (cases_lt (length asked) (length along.prefix)) [
                 | inl lt ↦
-                    absurd (not_front h.0 h.1 h.2 u (IsFront-longer s asked ps (get_or es h.0 h.1).path along.front (c, answer) along.last next (fits h.0 h.1 h.2 u) among_more (subst (λ (x : Stored K C R T). IsNext eq same along.front along.last.0 x.path) (sym h.3) h.4.1) (subst (λ xs. AllAmong eq same s xs) along.splits a) lt))
-                | inr le ↦ omega (arith, ap length along.splits, length-append along.front (along.last ∷ []), length-append asked ((c, answer) ∷ []))
+                    absurd (not_prefix h.0 h.1 h.2 u (IsPrefix-longer s asked ps (get_or es h.0 h.1).path along.prefix (c, answer) along.last next (fits h.0 h.1 h.2 u) among_more (subst (λ (x : Stored K C R T). IsNext eq same along.prefix along.last.0 x.path) (sym h.3) h.4.1) (subst (λ xs. AllAmong eq same s xs) along.splits a) lt))
+                | inr le ↦ omega (arith, ap length along.splits, length-append along.prefix (along.last ∷ []), length-append asked ((c, answer) ∷ []))
               ]
 
           pub stem : IsStem eq same (under eqk es key) s (asked ++ (c, answer) ∷ [])
           stem = inr (
             among_more,
             record {
-              front = asked;
+              prefix = asked;
               last = (c, answer);
               splits = refl;
               next = Any-under eqk es key (λ x. IsNext eq same asked c x.path) (i, e, l, sym at, (own_key, subst (λ qs. IsNext eq same asked c qs) own next));
@@ -380,7 +380,7 @@ module _ {C R : Type 0} {eq : C → C → Bool} {same : R → R → Bool} (calls
           )
 
           pub apart : (rest : List (C × R)) (j : ℕ) (d : Stored K C R T) → j < length es → IsTrue (eqk (get_or es j d).key key) → Parts eq same (get_or es j d).path ((asked ++ (c, answer) ∷ []) ++ rest) × Parts eq same ((asked ++ (c, answer) ∷ []) ++ rest) (get_or es j d).path
-          apart rest j d m u = Parts-from_front asked rest ps (get_or es j d).path (c, answer) next (fits j d m u) (not_front j d m u)
+          apart rest j d m u = Parts-from_prefix asked rest ps (get_or es j d).path (c, answer) next (fits j d m u) (not_prefix j d m u)
 
 -- one more entry, whose path parts from each under its key
 pub IsTree-push : {K C R T : Type 0} {eq : C → C → Bool} {same : R → R → Bool} {eqk : K → K → Bool} (keys : IsEquivalence eqk) (es : List (Stored K C R T)) (x : Stored K C R T) → IsTree eq same eqk es → HasDistinctCalls eq x.path → ((j : ℕ) (d : Stored K C R T) → j < length es → IsTrue (eqk (get_or es j d).key x.key) → Parts eq same (get_or es j d).path x.path × Parts eq same x.path (get_or es j d).path) → IsTree eq same eqk (es ++ x ∷ [])

@@ -23,7 +23,7 @@
 //! }
 //! ```
 //!
-//! These lines run as a test in the crate `comemo_base_tests`, in `src/examples.rt`.
+//! These lines run as a test in the crate `comemo_tree_tests`, in `src/examples.rt`.
 #![tactic(auto)]
 
 pub mod hashing;

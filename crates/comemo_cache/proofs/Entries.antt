@@ -27,7 +27,7 @@ IsSamePath-itself calls answers (p ∷ ps) = (calls.refl p.0, answers.refl p.1, 
 module _ {K C R O : Type 0} (M : Meaning K C R O) where
   module _ (calls : IsEquivalence M.same_call) (answers : IsEquivalence M.same_answer) where
     -- clones of a legal entry's path, output and writes stand in the definition at an equal key
-    pub Stands-found : ((j k : K) (m : C → R) (o : O) (ws : List C) → Respects M.same_call M.same_answer m → IsTrue (M.same_key j k) → M.def j m o ws → M.def k m o ws) → ((k : K) (m : C → R) (a b : O) (ws : List C) → Respects M.same_call M.same_answer m → M.is_clone a b → M.def k m a ws → M.def k m b ws) → ((k : K) (m : C → R) (o : O) (V W : List C) → Respects M.same_call M.same_answer m → SameWrites M.same_call V W → M.def k m o V → M.def k m o W) → (e : Stored K C R (Kept O C)) (key : K) (path : List (C × R)) (output : O) (writes : List C) → IsLegal M e → IsTrue (M.same_key e.key key) → IsSamePath M.same_call M.same_answer path e.path → M.is_clone e.value.output output → SameWrites M.same_call e.value.writes writes → Stands M (run key path output writes)
+    pub Stands-found : ((j k : K) (m : C → R) (o : O) (ws : List C) → Respects M.same_call M.same_answer m → IsTrue (M.same_key j k) → M.right j m o ws → M.right k m o ws) → ((k : K) (m : C → R) (a b : O) (ws : List C) → Respects M.same_call M.same_answer m → M.is_clone a b → M.right k m a ws → M.right k m b ws) → ((k : K) (m : C → R) (o : O) (V W : List C) → Respects M.same_call M.same_answer m → SameWrites M.same_call V W → M.right k m o V → M.right k m o W) → (e : Stored K C R (Kept O C)) (key : K) (path : List (C × R)) (output : O) (writes : List C) → IsLegal M e → IsTrue (M.same_key e.key key) → IsSamePath M.same_call M.same_answer path e.path → M.is_clone e.value.output output → SameWrites M.same_call e.value.writes writes → Stands M (run key path output writes)
     Stands-found keys outputs alike e key path output writes legal k s c same = λ m r a.
         alike key m output e.value.writes writes r same (outputs key m e.value.output output e.value.writes r c (keys e.key key m e.value.output e.value.writes r k (legal.stands m r (Agrees-same calls answers m r path e.path s a))))
 

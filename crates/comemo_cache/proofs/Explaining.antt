@@ -8,7 +8,7 @@ use Rattle.std.specs.Fn.{Mut, CalledAt}
 use Rattle.std.specs.declared.alloc.AllocError.{AllocError}
 use denote.Ref.{Bor}
 use Rattle.comemo_base.specs.Answers.{Respects, Agrees}
-use Rattle.comemo_base.specs.Tree.{Stored, IsSamePath, IsFront}
+use Rattle.comemo_base.specs.Tree.{Stored, IsSamePath, IsPrefix}
 use Rattle.comemo_base.specs.Lookup.{under, Answered, IsNext, IsAsked, LooksUp, FindsAgreeing}
 use Rattle.comemo_base.proofs.Paths.{joined, turned, Agrees-same}
 use Rattle.comemo_cache.proofs.Looking.{reads_asked, answered_agrees}
@@ -25,11 +25,11 @@ module _ {O C R : Type 0} (g : Mut O (Bor C × Unit {0}) (Result R AllocError)) 
 
 module _ {C R : Type 0} {eq : C → C → Bool} {same : R → R → Bool} (calls : IsEquivalence eq) (answers : IsEquivalence same) where
   -- the same pairs begin the same paths
-  front_same : (ps qs path : List (C × R)) → IsSamePath eq same ps qs → IsFront eq same qs path → IsFront eq same ps path
-  front_same [] qs path s k = tt
-  front_same (p ∷ ps) [] path s k = absurd s
-  front_same (p ∷ ps) (q ∷ qs) [] s k = absurd k
-  front_same (p ∷ ps) (q ∷ qs) (x ∷ path) s k = (joined calls p.0 q.0 x.0 s.0 k.0, joined answers p.1 q.1 x.1 s.1 k.1, front_same ps qs path s.2 k.2)
+  prefix_same : (ps qs path : List (C × R)) → IsSamePath eq same ps qs → IsPrefix eq same qs path → IsPrefix eq same ps path
+  prefix_same [] qs path s k = tt
+  prefix_same (p ∷ ps) [] path s k = absurd s
+  prefix_same (p ∷ ps) (q ∷ qs) [] s k = absurd k
+  prefix_same (p ∷ ps) (q ∷ qs) (x ∷ path) s k = (joined calls p.0 q.0 x.0 s.0 k.0, joined answers p.1 q.1 x.1 s.1 k.1, prefix_same ps qs path s.2 k.2)
 
   nothing_more : (qs : List (C × R)) (next : C × R) → IsSamePath eq same [] (qs ++ next ∷ []) → ⊥
   nothing_more [] next s = s
@@ -56,14 +56,14 @@ module _ {C R : Type 0} {eq : C → C → Bool} {same : R → R → Bool} (calls
     nothing_kept (u ∷ us) (p ∷ asked) k s = absurd s
 
     -- one that found nothing parts from the paths at the last call that it asked
-    pub parts_at : (us : List (Stored K C R T)) (asked notes : List (C × R)) (next : C × R) → (let none : Option T = None in IsAsked eq same us asked none) → IsSamePath eq same asked (notes ++ next ∷ []) → Any (λ e. IsNext eq same notes next.0 e.path) us × All (λ e. ¬ IsFront eq same (notes ++ next ∷ []) e.path) us
+    pub parts_at : (us : List (Stored K C R T)) (asked notes : List (C × R)) (next : C × R) → (let none : Option T = None in IsAsked eq same us asked none) → IsSamePath eq same asked (notes ++ next ∷ []) → Any (λ e. IsNext eq same notes next.0 e.path) us × All (λ e. ¬ IsPrefix eq same (notes ++ next ∷ []) e.path) us
     parts_at us asked notes next k s =
-        let nowhere : All (λ e. ¬ IsFront eq same (notes ++ next ∷ []) e.path) us = λ j d l f. k.0 j d l (front_same asked (notes ++ next ∷ []) _ s f) in
+        let nowhere : All (λ e. ¬ IsPrefix eq same (notes ++ next ∷ []) e.path) us = λ j d l f. k.0 j d l (prefix_same asked (notes ++ next ∷ []) _ s f) in
         elim k.1 [
           | inl is ↦ absurd (nothing_more notes next (subst (λ xs. IsSamePath eq same xs (notes ++ next ∷ [])) is s))
           | inr along ↦
               let some = along.next in
-              ((some.0, some.1, some.2, some.3, next_same along.front notes some.1.path along.last next (subst (λ xs. IsSamePath eq same xs (notes ++ next ∷ [])) along.splits s) some.4), nowhere)
+              ((some.0, some.1, some.2, some.3, next_same along.prefix notes some.1.path along.last next (subst (λ xs. IsSamePath eq same xs (notes ++ next ∷ [])) along.splits s) some.4), nowhere)
         ]
 
     module _ {B : Type 0} (value : B → T) (m : C → R) (respects : Respects eq same m) (us : List (Stored K C R T)) where
@@ -78,7 +78,7 @@ module _ {C R : Type 0} {eq : C → C → Bool} {same : R → R → Bool} (calls
       kept_none None asked is s k = nothing_kept us asked k s
 
       -- where nothing was found, the last call that was noted parts from what is kept
-      pub diverges : (r : Option B) (asked notes : List (C × R)) (next : C × R) → is_some r ≡ false → FindsAgreeing eq same us m (option_map value r) → IsSamePath eq same asked (notes ++ next ∷ []) → Agrees same m asked → IsAsked eq same us asked (option_map value r) → All (λ e. ¬ Agrees same m e.path) us × Agrees same m (notes ++ next ∷ []) × Any (λ e. IsNext eq same notes next.0 e.path) us × All (λ e. ¬ IsFront eq same (notes ++ next ∷ []) e.path) us
+      pub diverges : (r : Option B) (asked notes : List (C × R)) (next : C × R) → is_some r ≡ false → FindsAgreeing eq same us m (option_map value r) → IsSamePath eq same asked (notes ++ next ∷ []) → Agrees same m asked → IsAsked eq same us asked (option_map value r) → All (λ e. ¬ Agrees same m e.path) us × Agrees same m (notes ++ next ∷ []) × Any (λ e. IsNext eq same notes next.0 e.path) us × All (λ e. ¬ IsPrefix eq same (notes ++ next ∷ []) e.path) us
       diverges (Some b) asked notes next is none s a k = absurd (let z : true ≡ false = is in cc)
       diverges None asked notes next is none s a k =
           let parts = parts_at us asked notes next k s in

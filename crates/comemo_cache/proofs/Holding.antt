@@ -45,12 +45,6 @@ module _ {E : Type 0} where
   some_led (Some es) None P h = (es, h.0, h.1)
   some_led None o' P h = h
 
-  -- what was found in entries that are not told
-  pub looked_in : {A X : Type 0} (N : E → Type 0) (H : E → A → Type 0) (Q : A → Type 0) (es : E) (r : Result (Option A) X) → IfOk r (λ found. MatchOption found (N es) Q) → IfOk r (λ found. IfSome found (H es)) → IfOk r (λ found. (x : E) × MatchOption found (N x) (H x))
-  looked_in N H Q es (Ok (Some f)) a b = (es, b)
-  looked_in N H Q es (Ok None) a b = (es, a)
-  looked_in N H Q es (Err e) a b = tt
-
   -- what was stored between entries that are not told
   pub stored_in : {A X : Type 0} (P : E → E → Type 0) (es es' : E) (r : Result A X) → OnOk r (P es es') → OnOk r ((one : E) × (two : E) × P one two)
   stored_in P es es' (Ok a) p = (es, es', p)

@@ -13,9 +13,9 @@ use Rattle.comemo_base.proofs.Paths.{Agrees-same, FindsAgreeing-from_asked, Find
 use Rattle.comemo_cache.proofs.Entries.{All-cons, reads_same}
 
 module _ {C R : Type 0} (eq : C → C → Bool) (same : R → R → Bool) (w : C → Bool) (kind : (x y : C) → IsTrue (eq x y) → w x ≡ w y) where
-  -- a front of reads and the next call, which is a read too
-  reads_next : (front : List (C × R)) (call : C) (path : List (C × R)) → IsNext eq same front call path → All (λ p. w p.0 ≡ false) path → All (λ p. w p.0 ≡ false) front × (w call ≡ false)
-  reads_next front call [] k h = absurd k
+  -- a prefix of reads and the next call, which is a read too
+  reads_next : (prefix : List (C × R)) (call : C) (path : List (C × R)) → IsNext eq same prefix call path → All (λ p. w p.0 ≡ false) path → All (λ p. w p.0 ≡ false) prefix × (w call ≡ false)
+  reads_next prefix call [] k h = absurd k
   reads_next [] call (q ∷ qs) k h = (All-nil (λ p. w p.0 ≡ false), kind call q.0 k ∙ h 0 q (omega arith))
   reads_next (p ∷ ps) call (q ∷ qs) k h =
       let rest = reads_next ps call qs k.2 (λ j d l. h (suc j) d (omega arith)) in
@@ -32,8 +32,8 @@ module _ {C R : Type 0} (eq : C → C → Bool) (same : R → R → Bool) (w : C
         elim k.1 [
           | inl is ↦ rw is (All-nil (λ p. w p.0 ≡ false))
           | inr along ↦
-              let both = reads_next along.front along.last.0 along.next.1.path along.next.4 (reads_of along.next) in
-              rw along.splits (All-push (λ p. w p.0 ≡ false) along.front along.last both.0 both.1)
+              let both = reads_next along.prefix along.last.0 along.next.1.path along.next.4 (reads_of along.next) in
+              rw along.splits (All-push (λ p. w p.0 ≡ false) along.prefix along.last both.0 both.1)
         ]
 
     pub reads_refused : (asked : List (C × R)) (call : C) → IsRefused eq same us asked call → All (λ p. w p.0 ≡ false) asked

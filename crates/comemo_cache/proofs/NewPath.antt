@@ -48,38 +48,38 @@ module _ {C R : Type 0} {eq : C → C → Bool} {same : R → R → Bool} (calls
       ]
 
   module _ (s : List (C × R)) where
-    reads_front : (w : C → Bool) → ((x y : C) → IsTrue (eq x y) → w x ≡ w y) → All (λ p. w p.0 ≡ false) s → (front : List (C × R)) → AllAmong eq same s front → All (λ p. w p.0 ≡ false) front
-    reads_front w kind reads [] h = All-nil (λ p. w p.0 ≡ false)
-    reads_front w kind reads (q ∷ front) h = All-cons (λ p. w p.0 ≡ false) q front (found_read eq w kind s q.0 reads (λ a. IsTrue (same a q.1)) h.0) (reads_front w kind reads front h.1)
+    reads_prefix : (w : C → Bool) → ((x y : C) → IsTrue (eq x y) → w x ≡ w y) → All (λ p. w p.0 ≡ false) s → (prefix : List (C × R)) → AllAmong eq same s prefix → All (λ p. w p.0 ≡ false) prefix
+    reads_prefix w kind reads [] h = All-nil (λ p. w p.0 ≡ false)
+    reads_prefix w kind reads (q ∷ prefix) h = All-cons (λ p. w p.0 ≡ false) q prefix (found_read eq w kind s q.0 reads (λ a. IsTrue (same a q.1)) h.0) (reads_prefix w kind reads prefix h.1)
 
     module _ (m : C → R) (respects : Respects eq same m) where
-      -- what the front says of a call that it has
-      pub record Fronted (c : C) : Type 0 where
+      -- what the prefix says of a call that it has
+      pub record Prefixed (c : C) : Type 0 where
         pub pair : C × R
         pub alike : eq c pair.0 ≡ true
         pub among : Has eq same s pair
         pub agrees : IsTrue (same (m pair.0) pair.1)
 
-      fronted : (front : List (C × R)) (c : C) → AllAmong eq same s front → Agrees same m front → is_some (lookup (eq c) front) ≡ true → Fronted c
-      fronted [] c h a e = let f : false ≡ true = e in cc
-      fronted (q ∷ front) c h a e =
+      prefixed : (prefix : List (C × R)) (c : C) → AllAmong eq same s prefix → Agrees same m prefix → is_some (lookup (eq c) prefix) ≡ true → Prefixed c
+      prefixed [] c h a e = let f : false ≡ true = e in cc
+      prefixed (q ∷ prefix) c h a e =
           elim (cases_Bool (eq c q.0)) [
             | inl t ↦ record { pair = q; alike = t; among = h.0; agrees = a.0 }
-            | inr t ↦ fronted front c h.1 a.1 (rw t at e)
+            | inr t ↦ prefixed prefix c h.1 a.1 (rw t at e)
           ]
 
-      covered : (front : List (C × R)) → HasDistinctCalls eq s → AllAmong eq same s front → Agrees same m front → (xs t : List (C × R)) → s ≡ xs ++ t → Agrees same m (outside eq front t) → Agrees same m t
-      covered front d h a xs [] e b = tt
-      covered front d h a xs (p ∷ t) e b =
+      covered : (prefix : List (C × R)) → HasDistinctCalls eq s → AllAmong eq same s prefix → Agrees same m prefix → (xs t : List (C × R)) → s ≡ xs ++ t → Agrees same m (outside eq prefix t) → Agrees same m t
+      covered prefix d h a xs [] e b = tt
+      covered prefix d h a xs (p ∷ t) e b =
           let more : s ≡ (xs ++ p ∷ []) ++ t = e ∙ sym (append_assoc xs (p ∷ []) t) in
-          elim (cases_Bool (is_some (lookup (eq p.0) front))) [
+          elim (cases_Bool (is_some (lookup (eq p.0) prefix))) [
             | inl k ↦
-                let f = fronted front p.0 h a k in
+                let f = prefixed prefix p.0 h a k in
                 let own : lookup (eq f.pair.0) s ≡ Some p.1 = ap (lookup (eq f.pair.0)) e ∙ lookup_own xs p t f.pair.0 (subst (λ l. HasDistinctCalls eq l) e d) (turned calls p.0 f.pair.0 f.alike) in
                 let answer : IsTrue (same p.1 f.pair.1) = subst (λ o. IsSomeAnd o (λ a. IsTrue (same a f.pair.1))) own f.among in
                 let here : IsTrue (same (m p.0) p.1) = joined answers (m p.0) f.pair.1 p.1 (joined answers (m p.0) (m f.pair.0) f.pair.1 (respects p.0 f.pair.0 f.alike) f.agrees) (turned answers p.1 f.pair.1 answer) in
-                (here, covered front d h a (xs ++ p ∷ []) t more (rw k at b))
-            | inr k ↦ let b' = rw k at b in (b'.0, covered front d h a (xs ++ p ∷ []) t more b'.1)
+                (here, covered prefix d h a (xs ++ p ∷ []) t more (rw k at b))
+            | inr k ↦ let b' = rw k at b in (b'.0, covered prefix d h a (xs ++ p ∷ []) t more b'.1)
           ]
 
 module _ {C R : Type 0} {eq : C → C → Bool} {same : R → R → Bool} (calls : IsEquivalence eq) (answers : IsEquivalence same) {K T : Type 0} (us : List (Stored K C R T)) (s path : List (C × R)) where
@@ -94,11 +94,11 @@ module _ {C R : Type 0} {eq : C → C → Bool} {same : R → R → Bool} (calls
 
   pub reads_new_path : (w : C → Bool) → ((x y : C) → IsTrue (eq x y) → w x ≡ w y) → All (λ p. w p.0 ≡ false) s → IsNewPath eq same us s path → All (λ p. w p.0 ≡ false) path
   reads_new_path w kind reads n =
-      let front : All (λ p. w p.0 ≡ false) n.0 = elim n.1 [ inl none ↦ rw none.1 (All-nil (λ p. w p.0 ≡ false)) | inr some ↦ reads_front calls answers s w kind reads n.0 some.0 ] in
-      rw n.2 (All-append (λ p. w p.0 ≡ false) n.0 (outside eq n.0 s) front (All-filter (λ p. not (is_some (lookup (eq p.0) n.0))) (λ p. w p.0 ≡ false) s reads))
+      let prefix : All (λ p. w p.0 ≡ false) n.0 = elim n.1 [ inl none ↦ rw none.1 (All-nil (λ p. w p.0 ≡ false)) | inr some ↦ reads_prefix calls answers s w kind reads n.0 some.0 ] in
+      rw n.2 (All-append (λ p. w p.0 ≡ false) n.0 (outside eq n.0 s) prefix (All-filter (λ p. not (is_some (lookup (eq p.0) n.0))) (λ p. w p.0 ≡ false) s reads))
 
 -- the entry that is stored is legal, at each key at which the output is right wherever it is so at the run's
-pub IsLegal-stored : {K C R O : Type 0} (M : Meaning K C R O) (calls : IsEquivalence M.same_call) (answers : IsEquivalence M.same_answer) (us : Entries K C R O) (key own : K) (s path : List (C × R)) (output : O) (writes : List C) → ((x y : C) → IsTrue (M.same_call x y) → M.is_write x ≡ M.is_write y) → ((m : C → R) → Respects M.same_call M.same_answer m → M.def key m output writes → M.def own m output writes) → HasDistinctCalls M.same_call s → All (λ p. M.is_write p.0 ≡ false) s → All (λ c. M.is_write c ≡ true) writes → Stands M (run key s output writes) → IsNewPath M.same_call M.same_answer us s path → IsNamedRun M own path → IsLegal M (stored own path (record { output = output; writes = writes; age = 0 }))
+pub IsLegal-stored : {K C R O : Type 0} (M : Meaning K C R O) (calls : IsEquivalence M.same_call) (answers : IsEquivalence M.same_answer) (us : Entries K C R O) (key own : K) (s path : List (C × R)) (output : O) (writes : List C) → ((x y : C) → IsTrue (M.same_call x y) → M.is_write x ≡ M.is_write y) → ((m : C → R) → Respects M.same_call M.same_answer m → M.right key m output writes → M.right own m output writes) → HasDistinctCalls M.same_call s → All (λ p. M.is_write p.0 ≡ false) s → All (λ c. M.is_write c ≡ true) writes → Stands M (run key s output writes) → IsNewPath M.same_call M.same_answer us s path → IsNamedRun M own path → IsLegal M (stored own path (record { output = output; writes = writes; age = 0 }))
 IsLegal-stored M calls answers us key own s path output writes kind right d reads written stands n settled = record {
   stands = λ m r a. right m r (stands m r (agrees_new_path calls answers us s path d n m r a));
   reads = reads_new_path calls answers us s path M.is_write kind reads n;

@@ -25,9 +25,9 @@ module _ {C R : Type 0} (same : R → R → Bool) where
 
   -- a loop's step: the answer of the pair at i comes to those before it
   pub has_more : (xs : List (C × R)) (i : ℕ) (p : C × R) (rs all : List R) (r : R) → i < length xs → p ≡ get_or xs i p → all ≡ rs ++ r ∷ [] → IsTrue (same p.1 r) → HasAnswers same (take i xs) rs → HasAnswers same (take (i + 1) xs) all
-  has_more xs i p rs all r low is whole s h =
+  has_more xs i p rs all r low is complete s h =
       let parts : take (i + 1) xs ≡ take i xs ++ p ∷ [] = take_more xs i p low ∙ ap (λ x. take i xs ++ x ∷ []) (sym is) in
-      subst (λ ys. HasAnswers same (take (i + 1) xs) ys) (sym whole) (subst (λ ps. HasAnswers same ps (rs ++ r ∷ [])) (sym parts) (has_next (take i xs) rs p r s h))
+      subst (λ ys. HasAnswers same (take (i + 1) xs) ys) (sym complete) (subst (λ ps. HasAnswers same ps (rs ++ r ∷ [])) (sym parts) (has_next (take i xs) rs p r s h))
 
 module _ {C R : Type 0} (eq : C → C → Bool) {same : R → R → Bool} (answers : IsEquivalence same) where
   -- a path that is the same as one with these answers has them too

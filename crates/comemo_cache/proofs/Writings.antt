@@ -46,24 +46,24 @@ room_first old new c room e h = let h' : suc (length new) ≤ room = subst (λ x
 pub room_left : {C : Type 0} (old new : List C) (c : C) (room room' : ℕ) → old ≡ c ∷ new → length old ≤ room → room ≤ room' + 1 → length new ≤ room'
 room_left old new c room room' e h k = let h' : suc (length new) ≤ room = subst (λ xs. length xs ≤ room) e h in omega arith
 
--- of all writes the sink at s took a front, after which it was t; these are left
+-- of all writes the sink at s took a prefix, after which it was t; these are left
 pub record TookWrites {S C R : Type 0} (took : S → S → List (C × R) → List C → Type 0) (s t : S) (all left : List C) : Type 0 where
-  pub front : List C
-  pub parts : all ≡ front ++ left
-  pub taken : took s t [] front
+  pub prefix : List C
+  pub parts : all ≡ prefix ++ left
+  pub taken : took s t [] prefix
 
 module _ {S C R : Type 0} {took : S → S → List (C × R) → List C → Type 0} where
   pub no_writes_yet : (s t : S) (all : List C) → took s t [] [] → TookWrites took s t all all
-  no_writes_yet s t all taken = record { front = []; parts = refl; taken = taken }
+  no_writes_yet s t all taken = record { prefix = []; parts = refl; taken = taken }
 
   pub all_written : (s t : S) (all left : List C) → left ≡ [] → TookWrites took s t all left → took s t [] all
-  all_written s t all left none so = subst (λ ws. took s t [] ws) (sym (so.parts ∙ ap (λ ws. so.front ++ ws) none ∙ append-nil so.front)) so.taken
+  all_written s t all left none so = subst (λ ws. took s t [] ws) (sym (so.parts ∙ ap (λ ws. so.prefix ++ ws) none ∙ append-nil so.prefix)) so.taken
 
   pub writes_more : ((s t u : S) (P : List (C × R)) (V W : List C) → took s t P V → took t u [] W → took s u P (V ++ W)) → (s t u : S) (all old new : List C) (c : C) → old ≡ c ∷ new → took t u [] (c ∷ []) → TookWrites took s t all old → TookWrites took s u all new
   writes_more adds s t u all old new c e sent so = record {
-    front = so.front ++ c ∷ [];
-    parts = so.parts ∙ ap (λ ws. so.front ++ ws) e ∙ sym (append_assoc so.front (c ∷ []) new);
-    taken = adds s t u [] so.front (c ∷ []) so.taken sent;
+    prefix = so.prefix ++ c ∷ [];
+    parts = so.parts ∙ ap (λ ws. so.prefix ++ ws) e ∙ sym (append_assoc so.prefix (c ∷ []) new);
+    taken = adds s t u [] so.prefix (c ∷ []) so.taken sent;
   }
 
   module _ (joins : (s t u : S) (P Q : List (C × R)) (W : List C) → took s t P [] → took t u Q W → took s u (P ++ Q) W) where
@@ -74,7 +74,7 @@ module _ {S C R : Type 0} {took : S → S → List (C × R) → List C → Type 
     -- a sink that took all pairs and then was spoiled
     pub broke_after : {spoils : S → S → Type 0} (s t u : S) (P : List (C × R)) → took s t P [] → SpoiledAfter took spoils t u [] [] → BreaksOff took spoils s u P
     broke_after s t u P a b = record {
-      front = P;
+      prefix = P;
       rest = [];
       parts = sym (append-nil P);
       mid = b.mid;
@@ -86,39 +86,39 @@ module _ {S C R : Type 0} {took : S → S → List (C × R) → List C → Type 
     pub spoiled_run : {spoils : S → S → Type 0} (s t u : S) (P : List (C × R)) (W : List C) → took s t P [] → SpoiledAfter took spoils t u [] W → SpoiledAfter took spoils s u P W
     spoiled_run s t u P W a b = record { mid = b.mid; taken = took_run s t b.mid P W a b.taken; spoiled = b.spoiled }
 
--- of all writes a front was done on the input at i, after which it was j, and went to the sink; these are left
+-- of all writes a prefix was done on the input at i, after which it was j, and went to the sink; these are left
 pub record DidWrites {I S C R : Type 0} (did : I → I → List C → Type 0) (took : S → S → List (C × R) → List C → Type 0) (i j : I) (s t : S) (all left : List C) : Type 0 where
-  pub front : List C
-  pub parts : all ≡ front ++ left
-  pub done : did i j front
-  pub taken : took s t [] front
+  pub prefix : List C
+  pub parts : all ≡ prefix ++ left
+  pub done : did i j prefix
+  pub taken : took s t [] prefix
 
 module _ {I S C R : Type 0} {did : I → I → List C → Type 0} {took : S → S → List (C × R) → List C → Type 0} where
   pub nothing_done : ((i : I) → did i i []) → ((s : S) → took s s [] []) → (i : I) (s : S) (all : List C) → DidWrites did took i i s s all all
-  nothing_done begins starts i s all = record { front = []; parts = refl; done = begins i; taken = starts s }
+  nothing_done begins starts i s all = record { prefix = []; parts = refl; done = begins i; taken = starts s }
 
   pub all_done : (i j : I) (s t : S) (all left : List C) → left ≡ [] → DidWrites did took i j s t all left → did i j all × took s t [] all
   all_done i j s t all left none so =
-      let e = sym (so.parts ∙ ap (λ ws. so.front ++ ws) none ∙ append-nil so.front) in
+      let e = sym (so.parts ∙ ap (λ ws. so.prefix ++ ws) none ∙ append-nil so.prefix) in
       (subst (λ ws. did i j ws) e so.done, subst (λ ws. took s t [] ws) e so.taken)
 
   module _ (does : (i j k : I) (V W : List C) → did i j V → did j k W → did i k (V ++ W)) where
     pub done_more : ((s t u : S) (P : List (C × R)) (V W : List C) → took s t P V → took t u [] W → took s u P (V ++ W)) → (i j k : I) (s t u : S) (all old new : List C) (c : C) → old ≡ c ∷ new → did j k (c ∷ []) → took t u [] (c ∷ []) → DidWrites did took i j s t all old → DidWrites did took i k s u all new
     done_more adds i j k s t u all old new c e did_one sent so = record {
-      front = so.front ++ c ∷ [];
-      parts = so.parts ∙ ap (λ ws. so.front ++ ws) e ∙ sym (append_assoc so.front (c ∷ []) new);
-      done = does i j k so.front (c ∷ []) so.done did_one;
-      taken = adds s t u [] so.front (c ∷ []) so.taken sent;
+      prefix = so.prefix ++ c ∷ [];
+      parts = so.parts ∙ ap (λ ws. so.prefix ++ ws) e ∙ sym (append_assoc so.prefix (c ∷ []) new);
+      done = does i j k so.prefix (c ∷ []) so.done did_one;
+      taken = adds s t u [] so.prefix (c ∷ []) so.taken sent;
     }
 
     -- it stopped at a write that was refused
-    pub stopped : {spoils : S → S → Type 0} (i j k : I) (s t u : S) (w : C → Bool) (all old new : List C) (c : C) → old ≡ c ∷ new → All (λ e. w e ≡ true) old → did j k [] → spoils t u → DidWrites did took i j s t all old → (front : List C) × (next : C) × (rest : List C) × (all ≡ front ++ next ∷ rest) × did i k front × SpoiledAfter took spoils s u [] front × (w next ≡ true)
+    pub stopped : {spoils : S → S → Type 0} (i j k : I) (s t u : S) (w : C → Bool) (all old new : List C) (c : C) → old ≡ c ∷ new → All (λ e. w e ≡ true) old → did j k [] → spoils t u → DidWrites did took i j s t all old → (prefix : List C) × (next : C) × (rest : List C) × (all ≡ prefix ++ next ∷ rest) × did i k prefix × SpoiledAfter took spoils s u [] prefix × (w next ≡ true)
     stopped i j k s t u w all old new c e written refused spoiled so = (
-      so.front,
+      so.prefix,
       c,
       new,
-      so.parts ∙ ap (λ ws. so.front ++ ws) e,
-      subst (λ ws. did i k ws) (append-nil so.front) (does i j k so.front [] so.done refused),
+      so.parts ∙ ap (λ ws. so.prefix ++ ws) e,
+      subst (λ ws. did i k ws) (append-nil so.prefix) (does i j k so.prefix [] so.done refused),
       record { mid = t; taken = so.taken; spoiled = spoiled },
       head_write w old new c e written,
     )

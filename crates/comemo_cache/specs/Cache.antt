@@ -55,7 +55,7 @@ pub record FunctionLaws {K C R O : Type 0} (eq : C → C → Bool) (same : R →
 module _ {K C R O : Type 0} (M : Meaning K C R O) where
   -- for all answers that agree with what a run recorded, its output and writes are right at its key
   abbrev pub Stands : Run K C R O → Type 0
-  Stands ran = (m : C → R) → Respects M.same_call M.same_answer m → Agrees M.same_answer m ran.pairs → M.def ran.key m ran.output ran.writes
+  Stands ran = (m : C → R) → Respects M.same_call M.same_answer m → Agrees M.same_answer m ran.pairs → M.right ran.key m ran.output ran.writes
 
   -- an entry's output and writes are right for all answers that agree with its path; its path has only reads, and its writes
   -- are writes; and if the asked calls are named, its path is causal and complete

@@ -2,7 +2,7 @@
 use Rattle.std.specs.Prelude.{◌≡◌, List, [], ◌∷◌, ◌++◌}
 use Rattle.std.specs.List.{All, Any}
 use Rattle.comemo_base.specs.Answers.{Agrees}
-use Rattle.comemo_base.specs.Tree.{IsFront}
+use Rattle.comemo_base.specs.Tree.{IsPrefix}
 use Rattle.comemo_base.specs.Lookup.{under, IsNext}
 use Rattle.comemo_cache.specs.Meaning.{Meaning, Invocation}
 use Rattle.comemo_cache.specs.Cache.{Entries, HasNone}
@@ -16,7 +16,7 @@ module _ {K C R O : Type 0} (M : Meaning K C R O) (es : Entries K C R O) (call :
     pub none : HasNone M es call
     pub answered : Agrees M.same_answer call.answers (asked ++ (next, answer) ∷ [])
     pub along : Any (λ e. IsNext M.same_call M.same_answer asked next e.path) (under M.same_key es call.key)
-    pub nowhere : All (λ e. ¬ IsFront M.same_call M.same_answer (asked ++ (next, answer) ∷ []) e.path) (under M.same_key es call.key)
+    pub nowhere : All (λ e. ¬ IsPrefix M.same_call M.same_answer (asked ++ (next, answer) ∷ []) e.path) (under M.same_key es call.key)
 
   -- what is said of the call holds
   abbrev pub Explains : Explanation C R → Type 0

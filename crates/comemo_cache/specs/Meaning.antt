@@ -28,7 +28,7 @@ pub record Meaning (K C R O : Type 0) : Type 1 where
   pub same_key : K → K → Bool
   pub is_write : C → Bool
   pub is_clone : O → O → Type 0
-  pub def : K → (C → R) → O → List C → Type 0
+  pub right : K → (C → R) → O → List C → Type 0
   pub naming : Naming K C R
 
 -- the function names the calls that it asks

@@ -7,7 +7,7 @@ ghost use Rattle.comemo_base.specs.Lookup.{under, IsAsked, IsRefused, FindsAgree
 ghost use Rattle.comemo_base.specs.Insertion.{IsReason};
 ghost use Rattle.comemo_cache.specs.Meaning.{Meaning, Naming, unnamed, IsNamed, IsNamedRun, exactly, invocation, run, IsRight};
 ghost use Rattle.comemo_base.specs.declared.insertion.InsertError.TheVariants.{MissingCall};
-ghost use Rattle.comemo_cache.specs.Cache.{FunctionLaws, Stands, HasNone, Has, HasAged, IsPeeked, IsMiss, IsRefusedLook, TouchesAt, Evicts};
+ghost use Rattle.comemo_cache.specs.Cache.{FunctionLaws, Stands, HasNone, HasAged, IsPeeked, IsMiss, IsRefusedLook, TouchesAt, Evicts};
 ghost use Rattle.comemo_base.specs.Tree.{IsTree};
 ghost use Rattle.comemo_cache.specs.Storing.{Stores};
 
@@ -53,20 +53,25 @@ pub trait Function {
         Self.Key.is_clone Self.Answer.is_clone Self.Out.is_clone (IsRight means writes) };
 }
 
-/// What a memoized function means, as one value, for contracts: `⟦<M as Meant>⟧.meaning`. There is nothing to
-/// implement.
+/// What a memoized function means, for contracts, as `⟦<M as Meant>⟧.right`. There is nothing to implement.
 pub trait Meant: Function {
+    // which outputs and writes are right at a key and answers
+    ghost right: { Self.Key → (Self.Call → Self.Answer) → Self.Out → List Self.Call → Type 0 };
+
+    // the same with the equalities by which it is told, as one value
     ghost meaning: { Meaning Self.Key Self.Call Self.Answer Self.Out };
 }
 
 impl<M: Function> Meant for M {
+    ghost right = { IsRight M.means M.writes };
+
     ghost meaning = { record {
       same_call = M.Call.eq;
       same_answer = M.Answer.eq;
       same_key = M.Key.eq;
       is_write = M.Call.is_write;
       is_clone = M.Out.is_clone;
-      def = IsRight M.means M.writes;
+      right = IsRight M.means M.writes;
       naming = M.naming;
     } };
 }
@@ -120,7 +125,7 @@ impl<M: Function> Model for CacheData<M> {
       same_key = M.Key.eq;
       is_write = M.Call.is_write;
       is_clone = M.Out.is_clone;
-      def = IsRight M.means M.writes;
+      right = IsRight M.means M.writes;
       naming = M.naming;
     })) s.tree };
 }
@@ -247,18 +252,13 @@ impl<M: Function> CacheData<M> {
         ensures found { IfOk result (λ found. MatchOption found
             (HasNone ⟦<M as Meant>⟧.meaning self.now
             (invocation key.now (In.answers input.old) true))
-            (λ f. Has ⟦<M as Meant>⟧.meaning self.now
+            (λ f. HasAged ⟦<M as Meant>⟧.meaning self.now
             (invocation key.now (In.answers input.old) true)
-            (run key.now f.pairs.items f.output f.writes.items))) }
+            (run key.now f.pairs.items f.output f.writes.items) f.age)) }
         ensures asked { IfOk result (λ found. IfNone found ((asked : List (M.Call × M.Answer))
             × IsMiss ⟦<M as Meant>⟧.meaning self.now
             (invocation key.now (In.answers input.old) true) asked)) }
-        ensures ages { IfOk result (λ found. IfSome found (λ f.
-            HasAged ⟦<M as Meant>⟧.meaning self.now
-            (invocation key.now (In.answers input.old) true)
-            (run key.now f.pairs.items f.output f.writes.items) f.age)) }
-        ensures stands { IfOk result (λ found. IfSome found (λ f.
-            Stands ⟦<M as Meant>⟧.meaning
+        ensures stands { IfOk result (λ found. IfSome found (λ f. Stands ⟦<M as Meant>⟧.meaning
             (run key.now f.pairs.items f.output f.writes.items))) }
         ensures reads { IfOk result (λ found. IfSome found (λ f.
             All (λ p. M.Call.is_write p.0 ≡ false) f.pairs.items)) }
@@ -266,8 +266,7 @@ impl<M: Function> CacheData<M> {
             All (λ c. M.Call.is_write c ≡ true) f.writes.items)) }
         ensures settled { IfOk result (λ found. IfSome found (λ f.
             IsNamedRun ⟦<M as Meant>⟧.meaning key.now f.pairs.items)) }
-        ensures err { OnErr result
-            (IsRefusedLook ⟦<M as Meant>⟧.meaning self.now
+        ensures err { OnErr result (IsRefusedLook ⟦<M as Meant>⟧.meaning self.now
             (invocation key.now (In.answers input.old) true)) }
     {
         let (pairs, kept) = match find_agreeing(&self.tree, key, input) {
@@ -301,8 +300,7 @@ impl<M: Function> CacheData<M> {
         ensures asked { IfOk result (λ found. IfNone found ((asked : List (M.Call × M.Answer))
             × IsMiss ⟦<M as Meant>⟧.meaning self.now
             (invocation key.now (In.answers input.old) true) asked)) }
-        ensures err { OnErr result
-            (IsRefusedLook ⟦<M as Meant>⟧.meaning self.now
+        ensures err { OnErr result (IsRefusedLook ⟦<M as Meant>⟧.meaning self.now
             (invocation key.now (In.answers input.old) true)) }
     {
         let kept = match get_agreeing(&self.tree, key, input) {

@@ -26,19 +26,19 @@ use std::marker::{Model, PhantomData};
 use std::sync::atomic::{AtomicU64, Ordering};
 use std::sync::{Arc, RwLock, RwLockWriteGuard, Wait};
 
-/// The number of lanes in a part.
+/// The number of lanes in a shard.
 const LANES: usize = 4;
 
-/// The number of parts of a cache. The first six bits of a key's hash choose its part.
-const PARTS: usize = 64;
+/// The number of shards of a cache. The first six bits of a key's hash choose its shard.
+const SHARDS: usize = 64;
 
-/// A reference to the entries of a part, or to none if the part never had one.
+/// A reference to the entries of a shard, or to none if the shard never had one.
 #[derive(Drop)]
-struct Way<M: Function> {
+struct EntriesRef<M: Function> {
     data: Option<Arc<CacheData<M>>>,
 }
 
-impl<M: Function> Model for Way<M> {
+impl<M: Function> Model for EntriesRef<M> {
     ghost use Rattle.std.specs.Prelude.{Option};
     ghost use Rattle.std.specs.Option.{option_map};
     ghost use Rattle.std.specs.Arc.{arc_value};
@@ -54,12 +54,12 @@ impl<M: Function> Model for Way<M> {
     ghost view = { λ s. option_map arc_value s.data };
 }
 
-impl<M: Function> Way<M> {
+impl<M: Function> EntriesRef<M> {
     /// A reference to none.
     fn new() -> Self
         ensures { result ≡ None }
     {
-        Way { data: None }
+        EntriesRef { data: None }
     }
 
     /// Another reference to the same entries, or to none.
@@ -68,10 +68,10 @@ impl<M: Function> Way<M> {
     {
         match &self.data {
             // A clone fails if the count is full. Look-ups in that lane then find nothing, which is safe.
-            Some(data) => Way {
+            Some(data) => EntriesRef {
                 data: data.clone().ok(),
             },
-            None => Way::new(),
+            None => EntriesRef::new(),
         }
     }
 
@@ -112,7 +112,7 @@ impl<M: Function> Way<M> {
             return Err(InsertError::Memory);
         };
         let Some(entries) = Arc::get_mut(data) else {
-            // Not reached after `close`, which leaves one reference.
+            // Not reached after `withdraw`, which leaves one reference.
             return Err(InsertError::Memory);
         };
         entries.store(key, reads, output, writes)
@@ -144,68 +144,68 @@ impl<M: Function> Way<M> {
     }
 }
 
-/// A lane of a part: a lock, and behind it a reference to the part's entries.
+/// A lane of a shard: a lock, and behind it a reference to the shard's entries.
 ///
 /// A look-up locks only its own lane, for reading. So look-ups in different lanes write no memory in common, and don't
 /// wait for each other's processors.
 #[derive(Drop)]
 struct Lane<M: Function> {
-    way: RwLock<Way<M>>,
+    entries: RwLock<EntriesRef<M>>,
     // Padding to 128 bytes, which processors fetch at once, so that lanes don't disturb each other.
-    apart: [u64; 10],
+    padding: [u64; 10],
 }
 
 impl<M: Function> Lane<M> {
-    /// A lane of a part without entries.
+    /// A lane of a shard without entries.
     fn new() -> Self {
         Lane {
-            way: RwLock::new(Way::new()),
-            apart: [0; 10],
+            entries: RwLock::new(EntriesRef::new()),
+            padding: [0; 10],
         }
     }
 
-    /// The lanes of one part.
-    fn part(_: PhantomData<Self>) -> [Self; LANES] {
+    /// The lanes of one shard.
+    fn shard(_: PhantomData<Self>) -> [Self; LANES] {
         [Lane::new(), Lane::new(), Lane::new(), Lane::new()]
     }
 }
 
-/// All lanes of a part, locked for writing: no look-up is under way.
+/// All lanes of a shard, locked for writing: no look-up is under way.
 #[derive(Drop)]
-struct Alone<'a, M: Function> {
-    first: RwLockWriteGuard<'a, Way<M>>,
-    second: RwLockWriteGuard<'a, Way<M>>,
-    third: RwLockWriteGuard<'a, Way<M>>,
-    fourth: RwLockWriteGuard<'a, Way<M>>,
+struct ExclusiveGuard<'a, M: Function> {
+    first: RwLockWriteGuard<'a, EntriesRef<M>>,
+    second: RwLockWriteGuard<'a, EntriesRef<M>>,
+    third: RwLockWriteGuard<'a, EntriesRef<M>>,
+    fourth: RwLockWriteGuard<'a, EntriesRef<M>>,
 }
 
-impl<'a, M: Function> Alone<'a, M> {
-    /// Locks a part's lanes in their order, so that no two callers wait for each other.
-    fn new<R: Wait>(rt: &R, part: &'a [Lane<M>; LANES]) -> Self {
-        Alone {
-            first: part[0].way.write(rt),
-            second: part[1].way.write(rt),
-            third: part[2].way.write(rt),
-            fourth: part[3].way.write(rt),
+impl<'a, M: Function> ExclusiveGuard<'a, M> {
+    /// Locks a shard's lanes in their order, so that no two callers wait for each other.
+    fn new<R: Wait>(rt: &R, shard: &'a [Lane<M>; LANES]) -> Self {
+        ExclusiveGuard {
+            first: shard[0].entries.write(rt),
+            second: shard[1].entries.write(rt),
+            third: shard[2].entries.write(rt),
+            fourth: shard[3].entries.write(rt),
         }
     }
 }
 
-impl<M: Function> Alone<'_, M> {
+impl<M: Function> ExclusiveGuard<'_, M> {
     /// Leaves the first lane's reference as the only one, so that the entries can be changed.
-    fn close(&mut self)
+    fn withdraw(&mut self)
         ensures first { write_guard_value self.new.first ≡ write_guard_value self.old.first }
         ensures second { write_guard_value self.new.second ≡ None }
         ensures third { write_guard_value self.new.third ≡ None }
         ensures fourth { write_guard_value self.new.fourth ≡ None }
     {
-        *self.second = Way::new();
-        *self.third = Way::new();
-        *self.fourth = Way::new();
+        *self.second = EntriesRef::new();
+        *self.third = EntriesRef::new();
+        *self.fourth = EntriesRef::new();
     }
 
     /// Makes all lanes refer to the first lane's entries.
-    fn open(&mut self)
+    fn publish(&mut self)
         ensures first { write_guard_value self.new.first ≡ write_guard_value self.old.first }
         ensures second { IfSome (write_guard_value self.new.second)
             (λ es. write_guard_value self.old.first ≡ Some es) }
@@ -222,14 +222,14 @@ impl<M: Function> Alone<'_, M> {
 
 /// A cache that threads share, by reference or by `Arc`.
 ///
-/// It has 64 parts, and all entries under a key are in one of them: calls in different parts don't wait for each other.
-/// Each part has four lanes, each with its own lock. A look-up takes one of them, a change takes them all: look-ups in
-/// different lanes don't disturb each other. Its type ensures that entries are right, whichever thread stored them. It
-/// takes 32 KiB in place.
+/// It has 64 shards, and all entries under a key are in one of them: calls in different shards don't wait for each
+/// other. Each shard has four lanes, each with its own lock. A look-up takes one of them, a change takes them all:
+/// look-ups in different lanes don't disturb each other. Its type ensures that entries are right, whichever thread
+/// stored them. It takes 32 KiB in place.
 #[derive(Drop)]
 pub struct Cache<M: Function> {
     alloc: Global,
-    parts: [[Lane<M>; LANES]; PARTS],
+    shards: [[Lane<M>; LANES]; SHARDS],
     // The number of shares made, which distributes them over the lanes.
     shares: AtomicU64,
 }
@@ -241,12 +241,12 @@ impl<M: Function> Cache<M> {
         let of: PhantomData<Lane<M>> = PhantomData;
         Cache {
             alloc,
-            parts: array::from_fn(move |_| Lane::part(of)),
+            shards: array::from_fn(move |_| Lane::shard(of)),
             shares: AtomicU64::new(0),
         }
     }
 
-    /// Access for calls of one thread: each step locks its key's part, with this right to wait.
+    /// Access for calls of one thread: each step locks its key's shard, with this right to wait.
     ///
     /// Keep one for each thread: a new one counts in memory that all threads share.
     pub fn hold<'a, R: Wait>(&'a self, rt: &'a R) -> Shared<'a, M, R> {
@@ -258,50 +258,50 @@ impl<M: Function> Cache<M> {
     }
 
     /// Drops old entries, as `CacheData::evict`. It is one step: it holds all locks at one moment, so each step of a
-    /// call comes before or after it, in every part.
+    /// call comes before or after it, in every shard.
     pub fn evict<R: Wait>(&self, rt: &R, max_age: usize) {
-        evict_parts(rt, &self.parts, max_age);
+        evict_shards(rt, &self.shards, max_age);
     }
 
-    /// What the cache holds, summed over its parts. A number that doesn't fit is the greatest `usize`.
+    /// What the cache holds, summed over its shards. A number that doesn't fit is the greatest `usize`.
     ///
-    /// Each part is locked in turn: other threads may change the parts that were counted and those that are left.
+    /// Each shard is locked in turn: other threads may change the shards that were counted and those that are left.
     pub fn contents<R: Wait>(&self, rt: &R) -> Contents
         ensures sum { result.entries ≡ min (sum result.ages) (2 ^ 64 - 1) }
         ensures few { result.keys ≤ result.entries }
     {
         let mut held = Contents::nothing();
-        for part in &self.parts {
-            let way = part[0].way.read(rt);
-            if let Some(data) = &way.data {
+        for shard in &self.shards {
+            let entries = shard[0].entries.read(rt);
+            if let Some(data) = &entries.data {
                 held = held.plus(data.contents());
             }
         }
         held
     }
 
-    /// The part that has the entries under a key. The key is hashed here and again by the part's map, which ignores the
-    /// bits that choose the part.
-    fn part(&self, key: &M::Key) -> &[Lane<M>; LANES] {
+    /// The shard that has the entries under a key. The key is hashed here and again by the shard's map, which ignores
+    /// the bits that choose the shard.
+    fn shard(&self, key: &M::Key) -> &[Lane<M>; LANES] {
         let mut hasher = FoldHasher::default();
         key.hash(&mut hasher);
-        &self.parts[(hasher.finish() >> 58) as usize]
+        &self.shards[(hasher.finish() >> 58) as usize]
     }
 }
 
-/// Drops old entries of these parts, and locks them all in order first.
+/// Drops old entries of these shards, and locks them all in order first.
 ///
-/// A call locks one part only and evictions lock in one order, so there is no deadlock. A part is evicted after all
-/// later parts were locked, and then unlocked.
-fn evict_parts<M: Function, R: Wait>(rt: &R, parts: &[[Lane<M>; LANES]], max_age: usize) {
-    let Some((part, rest)) = parts.split_first() else {
+/// A call locks one shard only and evictions lock in one order, so there is no deadlock. A shard is evicted after all
+/// later shards were locked, and then unlocked.
+fn evict_shards<M: Function, R: Wait>(rt: &R, shards: &[[Lane<M>; LANES]], max_age: usize) {
+    let Some((shard, rest)) = shards.split_first() else {
         return;
     };
-    let mut alone = Alone::new(rt, part);
-    evict_parts(rt, rest, max_age);
-    alone.close();
-    alone.first.evict(max_age);
-    alone.open();
+    let mut guard = ExclusiveGuard::new(rt, shard);
+    evict_shards(rt, rest, max_age);
+    guard.withdraw();
+    guard.first.evict(max_age);
+    guard.publish();
 }
 
 /// A share of a cache, for the calls of one thread. Each step takes the lock and releases it. Look-ups share the lock;
@@ -324,9 +324,9 @@ impl<M: Function, R: Wait> Hold<M> for Shared<'_, M, R> {
         key: &M::Key,
         input: &mut In,
     ) -> Result<Option<Found<M>>, AllocError> {
-        let lane = &self.cache.part(key)[self.share % LANES];
-        let way = lane.way.read(self.rt);
-        let Some(data) = &way.data else {
+        let lane = &self.cache.shard(key)[self.share % LANES];
+        let entries = lane.entries.read(self.rt);
+        let Some(data) = &entries.data else {
             return Ok(None);
         };
         data.look(key, input)
@@ -337,9 +337,9 @@ impl<M: Function, R: Wait> Hold<M> for Shared<'_, M, R> {
         key: &M::Key,
         input: &mut In,
     ) -> Result<Option<Peeked<M>>, AllocError> {
-        let lane = &self.cache.part(key)[self.share % LANES];
-        let way = lane.way.read(self.rt);
-        let Some(data) = &way.data else {
+        let lane = &self.cache.shard(key)[self.share % LANES];
+        let entries = lane.entries.read(self.rt);
+        let Some(data) = &entries.data else {
             return Ok(None);
         };
         data.peek(key, input)
@@ -351,19 +351,19 @@ impl<M: Function, R: Wait> Hold<M> for Shared<'_, M, R> {
         key: &M::Key,
         input: &mut In,
     ) -> Result<Explanation<M::Call, M::Answer>, AllocError> {
-        let lane = &self.cache.part(key)[self.share % LANES];
-        let way = lane.way.read(self.rt);
-        let Some(data) = &way.data else {
+        let lane = &self.cache.shard(key)[self.share % LANES];
+        let entries = lane.entries.read(self.rt);
+        let Some(data) = &entries.data else {
             return Ok(Explanation::NeverKept);
         };
         data.explain(alloc, key, input)
     }
 
     fn touch(&mut self, key: &M::Key, answers: &[M::Answer]) {
-        let mut alone = Alone::new(self.rt, self.cache.part(key));
-        alone.close();
-        alone.first.touch(key, answers);
-        alone.open();
+        let mut guard = ExclusiveGuard::new(self.rt, self.cache.shard(key));
+        guard.withdraw();
+        guard.first.touch(key, answers);
+        guard.publish();
     }
 
     fn store<Q: Reads<Call = M::Call, Answer = M::Answer>>(
@@ -391,12 +391,12 @@ impl<M: Function, R: Wait> Hold<M> for Shared<'_, M, R> {
             OnErr result (Stays none none) }
     {
         let reads = reads.into_sequence();
-        let mut alone = Alone::new(self.rt, self.cache.part(&key));
-        alone.close();
-        // On error the part has no entries, so there is nothing for the lanes to refer to.
-        alone.first.begin(self.cache.alloc)?;
-        let stored = alone.first.store(key, reads, output, writes);
-        alone.open();
+        let mut guard = ExclusiveGuard::new(self.rt, self.cache.shard(&key));
+        guard.withdraw();
+        // On error the shard has no entries, so there is nothing for the lanes to refer to.
+        guard.first.begin(self.cache.alloc)?;
+        let stored = guard.first.store(key, reads, output, writes);
+        guard.publish();
         stored
     }
 }

@@ -41,7 +41,7 @@ pub fn ruled<H: Hold<Ruler>>(
     ensures agrees { ⟦<Notebook as ToldMut>⟧.agrees (lent book.new.value book.new.recording) }
     ensures tells { TellsWrites ⟦<Notebook as ToldMut>⟧.goes ⟦<Notebook as Told>⟧.fits
         (lent book.old.value book.old.recording) (lent book.new.value book.new.recording) result
-        (λ drawn m writes. ⟦<Ruler as Meant>⟧.meaning.def height m drawn writes) }
+        (λ drawn m writes. ⟦<Ruler as Meant>⟧.right height m drawn writes) }
 {
     let run = match book.begin(cache, &height)? {
         Begun::Hit(()) => return Ok(()),
@@ -62,7 +62,7 @@ fn draw<H: Hold<Ruler>>(
     ensures agrees { ⟦<Notebook as ToldMut>⟧.agrees (lent book.new.value book.new.recording) }
     ensures tells { TellsWrites ⟦<Notebook as ToldMut>⟧.goes ⟦<Notebook as Told>⟧.fits
         (lent book.old.value book.old.recording) (lent book.new.value book.new.recording) result
-        (λ drawn m writes. ⟦<Ruler as Meant>⟧.meaning.def height m drawn writes) }
+        (λ drawn m writes. ⟦<Ruler as Meant>⟧.right height m drawn writes) }
 {
     if height == 0 {
         return Ok(());

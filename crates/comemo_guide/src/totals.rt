@@ -49,7 +49,7 @@ pub fn totalled<'a, H: Hold<RunningTotal>>(
     ensures tells { TellsWrites ⟦<ReadAndWrite<'a, Cells, Notebook> as ToldMut>⟧.goes
         ⟦<ReadAndWrite<'a, Cells, Notebook> as Told>⟧.fits
         (lent both.old.value both.old.recording) (lent both.new.value both.new.recording) result
-        (λ out m writes. ⟦<RunningTotal as Meant>⟧.meaning.def count m out writes) }
+        (λ out m writes. ⟦<RunningTotal as Meant>⟧.right count m out writes) }
 {
     let run = match both.begin(cache, &count)? {
         Begun::Hit(total) => return Ok(total),
@@ -73,7 +73,7 @@ fn add_up<'a, H: Hold<RunningTotal>>(
     ensures tells { TellsWrites ⟦<ReadAndWrite<'a, Cells, Notebook> as ToldMut>⟧.goes
         ⟦<ReadAndWrite<'a, Cells, Notebook> as Told>⟧.fits
         (lent both.old.value both.old.recording) (lent both.new.value both.new.recording) result
-        (λ out m writes. ⟦<RunningTotal as Meant>⟧.meaning.def count m out writes) }
+        (λ out m writes. ⟦<RunningTotal as Meant>⟧.right count m out writes) }
 {
     if count == 0 {
         return Ok(0);

@@ -33,6 +33,6 @@ module _ {V : Type 0} {did : V → V → List (MultiCall SiteCall Warning) → T
             λ site p. rw (k.2.1 site p, l.2.1 site p) refl,
           ),
         );
-    whole = two.whole ∙ one.whole;
+    complete = two.complete ∙ one.complete;
     fault = tt;
   }

@@ -2,7 +2,7 @@
 ghost use Rattle.std.specs.Prelude.{◌≡◌, IfOk, false, refl};
 ghost use Rattle.std.proofs.Common.{rules};
 
-use crate::inputs::LocationMemo;
+use crate::inputs::LocationOf;
 use comemo::internal::Accelerated;
 use comemo::{Begun, CacheData, Call, Constraint, Fault, How, Reply, Sink, Top, Track, begin};
 use comemo_samples::{Context, ContextCall};
@@ -59,7 +59,7 @@ impl Track for Counting {
 /// The location of a context, through a cache, by a view that keeps its answers.
 pub fn known_location(
     alloc: Global,
-    cache: &mut CacheData<LocationMemo>,
+    cache: &mut CacheData<LocationOf>,
     view: &mut Accelerated<'_, Counting>,
 ) -> Result<Reply<u64>, Fault>
     ensures output { IfOk result (λ reply. reply.output ≡ view.old.value.context.location) }
@@ -83,12 +83,7 @@ pub fn known_location(
 
 /// Whether three calls through one view of a value return its location, the first ends as `how`, and the others are
 /// hits. The value is asked once.
-fn asks_once(
-    alloc: Global,
-    cache: &mut CacheData<LocationMemo>,
-    location: u64,
-    first: How,
-) -> bool {
+fn asks_once(alloc: Global, cache: &mut CacheData<LocationOf>, location: u64, first: How) -> bool {
     let value = Counting::new(location, 5, false);
     let mut view = value.track(alloc).accelerated(alloc);
     let hows: &[How] = &[first, How::Hit, How::Hit];

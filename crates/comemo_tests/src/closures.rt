@@ -7,9 +7,9 @@ use comemo_samples::{Context, ContextCall};
 use std::alloc::Global;
 
 /// The sum of a context's location and its styles, which wraps at 64 bits.
-pub struct SumMemo;
+pub struct SumOf;
 
-impl Function for SumMemo {
+impl Function for SumOf {
     type Call = ContextCall;
 
     type Key = ();
@@ -30,7 +30,7 @@ impl Function for SumMemo {
 /// The sum of a context's location and its styles, through a cache.
 pub fn closed_sum(
     alloc: Global,
-    cache: &mut CacheData<SumMemo>,
+    cache: &mut CacheData<SumOf>,
     context: &Tracked<'_, Context>,
     enabled: bool,
 ) -> Result<Reply<u64>, Fault>
@@ -54,7 +54,7 @@ pub fn closed_sum(
 /// Whether a call at a context of the location 3 returns this sum, and ends as `how`.
 fn gives(
     alloc: Global,
-    cache: &mut CacheData<SumMemo>,
+    cache: &mut CacheData<SumOf>,
     styles: u64,
     enabled: bool,
     sum: u64,

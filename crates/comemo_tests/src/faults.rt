@@ -3,7 +3,7 @@ ghost use Rattle.std.specs.Prelude.{⊤};
 ghost use Rattle.std.proofs.Common.{rules};
 ghost use Rattle.comemo.specs.Function.{WritesNone};
 
-use crate::inputs::LocationMemo;
+use crate::inputs::LocationOf;
 use comemo::{
     Both, CacheData, Constraint, Fault, Function, MultiAnswer, MultiCall, Recorder, Run, Sink, Top,
     Track, Tracked, memoize, memoized_with,
@@ -143,7 +143,7 @@ fn context() -> Context {
 
 /// Whether the caller of a closure that ends in a fault gets that fault, and its own recording is incomplete then.
 fn is_told_of_closure(alloc: Global, fault: Fault) -> bool {
-    let mut cache: CacheData<LocationMemo> = CacheData::new(alloc);
+    let mut cache: CacheData<LocationOf> = CacheData::new(alloc);
     let mut outer: Constraint<ContextCall, u64> = Constraint::new(alloc);
     let reply = memoize(
         alloc,
@@ -161,7 +161,7 @@ fn is_told_of_closure(alloc: Global, fault: Fault) -> bool {
 /// Whether the caller of a closure that returns an output but makes its recording incomplete gets `Incomplete`, and its
 /// own recording is incomplete then.
 fn is_told_of_spoiled(alloc: Global) -> bool {
-    let mut cache: CacheData<LocationMemo> = CacheData::new(alloc);
+    let mut cache: CacheData<LocationOf> = CacheData::new(alloc);
     let mut outer: Constraint<ContextCall, u64> = Constraint::new(alloc);
     let reply = memoize(
         alloc,

@@ -9,9 +9,9 @@ use comemo_samples::{Context, ContextCall};
 use std::alloc::Global;
 
 /// The location of a context.
-pub struct LocationMemo;
+pub struct LocationOf;
 
-impl Function for LocationMemo {
+impl Function for LocationOf {
     type Call = ContextCall;
 
     type Key = ();
@@ -32,7 +32,7 @@ impl Function for LocationMemo {
 /// The location of a context, through a cache, by a view that the caller lends.
 pub fn lent_location<S: Sink<Call = ContextCall, Answer = u64>>(
     alloc: Global,
-    cache: &mut CacheData<LocationMemo>,
+    cache: &mut CacheData<LocationOf>,
     context: &mut Tracked<'_, Context>,
     sink: &mut S,
 ) -> Result<Reply<u64>, Fault>
@@ -58,7 +58,7 @@ pub fn lent_location<S: Sink<Call = ContextCall, Answer = u64>>(
 }
 
 /// The cached location of a context, if there is one.
-fn kept(alloc: Global, cache: &CacheData<LocationMemo>, context: &Context) -> Option<u64> {
+fn kept(alloc: Global, cache: &CacheData<LocationOf>, context: &Context) -> Option<u64> {
     match cache.look(&(), &mut context.track(alloc)) {
         Ok(Some(found)) => Some(found.output),
         Ok(None) => None,
@@ -70,7 +70,7 @@ fn kept(alloc: Global, cache: &CacheData<LocationMemo>, context: &Context) -> Op
 /// location is cached then.
 fn is_located(
     alloc: Global,
-    cache: &mut CacheData<LocationMemo>,
+    cache: &mut CacheData<LocationOf>,
     (location, styles): (u64, u64),
     how: How,
 ) -> bool {
@@ -87,7 +87,7 @@ fn is_located(
 #[test]
 fn what_is_not_asked_is_not_looked_at(rt: HostRuntime) {
     let alloc = rt.alloc();
-    let mut cache: CacheData<LocationMemo> = CacheData::new(alloc);
+    let mut cache: CacheData<LocationOf> = CacheData::new(alloc);
     let calls: &[(u64, u64, How, usize)] = &[
         (3, 40, How::Stored, 1),
         (3, 41, How::Hit, 1),

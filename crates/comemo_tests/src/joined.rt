@@ -13,9 +13,9 @@ use comemo_samples::{Context, ContextCall};
 use std::alloc::Global;
 
 /// Whether a context holds a number.
-pub struct ContainsMemo;
+pub struct ContainsNumber;
 
-impl Function for ContainsMemo {
+impl Function for ContainsNumber {
     type Call = MultiCall<(), ContextCall>;
 
     type Key = (u64, ());
@@ -50,7 +50,7 @@ impl Function for ContainsMemo {
 /// one.
 pub fn contains(
     alloc: Global,
-    cache: &mut CacheData<ContainsMemo>,
+    cache: &mut CacheData<ContainsNumber>,
     number: u64,
     context: &Tracked<'_, Context>,
 ) -> Result<Reply<bool>, Fault>
@@ -87,7 +87,7 @@ pub fn contains(
 /// Whether a call returns whether a context of the location 3 holds a number, and ends as `how`.
 fn says(
     alloc: Global,
-    cache: &mut CacheData<ContainsMemo>,
+    cache: &mut CacheData<ContainsNumber>,
     number: u64,
     styles: u64,
     is_in: bool,
@@ -121,9 +121,9 @@ fn a_number_is_looked_for_in_a_context(rt: HostRuntime) {
 }
 
 /// A function of two contexts, of which any output is right.
-pub struct AnyOfTwoMemo;
+pub struct AnythingOfTwo;
 
-impl Function for AnyOfTwoMemo {
+impl Function for AnythingOfTwo {
     type Call = MultiCall<ContextCall, ContextCall>;
 
     type Key = ((), ());
@@ -142,7 +142,7 @@ impl Function for AnyOfTwoMemo {
 /// The sum of the locations of two contexts, each asked once, and how the call ended.
 fn sum(
     alloc: Global,
-    cache: &mut CacheData<AnyOfTwoMemo>,
+    cache: &mut CacheData<AnythingOfTwo>,
     first: &Context,
     second: &Context,
 ) -> Result<(u64, How), Fault> {
@@ -167,7 +167,7 @@ fn sum(
 /// Whether a call returns this sum of the locations of two contexts, and ends as `how`.
 fn sums(
     alloc: Global,
-    cache: &mut CacheData<AnyOfTwoMemo>,
+    cache: &mut CacheData<AnythingOfTwo>,
     (at, by): (u64, u64),
     styles: u64,
     how: How,

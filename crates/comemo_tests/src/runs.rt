@@ -7,9 +7,9 @@ use comemo_samples::{Context, ContextCall};
 use std::alloc::{AllocError, Global};
 
 /// A function of which any output is right, so that its runs may ask anything.
-pub struct AnyMemo;
+pub struct Anything;
 
-impl Function for AnyMemo {
+impl Function for Anything {
     type Call = ContextCall;
 
     type Key = u64;
@@ -36,10 +36,10 @@ fn context(location: u64, styles: u64) -> Context {
 /// The call of an input with a key and a context.
 fn begin_any(
     alloc: Global,
-    cache: &mut CacheData<AnyMemo>,
+    cache: &mut CacheData<Anything>,
     context: &Context,
     outer: &mut Recording,
-) -> Result<Begun<u64, Pending<AnyMemo>>, Fault> {
+) -> Result<Begun<u64, Pending<Anything>>, Fault> {
     let mut input = Keyed {
         key: &7,
         view: context.track(alloc),
@@ -50,10 +50,10 @@ fn begin_any(
 /// A run that begins, if no entry agrees.
 fn begin_run(
     alloc: Global,
-    cache: &mut CacheData<AnyMemo>,
+    cache: &mut CacheData<Anything>,
     context: &Context,
     outer: &mut Recording,
-) -> Option<Pending<AnyMemo>> {
+) -> Option<Pending<Anything>> {
     match begin_any(alloc, cache, context, outer) {
         Ok(Begun::Run(pending)) => Some(pending),
         Ok(Begun::Hit(_)) => None,
@@ -62,7 +62,7 @@ fn begin_run(
 }
 
 /// Whether a call is a hit that returns 6.
-fn is_hit(alloc: Global, cache: &mut CacheData<AnyMemo>, context: &Context) -> bool {
+fn is_hit(alloc: Global, cache: &mut CacheData<Anything>, context: &Context) -> bool {
     let mut outer = Constraint::new(alloc);
     match begin_any(alloc, cache, context, &mut outer) {
         Ok(Begun::Hit(output)) => output == 6,
@@ -76,8 +76,8 @@ fn is_hit(alloc: Global, cache: &mut CacheData<AnyMemo>, context: &Context) -> b
 
 /// How a run with the output 6 ends.
 fn finish(
-    pending: Pending<AnyMemo>,
-    cache: &mut CacheData<AnyMemo>,
+    pending: Pending<Anything>,
+    cache: &mut CacheData<Anything>,
     outer: &mut Recording,
 ) -> Result<How, Fault> {
     match pending.finish(cache, outer, 6) {
@@ -89,7 +89,7 @@ fn finish(
 /// How two runs end that ask for a context's location, if the second begins before the first ends.
 fn end_two(
     alloc: Global,
-    cache: &mut CacheData<AnyMemo>,
+    cache: &mut CacheData<Anything>,
     context: &Context,
 ) -> Option<(Result<How, Fault>, Result<How, Fault>)> {
     let mut outer = Constraint::new(alloc);
@@ -124,7 +124,7 @@ fn is_lost(alloc: Global, spoils: bool) -> bool {
     let Some(mut pending) = begin_run(alloc, &mut cache, &context(3, 40), &mut outer) else {
         return false;
     };
-    let was_whole = outer.is_whole();
+    let was_complete = outer.is_whole();
     let is_told = if spoils {
         pending.recording().spoil();
         finish(pending, &mut cache, &mut outer) == Err(Fault::Incomplete)
@@ -132,7 +132,7 @@ fn is_lost(alloc: Global, spoils: bool) -> bool {
         pending.give_up(&mut outer);
         true
     };
-    was_whole && is_told && !outer.is_whole() && cache.len() == 0
+    was_complete && is_told && !outer.is_whole() && cache.len() == 0
 }
 
 #[test]
@@ -146,7 +146,7 @@ fn a_run_that_is_spoiled_or_given_up_spoils_its_sink(rt: HostRuntime) {
 /// How a call ends whose run asks for a context's location.
 fn call(
     alloc: Global,
-    cache: &mut CacheData<AnyMemo>,
+    cache: &mut CacheData<Anything>,
     context: &Context,
     outer: &mut Recording,
 ) -> Result<How, Fault> {
@@ -165,8 +165,8 @@ fn call(
 /// How a call ends within a run that asks nothing else, and how that run ends.
 fn call_within(
     alloc: Global,
-    inner: &mut CacheData<AnyMemo>,
-    outer: &mut CacheData<AnyMemo>,
+    inner: &mut CacheData<Anything>,
+    outer: &mut CacheData<Anything>,
     context: &Context,
 ) -> Option<(Result<How, Fault>, Result<How, Fault>)> {
     let mut around = Constraint::new(alloc);
@@ -205,7 +205,7 @@ fn absorb(alloc: Global, recording: &mut Recording) -> Result<(), AllocError> {
 }
 
 /// How a run ends that absorbs another recording.
-fn end_absorbing(alloc: Global, cache: &mut CacheData<AnyMemo>) -> Option<Result<How, Fault>> {
+fn end_absorbing(alloc: Global, cache: &mut CacheData<Anything>) -> Option<Result<How, Fault>> {
     let mut outer = Constraint::new(alloc);
     let mut pending = begin_run(alloc, cache, &context(0, 0), &mut outer)?;
     let _ = absorb(alloc, pending.recording());

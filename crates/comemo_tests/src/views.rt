@@ -34,10 +34,10 @@ fn is_sent_on(alloc: Global) -> bool {
     let is_new = Sink::emit(&mut sink, ContextCall::Location, Some(5)) == Ok(true);
     let is_held = Sink::emit(&mut sink, ContextCall::Location, Some(6)) == Ok(false);
     let is_there = recording.emit(ContextCall::Location, Some(5)) == Ok(false);
-    let was_whole = recording.is_whole();
+    let was_complete = recording.is_whole();
     let mut sink = &mut recording;
     Sink::spoil(&mut sink);
-    is_new && is_held && is_there && was_whole && !recording.is_whole()
+    is_new && is_held && is_there && was_complete && !recording.is_whole()
 }
 
 #[test]

@@ -64,8 +64,8 @@ module _ {C R : Type 0} {eq : MultiCall ⊤ C → MultiCall ⊤ C → Bool} {sam
   -- what holds of the view's answers, whichever of them agree with the pairs, holds of the second part of all answers that do
   pub on_parts : (ps : List (MultiCall ⊤ C × MultiAnswer ⊤ R)) (P : (C → R) → Type 0) → ((n : C → R) → Respects (view_calls eq) (view_answers same) n → Agrees same (with_key n) ps → P n) → (m : MultiCall ⊤ C → MultiAnswer ⊤ R) → Respects eq same m → Agrees same m ps → OnParts m (λ _ n. P n)
   on_parts ps P holds m respects agrees p n first second =
-      let whole : m ≡ with_key n = λ i c. answered m p n first second c i in
-      holds n (second_respects eq same m n respects second) (subst (λ f. Agrees same f ps) whole agrees)
+      let complete : m ≡ with_key n = λ i c. answered m p n first second c i in
+      holds n (second_respects eq same m n respects second) (subst (λ f. Agrees same f ps) complete agrees)
 
   -- what a view's `ask_through` says of the recording
   pub told_read : {touches : MultiCall ⊤ C → MultiCall ⊤ C → Bool} (m : C → R) → Respects (view_calls eq) (view_answers same) m → (s t : Recording (MultiCall ⊤ C) (MultiAnswer ⊤ R)) (c : C) (a : R) → Agrees same (with_key m) s.pairs → Asks (view_answers same) m c a (Through second_call second_answer (Took eq touches s t)) → ToldRead eq same m s.pairs c a t.pairs

@@ -36,10 +36,10 @@ module _ {C R : Type 0} {eq : C → C → Bool} (laws : IsEquivalence eq) (w : C
   }
 
 -- nothing was taken
-pub took_none : {C R : Type 0} (eq touches : C → C → Bool) (s t : Recording C R) → t.pairs ≡ s.pairs → t.writes ≡ s.writes → t.whole ≡ s.whole → t.late ≡ s.late → Took eq touches s t [] []
-took_none eq touches s t pairs writes whole late = record { pairs = pairs; writes = writes ∙ sym (append-nil s.writes); whole = whole; late = late ∙ sym (or_none s.late) }
+pub took_none : {C R : Type 0} (eq touches : C → C → Bool) (s t : Recording C R) → t.pairs ≡ s.pairs → t.writes ≡ s.writes → t.complete ≡ s.complete → t.late ≡ s.late → Took eq touches s t [] []
+took_none eq touches s t pairs writes complete late = record { pairs = pairs; writes = writes ∙ sym (append-nil s.writes); complete = complete; late = late ∙ sym (or_none s.late) }
 
 -- nothing was taken where it was refused, and then it was spoiled
-pub spoiled_at : {T E C R : Type 0} (eq touches : C → C → Bool) (r : Result T E) (s m t : Recording C R) → OnErr r (Took eq touches s m [] []) → t.pairs ≡ m.pairs → t.writes ≡ m.writes → t.late ≡ m.late → OnErr r (t.whole ≡ false) → OnErr r (Spoiled s t)
-spoiled_at eq touches (Ok x) s m t taken pairs writes late whole = tt
-spoiled_at eq touches (Err e) s m t taken pairs writes late whole = record { pairs = pairs ∙ taken.pairs; writes = writes ∙ taken.writes ∙ append-nil s.writes; whole = whole; late = late ∙ taken.late ∙ or_none s.late }
+pub spoiled_at : {T E C R : Type 0} (eq touches : C → C → Bool) (r : Result T E) (s m t : Recording C R) → OnErr r (Took eq touches s m [] []) → t.pairs ≡ m.pairs → t.writes ≡ m.writes → t.late ≡ m.late → OnErr r (t.complete ≡ false) → OnErr r (Spoiled s t)
+spoiled_at eq touches (Ok x) s m t taken pairs writes late complete = tt
+spoiled_at eq touches (Err e) s m t taken pairs writes late complete = record { pairs = pairs ∙ taken.pairs; writes = writes ∙ taken.writes ∙ append-nil s.writes; complete = complete; late = late ∙ taken.late ∙ or_none s.late }

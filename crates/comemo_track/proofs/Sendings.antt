@@ -3,43 +3,43 @@ use Rattle.std.proofs.Common.{◌≡◌, suc, Bool, false, List, [], ◌∷◌, 
 use Rattle.std.specs.List.{All}
 use Rattle.comemo_track.specs.Sending.{BreaksOff}
 
--- a sink went from s to t by a front of all pairs, and these are left
-pub record SentFront {S C R : Type 0} (took : S → S → List (C × R) → List C → Type 0) (s t : S) (all left : List (C × R)) : Type 0 where
-  pub front : List (C × R)
-  pub parts : all ≡ front ++ left
-  pub taken : took s t front []
+-- a sink went from s to t by a prefix of all pairs, and these are left
+pub record SentPrefix {S C R : Type 0} (took : S → S → List (C × R) → List C → Type 0) (s t : S) (all left : List (C × R)) : Type 0 where
+  pub prefix : List (C × R)
+  pub parts : all ≡ prefix ++ left
+  pub taken : took s t prefix []
 
 module _ {S C R : Type 0} {took : S → S → List (C × R) → List C → Type 0} where
   -- nothing is sent yet
-  pub none_sent : ((s : S) → took s s [] []) → (s : S) (all : List (C × R)) → SentFront took s s all all
-  none_sent starts s all = record { front = []; parts = refl; taken = starts s }
+  pub none_sent : ((s : S) → took s s [] []) → (s : S) (all : List (C × R)) → SentPrefix took s s all all
+  none_sent starts s all = record { prefix = []; parts = refl; taken = starts s }
 
   -- all is sent
-  pub all_sent : (s t : S) (all : List (C × R)) → SentFront took s t all [] → took s t all []
-  all_sent s t all so = subst (λ ps. took s t ps []) (sym (so.parts ∙ append-nil so.front)) so.taken
+  pub all_sent : (s t : S) (all : List (C × R)) → SentPrefix took s t all [] → took s t all []
+  all_sent s t all so = subst (λ ps. took s t ps []) (sym (so.parts ∙ append-nil so.prefix)) so.taken
 
   -- the sink was spoiled with pairs left
-  pub broke_off : {spoils : S → S → Type 0} (s t u : S) (all left : List (C × R)) → SentFront took s t all left → spoils t u → BreaksOff took spoils s u all
-  broke_off s t u all left so spoiled = record { front = so.front; rest = left; parts = so.parts; mid = t; taken = so.taken; spoiled = spoiled }
+  pub broke_off : {spoils : S → S → Type 0} (s t u : S) (all left : List (C × R)) → SentPrefix took s t all left → spoils t u → BreaksOff took spoils s u all
+  broke_off s t u all left so spoiled = record { prefix = so.prefix; rest = left; parts = so.parts; mid = t; taken = so.taken; spoiled = spoiled }
 
   module _ (joins : (s t u : S) (P Q : List (C × R)) (V W : List C) → took s t P V → took t u Q W → took s u (P ++ Q) (V ++ W)) where
     -- a refused pair changed nothing, and then the sink was spoiled
-    pub broke_at : {spoils : S → S → Type 0} (s t t' u : S) (all left : List (C × R)) → SentFront took s t all left → took t t' [] [] → spoils t' u → BreaksOff took spoils s u all
+    pub broke_at : {spoils : S → S → Type 0} (s t t' u : S) (all left : List (C × R)) → SentPrefix took s t all left → took t t' [] [] → spoils t' u → BreaksOff took spoils s u all
     broke_at s t t' u all left so refused spoiled = record {
-      front = so.front;
+      prefix = so.prefix;
       rest = left;
       parts = so.parts;
       mid = t';
-      taken = subst (λ ps. took s t' ps []) (append-nil so.front) (joins s t t' so.front [] [] [] so.taken refused);
+      taken = subst (λ ps. took s t' ps []) (append-nil so.prefix) (joins s t t' so.prefix [] [] [] so.taken refused);
       spoiled = spoiled;
     }
 
     -- the first of the pairs left went to the sink
-    pub one_sent : (s t t' : S) (all old new : List (C × R)) (p : C × R) → old ≡ p ∷ new → took t t' (p ∷ []) [] → SentFront took s t all old → SentFront took s t' all new
+    pub one_sent : (s t t' : S) (all old new : List (C × R)) (p : C × R) → old ≡ p ∷ new → took t t' (p ∷ []) [] → SentPrefix took s t all old → SentPrefix took s t' all new
     one_sent s t t' all old new p e sent so = record {
-      front = so.front ++ p ∷ [];
-      parts = so.parts ∙ ap (λ ps. so.front ++ ps) e ∙ sym (append_assoc so.front (p ∷ []) new);
-      taken = joins s t t' so.front (p ∷ []) [] [] so.taken sent;
+      prefix = so.prefix ++ p ∷ [];
+      parts = so.parts ∙ ap (λ ps. so.prefix ++ ps) e ∙ sym (append_assoc so.prefix (p ∷ []) new);
+      taken = joins s t t' so.prefix (p ∷ []) [] [] so.taken sent;
     }
 
     -- the same, said of whatever comes of the rest
@@ -49,11 +49,11 @@ module _ {S C R : Type 0} {took : S → S → List (C × R) → List C → Type 
     -- what broke off after the first of the pairs broke off from all of them
     pub rest_breaks : {spoils : S → S → Type 0} (s t u : S) (old new : List (C × R)) (p : C × R) → old ≡ p ∷ new → took s t (p ∷ []) [] → BreaksOff took spoils t u new → BreaksOff took spoils s u old
     rest_breaks s t u old new p e sent b = record {
-      front = p ∷ b.front;
+      prefix = p ∷ b.prefix;
       rest = b.rest;
       parts = e ∙ ap (λ ps. p ∷ ps) b.parts;
       mid = b.mid;
-      taken = joins s t b.mid (p ∷ []) b.front [] [] sent b.taken;
+      taken = joins s t b.mid (p ∷ []) b.prefix [] [] sent b.taken;
       spoiled = b.spoiled;
     }
 

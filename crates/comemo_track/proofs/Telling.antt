@@ -9,9 +9,9 @@ use Rattle.comemo_track.specs.Recording.{Recording, Took}
 use Rattle.comemo_track.specs.Sending.{Asks}
 
 module _ {C R : Type 0} (same : R → R → Bool) (m : C → R) where
-  agrees_front : (ps qs : List (C × R)) → Agrees same m (ps ++ qs) → Agrees same m ps
-  agrees_front [] qs a = tt
-  agrees_front (p ∷ ps) qs a = (a.0, agrees_front ps qs a.1)
+  agrees_prefix : (ps qs : List (C × R)) → Agrees same m (ps ++ qs) → Agrees same m ps
+  agrees_prefix [] qs a = tt
+  agrees_prefix (p ∷ ps) qs a = (a.0, agrees_prefix ps qs a.1)
 
   agrees_back : (ps qs : List (C × R)) → Agrees same m (ps ++ qs) → Agrees same m qs
   agrees_back [] qs a = a
@@ -48,7 +48,7 @@ module _ {C R : Type 0} {eq : C → C → Bool} {same : R → R → Bool} (calls
   told_one s p a h =
       elim (cases_Bool (held eq s p.0)) [
         | inl k ↦ rw k (record { agrees = a; before = λ n r b. b; told = λ n r b. (joined answers (n p.0) (m p.0) p.1 (held_alike n r s p.0 k a b) h, tt) })
-        | inr k ↦ rw k (record { agrees = agrees_both same m s (p ∷ []) a (h, tt); before = λ n r b. agrees_front same n s (p ∷ []) b; told = λ n r b. agrees_back same n s (p ∷ []) b })
+        | inr k ↦ rw k (record { agrees = agrees_both same m s (p ∷ []) a (h, tt); before = λ n r b. agrees_prefix same n s (p ∷ []) b; told = λ n r b. agrees_back same n s (p ∷ []) b })
       ]
 
   told_absorbed : (s P : List (C × R)) → Agrees same m s → Agrees same m P → Told eq same m s P (absorbed eq s P)

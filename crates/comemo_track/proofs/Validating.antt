@@ -16,15 +16,15 @@ remaining_at slots i slot p l e is =
     ap remaining (sym (take-append-drop i slots) ∙ ap (λ x. take i slots ++ x) (drop_more slots i slot l ∙ ap (λ x. x ∷ drop (i + 1) slots) (sym e ∙ is)))
     ∙ filter_map-append (λ s. s) (take i slots) (Some p ∷ drop (i + 1) slots)
 
-pub All-at : {X : Type 0} (P : X → Type 0) (front : List X) (x : X) (rest : List X) → All P (front ++ x ∷ rest) → P x
+pub All-at : {X : Type 0} (P : X → Type 0) (prefix : List X) (x : X) (rest : List X) → All P (prefix ++ x ∷ rest) → P x
 All-at P [] x rest h = All-head P x rest h
-All-at P (y ∷ front) x rest h = All-at P front x rest (All-tail P y (front ++ x ∷ rest) h)
+All-at P (y ∷ prefix) x rest h = All-at P prefix x rest (All-tail P y (prefix ++ x ∷ rest) h)
 
 module _ {C R : Type 0} (same : R → R → Bool) (m : C → R) where
-  pub Agrees-at : (front : List (C × R)) (p : C × R) (rest : List (C × R)) → Agrees same m (front ++ p ∷ rest) → IsTrue (same (m p.0) p.1)
+  pub Agrees-at : (prefix : List (C × R)) (p : C × R) (rest : List (C × R)) → Agrees same m (prefix ++ p ∷ rest) → IsTrue (same (m p.0) p.1)
   Agrees-at [] p rest h = h.0
-  Agrees-at (q ∷ front) p rest h = Agrees-at front p rest h.1
+  Agrees-at (q ∷ prefix) p rest h = Agrees-at prefix p rest h.1
 
-  pub Agrees-push : (front : List (C × R)) (p : C × R) → Agrees same m front → IsTrue (same (m p.0) p.1) → Agrees same m (front ++ p ∷ [])
+  pub Agrees-push : (prefix : List (C × R)) (p : C × R) → Agrees same m prefix → IsTrue (same (m p.0) p.1) → Agrees same m (prefix ++ p ∷ [])
   Agrees-push [] p h k = (k, tt)
-  Agrees-push (q ∷ front) p h k = (h.0, Agrees-push front p h.1 k)
+  Agrees-push (q ∷ prefix) p h k = (h.0, Agrees-push prefix p h.1 k)

@@ -11,7 +11,7 @@ use Rattle.comemo_track.specs.Writing.{touched}
 pub record Recording (C R : Type 0) : Type 0 where
   pub pairs : List (C × R)
   pub writes : List C
-  pub whole : Bool
+  pub complete : Bool
   pub late : Bool
   pub room : ℕ
 
@@ -19,31 +19,31 @@ pub record Recording (C R : Type 0) : Type 0 where
 pub record Took {C R : Type 0} (eq touches : C → C → Bool) (s t : Recording C R) (P : List (C × R)) (W : List C) : Type 0 where
   pub pairs : t.pairs ≡ absorbed eq s.pairs P
   pub writes : t.writes ≡ s.writes ++ W
-  pub whole : t.whole ≡ s.whole
+  pub complete : t.complete ≡ s.complete
   pub late : t.late ≡ (s.late || touched touches s.writes P)
 
 -- t is s, marked incomplete
 pub record Spoiled {C R : Type 0} (s t : Recording C R) : Type 0 where
   pub pairs : t.pairs ≡ s.pairs
   pub writes : t.writes ≡ s.writes
-  pub whole : t.whole ≡ false
+  pub complete : t.complete ≡ false
   pub late : t.late ≡ s.late
 
 -- t is s, marked late
 pub record MarkedLate {C R : Type 0} (s t : Recording C R) : Type 0 where
   pub pairs : t.pairs ≡ s.pairs
   pub writes : t.writes ≡ s.writes
-  pub whole : t.whole ≡ s.whole
+  pub complete : t.complete ≡ s.complete
   pub late : t.late ≡ true
 
 -- the answers agree with a proper prefix of the pairs
 abbrev pub AgreesBefore : {C R : Type 0} → (R → R → Bool) → (C → R) → List (C × R) → Type 0
-AgreesBefore {C} {R} same m pairs = (front : List (C × R)) × (next : C × R) × (rest : List (C × R)) × (pairs ≡ front ++ next ∷ rest) × Agrees same m front
+AgreesBefore {C} {R} same m pairs = (prefix : List (C × R)) × (next : C × R) × (rest : List (C × R)) × (pairs ≡ prefix ++ next ∷ rest) × Agrees same m prefix
 
 -- a recording is coded as the tuple of its fields, which a proof needs to tell two apart
 abbrev pub recording_code : {C R : Type 0} → Coded C → Coded R → Coded (Recording C R)
 recording_code {C} {R} c r =
-    code_by (List (C × R) × (List C × (Bool × (Bool × ℕ)))) (coded× (coded_list (coded× c r)) (coded× (coded_list c) (coded× coded_bool (coded× coded_bool coded_ℕ)))) (λ s. (s.pairs, (s.writes, (s.whole, (s.late, s.room))))) (λ p. record { pairs = p.0; writes = p.1.0; whole = p.1.1.0; late = p.1.1.1.0; room = p.1.1.1.1 }) (λ _. refl)
+    code_by (List (C × R) × (List C × (Bool × (Bool × ℕ)))) (coded× (coded_list (coded× c r)) (coded× (coded_list c) (coded× coded_bool (coded× coded_bool coded_ℕ)))) (λ s. (s.pairs, (s.writes, (s.complete, (s.late, s.room))))) (λ p. record { pairs = p.0; writes = p.1.0; complete = p.1.1.0; late = p.1.1.1.0; room = p.1.1.1.1 }) (λ _. refl)
 
 -- the invariant of a `Constraint`: the calls seen are those of the pairs, all of them reads, and the writes are writes
 pub record IsRecording {C R : Type 0} (eq : C → C → Bool) (w : C → Bool) (reads : Sequence C R) (writes : List C) : Type 0 where

@@ -51,7 +51,7 @@ module _ {C R : Type 0} (eq : C → C → Bool) where
 
 module _ {C R : Type 0} (eq touches : C → C → Bool) where
   pub took_nothing : (s : Recording C R) → Took eq touches s s [] []
-  took_nothing s = record { pairs = refl; writes = sym (append-nil s.writes); whole = refl; late = sym (or_none s.late) }
+  took_nothing s = record { pairs = refl; writes = sym (append-nil s.writes); complete = refl; late = sym (or_none s.late) }
 
   -- what is taken after reads only joins them
   pub took_both : (s t u : Recording C R) (P Q : List (C × R)) (W : List C) → Took eq touches s t P [] → Took eq touches t u Q W → Took eq touches s u (P ++ Q) W
@@ -60,7 +60,7 @@ module _ {C R : Type 0} (eq touches : C → C → Bool) where
       record {
         pairs = b.pairs ∙ ap (λ x. absorbed eq x Q) a.pairs ∙ absorbed-append eq s.pairs P Q;
         writes = b.writes ∙ ap (λ x. x ++ W) same;
-        whole = b.whole ∙ a.whole;
+        complete = b.complete ∙ a.complete;
         late =
             b.late
             ∙ ap (λ x. x || touched touches t.writes Q) a.late
@@ -74,7 +74,7 @@ module _ {C R : Type 0} (eq touches : C → C → Bool) where
   took_more s t u P V W a b = record {
     pairs = b.pairs ∙ a.pairs;
     writes = b.writes ∙ ap (λ x. x ++ W) a.writes ∙ append_assoc s.writes V W;
-    whole = b.whole ∙ a.whole;
+    complete = b.complete ∙ a.complete;
     late = b.late ∙ or_none t.late ∙ a.late;
   }
 
@@ -82,7 +82,7 @@ module _ {C R : Type 0} (eq touches : C → C → Bool) where
   took_keeps s t P W call a h = ap (λ ps. held eq ps call) a.pairs ∙ held-absorbed eq s.pairs P call h
 
   pub took_held : (s t : Recording C R) (call : C) (answer other : R) → IsTrue (held eq s.pairs call) → Took eq touches s t ((call, answer) ∷ []) [] → Took eq touches s t ((call, other) ∷ []) []
-  took_held s t call answer other h a = record { pairs = a.pairs ∙ ap (λ b. cond b s.pairs (s.pairs ++ (call, answer) ∷ [])) h ∙ sym (ap (λ b. cond b s.pairs (s.pairs ++ (call, other) ∷ [])) h); writes = a.writes; whole = a.whole; late = a.late }
+  took_held s t call answer other h a = record { pairs = a.pairs ∙ ap (λ b. cond b s.pairs (s.pairs ++ (call, answer) ∷ [])) h ∙ sym (ap (λ b. cond b s.pairs (s.pairs ++ (call, other) ∷ [])) h); writes = a.writes; complete = a.complete; late = a.late }
 
   pub took_holds : (s t : Recording C R) (P : List (C × R)) (W : List C) (call : C) → Took eq touches s t P W → IsTrue (held eq t.pairs call) → IsTrue (held eq s.pairs call) ⊎ IsTrue (held eq P call)
   took_holds s t P W call a h = absorbed-held eq s.pairs P call (ap (λ ps. held eq ps call) (sym a.pairs) ∙ h)

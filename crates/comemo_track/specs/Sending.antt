@@ -20,11 +20,11 @@ pub record Asks {C R : Type 0} (same : R → R → Bool) (m : C → R) (call : C
 
 -- the sink took a prefix of these pairs, and was then marked incomplete
 pub record BreaksOff {S C R : Type 0} (took : S → S → List (C × R) → List C → Type 0) (spoils : S → S → Type 0) (s t : S) (pairs : List (C × R)) : Type 0 where
-  pub front : List (C × R)
+  pub prefix : List (C × R)
   pub rest : List (C × R)
-  pub parts : pairs ≡ front ++ rest
+  pub parts : pairs ≡ prefix ++ rest
   pub mid : S
-  pub taken : took s mid front []
+  pub taken : took s mid prefix []
   pub spoiled : spoils mid t
 
 -- the sink took these pairs and these writes, and was then marked incomplete

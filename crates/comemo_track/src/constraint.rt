@@ -21,7 +21,7 @@ use std::marker::Model;
 pub struct Constraint<C: Call, R> {
     reads: CallSequence<C, R>,
     writes: Vec<C>,
-    whole: bool,
+    complete: bool,
     late: bool,
 }
 
@@ -36,7 +36,7 @@ impl<C: Call, R> Model for Constraint<C, R> {
     ghost view = { λ s. record {
       pairs = s.reads.pairs;
       writes = s.writes.items;
-      whole = s.whole;
+      complete = s.complete;
       late = s.late;
       room = vec_capacity s.writes - vec_len s.writes;
     } };
@@ -49,22 +49,22 @@ impl<C: Call, R> Constraint<C, R> {
     pub fn new(alloc: Global) -> Self
         ensures pairs { result.pairs ≡ [] }
         ensures writes { result.writes ≡ [] }
-        ensures whole { result.whole ≡ true }
+        ensures complete { result.complete ≡ true }
         ensures late { result.late ≡ false }
     {
         Constraint {
             reads: CallSequence::new(alloc),
             writes: Vec::new(alloc),
-            whole: true,
+            complete: true,
             late: false,
         }
     }
 
     /// Whether nothing that should be recorded was lost.
     pub fn is_whole(&self) -> bool
-        ensures { result ≡ self.now.whole }
+        ensures { result ≡ self.now.complete }
     {
-        self.whole
+        self.complete
     }
 
     /// Whether a read came after a write that touches it, here or in an absorbed recording.
@@ -92,7 +92,7 @@ impl<C: Call, R> Constraint<C, R> {
         let Constraint {
             reads,
             writes,
-            whole: _,
+            complete: _,
             late: _,
         } = self;
         (reads, writes)
@@ -107,7 +107,7 @@ impl<C: Call, R: Drop> Constraint<C, R> {
     pub fn absorb(&mut self, other: Constraint<C, R>) -> Result<(), AllocError>
         ensures pairs { OnOk result (self.new.pairs ≡ absorbed C.eq self.old.pairs other.pairs) }
         ensures writes { OnOk result (self.new.writes ≡ self.old.writes ++ other.writes) }
-        ensures whole { OnOk result (self.new.whole ≡ (self.old.whole && other.whole)) }
+        ensures complete { OnOk result (self.new.complete ≡ (self.old.complete && other.complete)) }
         ensures late { OnOk result (self.new.late
             ≡ ((self.old.late || touched C.touches self.old.writes other.pairs) || other.late)) }
         ensures err { OnErr result (Spoiled self.old self.new) }
@@ -115,15 +115,15 @@ impl<C: Call, R: Drop> Constraint<C, R> {
         let Constraint {
             reads,
             writes,
-            whole,
+            complete,
             late,
         } = other;
         let absorbed = self.absorb_parts(reads, writes);
         if absorbed.is_err() {
-            self.whole = false;
+            self.complete = false;
             return absorbed;
         }
-        self.whole = self.whole && whole;
+        self.complete = self.complete && complete;
         self.late = self.late || late;
         Ok(())
     }
@@ -267,7 +267,7 @@ impl<C: Call, R: Clone + Ord> Sink for Constraint<C, R> {
     }
 
     fn spoil(&mut self) {
-        self.whole = false;
+        self.complete = false;
     }
 
     fn late(&mut self) {

@@ -21,7 +21,7 @@ use Rattle.comemo_tree.specs.declared.tree.Start.{Start}
 use Rattle.comemo_tree.proofs.Forest.{leaf_at}
 
 -- the entries before and after one of a slab, where it alone is written
-entries_around : {X : Type 0} (s : slab.Slab X) (at : ℕ) (x y : X) → slab.get s at ≡ Some x → at < length s.slots → (front back : List (ℕ × X)) × (slab.entries s ≡ front ++ (at, x) ∷ back) × (slab.entries (slab.with_value s at y) ≡ front ++ (at, y) ∷ back)
+entries_around : {X : Type 0} (s : slab.Slab X) (at : ℕ) (x y : X) → slab.get s at ≡ Some x → at < length s.slots → (prefix back : List (ℕ × X)) × (slab.entries s ≡ prefix ++ (at, x) ∷ back) × (slab.entries (slab.with_value s at y) ≡ prefix ++ (at, y) ∷ back)
 entries_around s at x y is within =
     let before = take at s.slots in
     let after = drop (suc at) s.slots in
@@ -92,7 +92,7 @@ module _ {K T : Type 0} (leaves : slab.Slab (LeafNode K T)) (at : ℕ) (leaf : L
     pub Changes-valued : {S : Type 0} {eq : C → C → Bool} {same : R → R → Bool} {eqk : K → K → Bool} (calls : IsEquivalence eq) (answers : IsEquivalence same) (keys : IsEquivalence eqk) {starts : HashMap K Start S} (forest : IsForest eq same eqk None inner leaves starts) (left : T → T → Type 0) (key : K) (given : List R) → LeadsByAnswers same eqk inner starts key given at → left leaf.value value → Changes same eqk left key given (contents inner leaves) (contents inner valued)
     Changes-valued {same = same} {eqk = eqk} calls answers keys forest left key given lead called =
         let a = entries_around leaves at leaf (record leaf { value = value }) is (ContainsKey-within leaves at here) in
-        let front = a.0 in
+        let prefix = a.0 in
         let back = a.1 in
         let leaf' : LeafNode K T = record leaf { value = value } in
         let f = leaf_at calls answers keys forest key lead.0 at lead.1 in
@@ -101,14 +101,14 @@ module _ {K T : Type 0} (leaves : slab.Slab (LeafNode K T)) (at : ℕ) (leaf : L
         let path : lead.0 ≡ path_of inner at leaf = sym f.3 ∙ ap (path_of inner at) leaf_is in
         record {
           entry = entry_of inner (at, leaf);
-          others = map (entry_of inner) (front ++ back);
-          before = subst (λ es. IsPermutation (map (entry_of inner) ((at, leaf) ∷ (front ++ back))) (map (entry_of inner) es)) (sym a.2) (moved (at, leaf) front back);
+          others = map (entry_of inner) (prefix ++ back);
+          before = subst (λ es. IsPermutation (map (entry_of inner) ((at, leaf) ∷ (prefix ++ back))) (map (entry_of inner) es)) (sym a.2) (moved (at, leaf) prefix back);
           under_key = subst (λ (l : LeafNode K T). IsTrue (eqk l.key.value key)) leaf_is f.2;
           has_answers = subst (λ ps. HasAnswers same ps given) path lead.2;
           value = value;
           left = called;
-          after = subst (λ es. IsPermutation (map (entry_of inner) ((at, leaf') ∷ (front ++ back))) (map (entry_of inner) es)) (sym a.3) (moved (at, leaf') front back);
+          after = subst (λ es. IsPermutation (map (entry_of inner) ((at, leaf') ∷ (prefix ++ back))) (map (entry_of inner) es)) (sym a.3) (moved (at, leaf') prefix back);
         }
       where
-        moved : (e : ℕ × LeafNode K T) (front back : List (ℕ × LeafNode K T)) → IsPermutation (map (entry_of inner) (e ∷ (front ++ back))) (map (entry_of inner) (front ++ e ∷ back))
-        moved e front back = IsPermutation-map (entry_of inner) (e ∷ (front ++ back)) (front ++ e ∷ back) (IsPermutation-sym (front ++ e ∷ back) (e ∷ (front ++ back)) (IsPermutation-middle front e back))
+        moved : (e : ℕ × LeafNode K T) (prefix back : List (ℕ × LeafNode K T)) → IsPermutation (map (entry_of inner) (e ∷ (prefix ++ back))) (map (entry_of inner) (prefix ++ e ∷ back))
+        moved e prefix back = IsPermutation-map (entry_of inner) (e ∷ (prefix ++ back)) (prefix ++ e ∷ back) (IsPermutation-sym (prefix ++ e ∷ back) (e ∷ (prefix ++ back)) (IsPermutation-middle prefix e back))

@@ -34,7 +34,7 @@ module _ {X : Type 0} (P : X → Type 0) where
   Any-right (x ∷ xs) ys h = Any-later P x (xs ++ ys) (Any-right xs ys h)
 
   -- the elements around one
-  around : (xs : List X) → Any P xs → (front : List X) × (x : X) × (back : List X) × (xs ≡ front ++ x ∷ back) × P x
+  around : (xs : List X) → Any P xs → (prefix : List X) × (x : X) × (back : List X) × (xs ≡ prefix ++ x ∷ back) × P x
   around [] h = absurd (omega (arith, h.2))
   around (x ∷ xs) h = elim (Any-split P x xs h) [
     | inl here ↦ ([], x, xs, refl, here)
@@ -42,11 +42,11 @@ module _ {X : Type 0} (P : X → Type 0) where
   ]
 
   -- an element that is not the one between
-  others : (front : List X) (x : X) (back : List X) → ¬ P x → Any P (front ++ x ∷ back) → Any P (front ++ back)
+  others : (prefix : List X) (x : X) (back : List X) → ¬ P x → Any P (prefix ++ x ∷ back) → Any P (prefix ++ back)
   others [] x back other h = elim (Any-split P x back h) [ inl here ↦ absurd (other here) | inr later ↦ later ]
-  others (y ∷ front) x back other h = elim (Any-split P y (front ++ x ∷ back) h) [
-    | inl here ↦ Any-here P y (front ++ back) here
-    | inr later ↦ Any-later P y (front ++ back) (others front x back other later)
+  others (y ∷ prefix) x back other h = elim (Any-split P y (prefix ++ x ∷ back) h) [
+    | inl here ↦ Any-here P y (prefix ++ back) here
+    | inr later ↦ Any-later P y (prefix ++ back) (others prefix x back other later)
   ]
 
 module _ {X : Type 0} (same_as : X → X → Type 0) (turn : (x y : X) → same_as x y → same_as y x) (join : (x y z : X) → same_as x y → same_as y z → same_as x z) where

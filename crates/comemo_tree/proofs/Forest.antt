@@ -16,7 +16,7 @@ use Rattle.slab.specs.Slab.{entries_from}
 use Rattle.slab.proofs.SlabLemmas.{Contains-cons, Contains-entries}
 use Rattle.comemo_base.specs.Lookup.{under, IsNext, IsAsked, IsRefused, IsStoredCall}
 use Rattle.comemo_base.specs.Sequence.{HasDistinctCalls}
-use Rattle.comemo_base.specs.Tree.{Stored, IsSamePath, IsFront, Parts, IsTree}
+use Rattle.comemo_base.specs.Tree.{Stored, IsSamePath, IsPrefix, Parts, IsTree}
 use Rattle.comemo_tree.specs.Nodes.{answer_to, Points, last_pair, extended, origin, Leads, LeadsFrom, path_of, entry_of, contents, first_of, IsAt, IsEnd, IsForest}
 use Rattle.comemo_tree.specs.declared.children.Node.{Node}
 use Rattle.comemo_tree.specs.declared.children.Node.TheVariants.{Inner, Leaf}
@@ -178,7 +178,7 @@ module _ {C R : Type 0} {eq : C → C → Bool} {same : R → R → Bool} (calls
         cc
 
     -- where a node has no child for the answer, no path goes on with it
-    no_child : (from : Node) (asked done : List (C × R)) (at : ℕ) (node : InnerNode C R) (c : C) (answer : R) (qs : List (C × R)) (to : Node) → Leads inner from done (Inner at) → IsSamePath eq same asked done → slab.get inner at ≡ Some node → lookup (same answer) node.children ≡ None → Leads inner from qs to → IsFront eq same (asked ++ (c, answer) ∷ []) qs → ⊥
+    no_child : (from : Node) (asked done : List (C × R)) (at : ℕ) (node : InnerNode C R) (c : C) (answer : R) (qs : List (C × R)) (to : Node) → Leads inner from done (Inner at) → IsSamePath eq same asked done → slab.get inner at ≡ Some node → lookup (same answer) node.children ≡ None → Leads inner from qs to → IsPrefix eq same (asked ++ (c, answer) ∷ []) qs → ⊥
     no_child from [] [] at node c answer [] to k s e none h f = f
     no_child from [] [] at node c answer (q ∷ qs) to k s e none h f =
         let here : Inner h.0 ≡ Inner at = sym h.3 ∙ k in
@@ -236,7 +236,7 @@ module _ {C R : Type 0} {eq : C → C → Bool} {same : R → R → Bool} (calls
     -- ---- what a look-up finds
     pub no_start : (key : K) → first_of eqk starts key ≡ None → IsAsked eq same {T = T} (under eqk (contents inner leaves) key) [] None
     no_start key none = (
-      All-under eqk (contents inner leaves) key (λ e. ¬ IsFront eq same [] e.path) (all_entries inner leaves (λ e. IsTrue (eqk e.key key) → ¬ IsFront eq same [] e.path) (λ at leaf e k f.
+      All-under eqk (contents inner leaves) key (λ e. ¬ IsPrefix eq same [] e.path) (all_entries inner leaves (λ e. IsTrue (eqk e.key key) → ¬ IsPrefix eq same [] e.path) (λ at leaf e k f.
           let lead = forest.led at leaf e in
           let h : Some lead.0 ≡ None = sym lead.1 ∙ first_alike keys starts leaf.key.value key k ∙ none in
           cc)),
@@ -263,17 +263,17 @@ module _ {C R : Type 0} {eq : C → C → Bool} {same : R → R → Bool} (calls
         Any-under eqk (contents inner leaves) key (λ x. IsNext eq same asked node.call x.path) (any_entry inner leaves (λ x. IsTrue (eqk x.key key) × IsNext eq same asked node.call x.path) b.0 b.1 b.4
         (b.5, subst (λ ps. IsNext eq same asked node.call ps) (sym b.6) (next_along asked done node.call b.2 b.3 s (ap (λ c. eq node.call c) (sym b.7) ∙ calls.refl node.call))))
 
-    pub not_front : (key : K) (asked done : List (C × R)) (at : ℕ) (node : InnerNode C R) (answer : R) → LeadsFrom inner eqk starts key done (Inner at) → slab.get inner at ≡ Some node → IsSamePath eq same asked done → lookup (same answer) node.children ≡ None → All (λ (x : Stored K C R T). IsTrue (eqk x.key key) → ¬ IsFront eq same (asked ++ (node.call, answer) ∷ []) x.path) (contents inner leaves)
-    not_front key asked done at node answer lead e s none = all_entries inner leaves (λ x. IsTrue (eqk x.key key) → ¬ IsFront eq same (asked ++ (node.call, answer) ∷ []) x.path) (λ i leaf f k front.
+    pub not_prefix : (key : K) (asked done : List (C × R)) (at : ℕ) (node : InnerNode C R) (answer : R) → LeadsFrom inner eqk starts key done (Inner at) → slab.get inner at ≡ Some node → IsSamePath eq same asked done → lookup (same answer) node.children ≡ None → All (λ (x : Stored K C R T). IsTrue (eqk x.key key) → ¬ IsPrefix eq same (asked ++ (node.call, answer) ∷ []) x.path) (contents inner leaves)
+    not_prefix key asked done at node answer lead e s none = all_entries inner leaves (λ x. IsTrue (eqk x.key key) → ¬ IsPrefix eq same (asked ++ (node.call, answer) ∷ []) x.path) (λ i leaf f k prefix.
         let own = forest.led i leaf f in
         let from : Some own.0 ≡ Some lead.0 = sym own.1 ∙ first_alike keys starts leaf.key.value key k ∙ lead.1 in
         let one : own.0 ≡ lead.0 = cc in
-        no_child lead.0 asked done at node node.call answer (path_of inner i leaf) (Leaf i) lead.2 s e none (subst (λ n. Leads inner n (path_of inner i leaf) (Leaf i)) one own.2) front)
+        no_child lead.0 asked done at node node.call answer (path_of inner i leaf) (Leaf i) lead.2 s e none (subst (λ n. Leads inner n (path_of inner i leaf) (Leaf i)) one own.2) prefix)
 
     pub missed_at : (key : K) (asked done : List (C × R)) (at : ℕ) (node : InnerNode C R) (answer : R) → LeadsFrom inner eqk starts key done (Inner at) → slab.get inner at ≡ Some node → IsSamePath eq same asked done → lookup (same answer) node.children ≡ None → IsAsked eq same {T = T} (under eqk (contents inner leaves) key) (asked ++ (node.call, answer) ∷ []) None
     missed_at key asked done at node answer lead e s none = (
-      All-under eqk (contents inner leaves) key (λ x. ¬ IsFront eq same (asked ++ (node.call, answer) ∷ []) x.path) (not_front key asked done at node answer lead e s none),
-      inr (record { front = asked; last = (node.call, answer); splits = refl; next = refused_at key asked done at node lead e s }),
+      All-under eqk (contents inner leaves) key (λ x. ¬ IsPrefix eq same (asked ++ (node.call, answer) ∷ []) x.path) (not_prefix key asked done at node answer lead e s none),
+      inr (record { prefix = asked; last = (node.call, answer); splits = refl; next = refused_at key asked done at node lead e s }),
     )
 
     pub stepped_to : (key : K) (asked done : List (C × R)) (at : ℕ) (node : InnerNode C R) (answer : R) (next : Node) → LeadsFrom inner eqk starts key done (Inner at) → slab.get inner at ≡ Some node → IsSamePath eq same asked done → lookup (same answer) node.children ≡ Some next → (done' : List (C × R)) × IsSamePath eq same (asked ++ (node.call, answer) ∷ []) done' × LeadsFrom inner eqk starts key done' next

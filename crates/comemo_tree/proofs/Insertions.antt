@@ -106,28 +106,28 @@ module _ {C R : Type 0} {eq : C → C → Bool} {same : R → R → Bool} (calls
       none = forks.none;
       done = forks.done;
       lead = lead-own;
-      distinct = distinct_moved calls same forks.asked forks.done ((forks.node.call, answer) ∷ left) forks.same_front (rw append_assoc at forks.distinct);
+      distinct = distinct_moved calls same forks.asked forks.done ((forks.node.call, answer) ∷ left) forks.same_prefix (rw append_assoc at forks.distinct);
     }
 
-    -- the front as it is stored
-    abbrev front : List (C × R)
-    front = forks.done ++ (forks.node.call, answer) ∷ []
+    -- the prefix as it is stored
+    abbrev prefix : List (C × R)
+    prefix = forks.done ++ (forks.node.call, answer) ∷ []
 
-    same_fronts : IsSamePath eq same (forks.asked ++ (forks.node.call, answer) ∷ []) front
-    same_fronts = IsSamePath-push calls answers forks.asked forks.done (forks.node.call, answer) (forks.node.call, answer) forks.same_front (calls.refl forks.node.call) (answers.refl answer)
+    same_prefixes : IsSamePath eq same (forks.asked ++ (forks.node.call, answer) ∷ []) prefix
+    same_prefixes = IsSamePath-push calls answers forks.asked forks.done (forks.node.call, answer) (forks.node.call, answer) forks.same_prefix (calls.refl forks.node.call) (answers.refl answer)
 
-    stem-stored : IsStem eq same (under eqk (contents inner leaves) key) s front
+    stem-stored : IsStem eq same (under eqk (contents inner leaves) key) s prefix
     stem-stored = elim forks.stem [
       | inl h ↦ absurd (omega (arith, ap length h.1, length-append forks.asked ((forks.node.call, answer) ∷ [])))
       | inr h ↦ inr (
-        AllAmong-same calls answers s (forks.asked ++ (forks.node.call, answer) ∷ []) front same_fronts h.0,
+        AllAmong-same calls answers s (forks.asked ++ (forks.node.call, answer) ∷ []) prefix same_prefixes h.0,
         record {
-          front = forks.done;
+          prefix = forks.done;
           last = (forks.node.call, answer);
           splits = refl;
           next = refused_at calls answers keys forest key forks.done forks.done at forks.node forks.lead forks.is (IsSamePath-itself calls answers forks.done);
         },
-        λ other among asked. omega (arith, h.2 other among asked, same_length eq same (forks.asked ++ (forks.node.call, answer) ∷ []) front same_fronts),
+        λ other among asked. omega (arith, h.2 other among asked, same_length eq same (forks.asked ++ (forks.node.call, answer) ∷ []) prefix same_prefixes),
       )
     ]
 
@@ -136,6 +136,6 @@ module _ {C R : Type 0} {eq : C → C → Bool} {same : R → R → Bool} (calls
       own = own;
       is_key = equal;
       path = forks.done ++ (forks.node.call, answer) ∷ left;
-      is_new = (front, stem-stored, sym (append_assoc forks.done ((forks.node.call, answer) ∷ []) left) ∙ ap (λ xs. front ++ xs) (forks.rest ∙ outside-same calls same (forks.asked ++ (forks.node.call, answer) ∷ []) front s same_fronts));
+      is_new = (prefix, stem-stored, sym (append_assoc forks.done ((forks.node.call, answer) ∷ []) left) ∙ ap (λ xs. prefix ++ xs) (forks.rest ∙ outside-same calls same (forks.asked ++ (forks.node.call, answer) ∷ []) prefix s same_prefixes));
       entries = grown.entries;
     }

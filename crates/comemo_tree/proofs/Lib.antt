@@ -10,7 +10,7 @@ pub mod Walks
 pub mod Reached
 pub mod Changed
 pub mod Counts
-pub mod Fronts
+pub mod Prefixes
 pub mod Shaped
 pub mod Added
 pub mod Same

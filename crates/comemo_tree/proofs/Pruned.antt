@@ -60,16 +60,16 @@ module _ {C R : Type 0} (inner : slab.Slab (InnerNode C R)) where
     pub at : ℕ
     pub node : InnerNode C R
     pub answer : R
-    pub front : List (C × R)
-    pub leads : Leads inner from front (Inner at)
+    pub prefix : List (C × R)
+    pub leads : Leads inner from prefix (Inner at)
     pub is : slab.get inner at ≡ Some node
     pub points : Points node.children answer to
 
   pub last_step : (from to : Node) (ps : List (C × R)) → Leads inner from ps to → (from ≡ to) ⊎ Last from to
   last_step from to [] h = inl h
   last_step from to (p ∷ ps) h = elim (last_step h.2 to ps h.7) [
-    | inl e ↦ inr (record { at = h.0; node = h.1; answer = p.1; front = []; leads = h.3; is = h.4; points = subst (λ n. Points h.1.children p.1 n) e h.6 })
-    | inr l ↦ inr (record { at = l.at; node = l.node; answer = l.answer; front = p ∷ l.front; leads = (h.0, h.1, h.2, h.3, h.4, h.5, h.6, l.leads); is = l.is; points = l.points })
+    | inl e ↦ inr (record { at = h.0; node = h.1; answer = p.1; prefix = []; leads = h.3; is = h.4; points = subst (λ n. Points h.1.children p.1 n) e h.6 })
+    | inr l ↦ inr (record { at = l.at; node = l.node; answer = l.answer; prefix = p ∷ l.prefix; leads = (h.0, h.1, h.2, h.3, h.4, h.5, h.6, l.leads); is = l.is; points = l.points })
   ]
 
 at_parent : {K C R T : Type 0} (inner : slab.Slab (InnerNode C R)) (leaves : slab.Slab (LeafNode K T)) (node : Node) (p q : Option ℕ) (d e : ℕ) → IsAt inner leaves node p d → IsAt inner leaves node q e → (p ≡ q) × (d ≡ e)
@@ -95,7 +95,7 @@ module _ {C R : Type 0} {eq : C → C → Bool} {same : R → R → Bool} {K T S
         cc)
     | inr l ↦ (let two = (at_parent inner before next (Some l.at) (Some at) (suc l.node.depth) depth (forest.child l.at l.node l.answer next l.is l.points).0 h).0 in
         let one : l.at ≡ at = cc in (
-          (r.0, l.front, (r.2.0, r.2.1, subst (λ x. Leads inner r.2.0 l.front (Inner x)) one l.leads)),
+          (r.0, l.prefix, (r.2.0, r.2.1, subst (λ x. Leads inner r.2.0 l.prefix (Inner x)) one l.leads)),
           (l.node, l.answer, ap (slab.get inner) (sym one) ∙ l.is, l.points),
         ))
   ]

@@ -8,7 +8,7 @@ use Rattle.std.specs.Map.{lookup}
 use Rattle.std.specs.HashMap.{HashMap}
 use Rattle.slab.specs.Slab as slab
 use Rattle.comemo_base.specs.Lookup.{under}
-use Rattle.comemo_base.specs.Tree.{Stored, IsFront}
+use Rattle.comemo_base.specs.Tree.{Stored, IsPrefix}
 use Rattle.comemo_base.proofs.Paths.{turned, joined}
 use Rattle.comemo_base.proofs.Under.{All-under}
 use Rattle.comemo_tree.specs.Change.{HasAnswers}
@@ -88,7 +88,7 @@ module _ {K C R T S : Type 0} {eq : C → C → Bool} {same : R → R → Bool} 
   -- none is under a key without a first node
   pub none_without_start : (key : K) (given : List R) → first_of eqk starts key ≡ None → All (λ (e : Stored K C R T). ¬ HasAnswers same e.path given) (under eqk (contents inner leaves) key)
   none_without_start key given none =
-      All-weaker (λ (e : Stored K C R T). ¬ IsFront eq same [] e.path) (λ e. ¬ HasAnswers same e.path given) (λ e other a. other tt) (under eqk (contents inner leaves) key) (no_start calls answers keys forest key none).0
+      All-weaker (λ (e : Stored K C R T). ¬ IsPrefix eq same [] e.path) (λ e. ¬ HasAnswers same e.path given) (λ e other a. other tt) (under eqk (contents inner leaves) key) (no_start calls answers keys forest key none).0
 
   -- the child for an answer is led to by one more pair
   pub next_reached : (key : K) (done : List (C × R)) (at : ℕ) (node : InnerNode C R) (given : List R) (answer : R) (next : Node) → LeadsFrom inner eqk starts key done (Inner at) → slab.get inner at ≡ Some node → HasAnswers same done given → lookup (same answer) node.children ≡ Some next → (path : List (C × R)) × LeadsFrom inner eqk starts key path next × HasAnswers same path (given ++ answer ∷ [])

@@ -15,10 +15,10 @@ use Rattle.std.proofs.lemmas.List.Elements.{All-from_recursion}
 use Rattle.std.specs.Map.{keys_of}
 use Rattle.std.specs.HashMap.{HashMap, get, IsUnique}
 use Rattle.slab.specs.Slab as slab
-use Rattle.comemo_base.specs.Tree.{Stored, IsFront, IsSamePath}
+use Rattle.comemo_base.specs.Tree.{Stored, IsPrefix, IsSamePath}
 use Rattle.comemo_base.proofs.Paths.{turned, joined}
 use Rattle.comemo_base.proofs.Under.{Any-filter, Any-weaker, All-filtered}
-use Rattle.comemo_tree.specs.Shape.{Counts, IsSameUnder, IsFrontUnder, IsShape, IsStoredKey}
+use Rattle.comemo_tree.specs.Shape.{Counts, IsSameUnder, IsPrefixUnder, IsShape, IsStoredKey}
 use Rattle.comemo_tree.specs.Nodes.{contents, first_of, IsForest}
 use Rattle.comemo_tree.specs.declared.children.Node.{Node}
 use Rattle.comemo_tree.specs.declared.children.Node.TheVariants.{Inner, Leaf}
@@ -28,7 +28,7 @@ use Rattle.comemo_tree.specs.declared.tree.Start.{Start}
 use Rattle.comemo_tree.proofs.Counts.{one_count, no_more, AllPairs-map, Any-map}
 use Rattle.comemo_tree.proofs.Empty.{length-contents}
 use Rattle.comemo_tree.proofs.Forest.{any_entry, leaf_at, leaf_below}
-use Rattle.comemo_tree.proofs.Fronts.{leaf_of_any, count_inner, count_all}
+use Rattle.comemo_tree.proofs.Prefixes.{leaf_of_any, count_inner, count_all}
 
 -- whether there is a pair
 abbrev has_pair : {P : Type 0} → List P → Bool
@@ -109,36 +109,36 @@ module _ {K C R T S : Type 0} {eq : C → C → Bool} {same : R → R → Bool} 
       Any-map (λ (x : Stored K C R T). x.key) (λ z. IsTrue (eqk k z)) (contents inner leaves) (Any-weaker (λ (x : Stored K C R T). IsTrue (eqk x.key k)) (λ x. IsTrue (eqk k x.key)) (λ x e. turned keys x.key k e) (contents inner leaves) (a.only i d l))) in
       omega (arith, le, a.many, length-map (contents inner leaves) (λ (x : Stored K C R T). x.key), length-contents inner leaves)
 
-  abbrev Front : Type 0
-  Front = K × List (C × R)
+  abbrev Prefix : Type 0
+  Prefix = K × List (C × R)
 
-  -- the fronts with a pair
-  edges_of : (n : ℕ) (a : Counts (IsFrontUnder eq same eqk (contents inner leaves)) (IsSameUnder eq same eqk) n) → Counts (λ f. IsFrontUnder eq same eqk (contents inner leaves) f × (f.1 ≢ [])) (IsSameUnder eq same eqk) (length (filter (λ (f : Front). has_pair f.1) a.things))
+  -- the prefixes with a pair
+  edges_of : (n : ℕ) (a : Counts (IsPrefixUnder eq same eqk (contents inner leaves)) (IsSameUnder eq same eqk) n) → Counts (λ f. IsPrefixUnder eq same eqk (contents inner leaves) f × (f.1 ≢ [])) (IsSameUnder eq same eqk) (length (filter (λ (f : Prefix). has_pair f.1) a.things))
   edges_of n a = record {
-    things = filter (λ (f : Front). has_pair f.1) a.things;
+    things = filter (λ (f : Prefix). has_pair f.1) a.things;
     apart = AllPairs-filter (λ f g. ¬ IsSameUnder eq same eqk f g) (λ f. has_pair f.1) a.things a.apart;
-    only = All-filtered (λ (f : Front). has_pair f.1) (λ f. IsFrontUnder eq same eqk (contents inner leaves) f × (f.1 ≢ [])) a.things (λ i d l t. (a.only i d l, something (get_or a.things i d).1 t));
-    each = λ f p. Any-filter (λ (g : Front). has_pair g.1) (IsSameUnder eq same eqk f) a.things (Any-weaker (IsSameUnder eq same eqk f) (λ g. IsTrue (has_pair g.1) × IsSameUnder eq same eqk f g) (λ g s. (both_have eq same f.1 g.1 s.1 p.1, s)) a.things (a.each f p.0));
+    only = All-filtered (λ (f : Prefix). has_pair f.1) (λ f. IsPrefixUnder eq same eqk (contents inner leaves) f × (f.1 ≢ [])) a.things (λ i d l t. (a.only i d l, something (get_or a.things i d).1 t));
+    each = λ f p. Any-filter (λ (g : Prefix). has_pair g.1) (IsSameUnder eq same eqk f) a.things (Any-weaker (IsSameUnder eq same eqk f) (λ g. IsTrue (has_pair g.1) × IsSameUnder eq same eqk f g) (λ g s. (both_have eq same f.1 g.1 s.1 p.1, s)) a.things (a.each f p.0));
     many = refl;
   }
 
   -- those without are as many as the keys
-  keys_from : (n : ℕ) (a : Counts (IsFrontUnder eq same eqk (contents inner leaves)) (IsSameUnder eq same eqk) n) → Counts (IsStoredKey eq same eqk (contents inner leaves)) (λ k l. IsTrue (eqk k l)) (length (filter (λ (f : Front). not (has_pair f.1)) a.things))
+  keys_from : (n : ℕ) (a : Counts (IsPrefixUnder eq same eqk (contents inner leaves)) (IsSameUnder eq same eqk) n) → Counts (IsStoredKey eq same eqk (contents inner leaves)) (λ k l. IsTrue (eqk k l)) (length (filter (λ (f : Prefix). not (has_pair f.1)) a.things))
   keys_from n a =
-      let lacks : Front → Bool = λ f. not (has_pair f.1) in
-      let empty : All (λ (f : Front). f.1 ≡ []) (filter lacks a.things) = All-filtered lacks (λ f. f.1 ≡ []) a.things (λ i d l t. nothing (get_or a.things i d).1 t) in
+      let lacks : Prefix → Bool = λ f. not (has_pair f.1) in
+      let empty : All (λ (f : Prefix). f.1 ≡ []) (filter lacks a.things) = All-filtered lacks (λ f. f.1 ≡ []) a.things (λ i d l t. nothing (get_or a.things i d).1 t) in
       let apart = AllPairs-filter (λ f g. ¬ IsSameUnder eq same eqk f g) lacks a.things a.apart in
       record {
-        things = map (λ (f : Front). f.0) (filter lacks a.things);
-        apart = AllPairs-map (λ (f : Front). f.0) (λ k l. ¬ IsTrue (eqk k l)) (filter lacks a.things) (λ i j d l m s. apart i j d l m (s, alike (get_or (filter lacks a.things) i d).1 (get_or (filter lacks a.things) j d).1 (empty i d (omega (arith, l, m))) (empty j d m)));
-        only = All-map (IsStoredKey eq same eqk (contents inner leaves)) (λ (f : Front). f.0) (filter lacks a.things) (All-filtered lacks (λ f. IsStoredKey eq same eqk (contents inner leaves) f.0) a.things (λ i d l t.
+        things = map (λ (f : Prefix). f.0) (filter lacks a.things);
+        apart = AllPairs-map (λ (f : Prefix). f.0) (λ k l. ¬ IsTrue (eqk k l)) (filter lacks a.things) (λ i j d l m s. apart i j d l m (s, alike (get_or (filter lacks a.things) i d).1 (get_or (filter lacks a.things) j d).1 (empty i d (omega (arith, l, m))) (empty j d m)));
+        only = All-map (IsStoredKey eq same eqk (contents inner leaves)) (λ (f : Prefix). f.0) (filter lacks a.things) (All-filtered lacks (λ f. IsStoredKey eq same eqk (contents inner leaves) f.0) a.things (λ i d l t.
             let f = get_or a.things i d in
-            Any-weaker (λ (x : Stored K C R T). IsTrue (eqk x.key f.0) × IsFront eq same f.1 x.path) (λ x. IsTrue (eqk x.key f.0)) (λ x p. p.0) (contents inner leaves) (a.only i d l)));
+            Any-weaker (λ (x : Stored K C R T). IsTrue (eqk x.key f.0) × IsPrefix eq same f.1 x.path) (λ x. IsTrue (eqk x.key f.0)) (λ x p. p.0) (contents inner leaves) (a.only i d l)));
         each = λ k p.
-            let f : Front = (k, []) in
-            let under = Any-weaker (λ (x : Stored K C R T). IsTrue (eqk x.key k)) (λ x. IsTrue (eqk x.key k) × IsFront eq same [] x.path) (λ x e. (e, tt)) (contents inner leaves) p in
-            Any-map (λ (g : Front). g.0) (λ l. IsTrue (eqk k l)) (filter lacks a.things) (Any-filter lacks (λ g. IsTrue (eqk k g.0)) a.things (Any-weaker (IsSameUnder eq same eqk f) (λ g. IsTrue (lacks g) × IsTrue (eqk k g.0)) (λ g s. (both_lack eq same g.1 s.1, s.0)) a.things (a.each f under)));
-        many = length-map (filter lacks a.things) (λ (f : Front). f.0);
+            let f : Prefix = (k, []) in
+            let under = Any-weaker (λ (x : Stored K C R T). IsTrue (eqk x.key k)) (λ x. IsTrue (eqk x.key k) × IsPrefix eq same [] x.path) (λ x e. (e, tt)) (contents inner leaves) p in
+            Any-map (λ (g : Prefix). g.0) (λ l. IsTrue (eqk k l)) (filter lacks a.things) (Any-filter lacks (λ g. IsTrue (eqk k g.0)) a.things (Any-weaker (IsSameUnder eq same eqk f) (λ g. IsTrue (lacks g) × IsTrue (eqk k g.0)) (λ g s. (both_lack eq same g.1 s.1, s.0)) a.things (a.each f under)));
+        many = length-map (filter lacks a.things) (λ (f : Prefix). f.0);
       }
     where
       alike : (ps qs : List (C × R)) → ps ≡ [] → qs ≡ [] → IsSamePath eq same ps qs
@@ -149,13 +149,13 @@ module _ {K C R T S : Type 0} {eq : C → C → Bool} {same : R → R → Bool} 
       let a = count_all calls answers keys forest in
       let n = slab.slab_len inner + slab.slab_len leaves in
       let k = one_count (λ k l. IsTrue (eqk k l)) (turned keys) (joined keys) (IsStoredKey eq same eqk (contents inner leaves)) _ _ count_starts (keys_from n a) in
-      let both = length-filter_both (λ (f : Front). has_pair f.1) (λ f. not (has_pair f.1)) (λ f. refl) a.things in
+      let both = length-filter_both (λ (f : Prefix). has_pair f.1) (λ f. not (has_pair f.1)) (λ f. refl) a.things in
       let fewer = starts_le in
-      let number : length (filter (λ (f : Front). has_pair f.1) a.things) ≡ slab.slab_len inner + (slab.slab_len leaves - length starts.entries) = omega (arith, k, both, a.many, fewer) in
+      let number : length (filter (λ (f : Prefix). has_pair f.1) a.things) ≡ slab.slab_len inner + (slab.slab_len leaves - length starts.entries) = omega (arith, k, both, a.many, fewer) in
       record {
         inner = count_inner calls answers keys forest;
         leaves = length-contents inner leaves;
-        edge_count = length (filter (λ (f : Front). has_pair f.1) a.things);
+        edge_count = length (filter (λ (f : Prefix). has_pair f.1) a.things);
         edges = edges_of n a;
         edges_fit = e ∙ ap (λ m. min m (2 ^ 64 - 1)) (sym number);
         starts = count_starts;

@@ -9,7 +9,7 @@ use Rattle.slab.specs.Slab as slab
 use Rattle.comemo_base.specs.Sequence.{HasDistinctCalls}
 use Rattle.comemo_base.specs.Lookup.{under}
 use Rattle.comemo_base.specs.Insertion.{AllAmong, outside, Exists, Misses}
-use Rattle.comemo_base.specs.Tree.{Stored, IsSamePath, IsFront, IsTree}
+use Rattle.comemo_base.specs.Tree.{Stored, IsSamePath, IsPrefix, IsTree}
 use Rattle.comemo_base.specs.Steps.{Follows}
 use Rattle.comemo_base.proofs.Paths.{turned, joined, Fit, Fit-from_tree, get_or_same, IsSamePath-more}
 use Rattle.comemo_base.proofs.Under.{Any-under}
@@ -19,7 +19,7 @@ use Rattle.comemo_tree.specs.declared.children.Node.TheVariants.{Inner, Leaf}
 use Rattle.comemo_tree.specs.declared.tree.InnerNode.{InnerNode}
 use Rattle.comemo_tree.specs.declared.tree.LeafNode.{LeafNode}
 use Rattle.comemo_tree.specs.declared.tree.Start.{Start}
-use Rattle.comemo_tree.proofs.Forest.{leaf_at, leaf_below, any_entry, not_front, IsTree-from_forest}
+use Rattle.comemo_tree.proofs.Forest.{leaf_at, leaf_below, any_entry, not_prefix, IsTree-from_forest}
 
 pub same_length : {C R : Type 0} (eq : C → C → Bool) (same : R → R → Bool) (xs ys : List (C × R)) → IsSamePath eq same xs ys → length xs ≡ length ys
 same_length eq same [] [] h = refl
@@ -27,22 +27,22 @@ same_length eq same [] (y ∷ ys) h = absurd h
 same_length eq same (x ∷ xs) [] h = absurd h
 same_length eq same (x ∷ xs) (y ∷ ys) h = omega (arith, same_length eq same xs ys h.2)
 
-IsFront-taken : {C R : Type 0} (eq : C → C → Bool) (same : R → R → Bool) (xs qs : List (C × R)) (n : ℕ) → IsSamePath eq same xs (take n qs) → IsFront eq same xs qs
-IsFront-taken eq same [] qs n h = tt
-IsFront-taken eq same (x ∷ xs) qs zero h = absurd h
-IsFront-taken eq same (x ∷ xs) [] (suc n) h = absurd h
-IsFront-taken eq same (x ∷ xs) (q ∷ qs) (suc n) h = (h.0, h.1, IsFront-taken eq same xs qs n h.2)
+IsPrefix-taken : {C R : Type 0} (eq : C → C → Bool) (same : R → R → Bool) (xs qs : List (C × R)) (n : ℕ) → IsSamePath eq same xs (take n qs) → IsPrefix eq same xs qs
+IsPrefix-taken eq same [] qs n h = tt
+IsPrefix-taken eq same (x ∷ xs) qs zero h = absurd h
+IsPrefix-taken eq same (x ∷ xs) [] (suc n) h = absurd h
+IsPrefix-taken eq same (x ∷ xs) (q ∷ qs) (suc n) h = (h.0, h.1, IsPrefix-taken eq same xs qs n h.2)
 
 found_in : {R : Type 0} (b : Bool) (o : Option R) (answer : R) → Some answer ≡ cond b None o → o ≡ Some answer
 found_in true o answer e = cc
 found_in false o answer e = sym e
 
-module _ {C R : Type 0} {eq : C → C → Bool} {same : R → R → Bool} (calls : IsEquivalence eq) (answers : IsEquivalence same) {K T S : Type 0} {eqk : K → K → Bool} (keys : IsEquivalence eqk) {inner : slab.Slab (InnerNode C R)} {leaves : slab.Slab (LeafNode K T)} {starts : HashMap K Start S} (forest : IsForest eq same eqk None inner leaves starts) (key : K) (s asked done : List (C × R)) (same_front : IsSamePath eq same asked done) (among : AllAmong eq same s asked) where
+module _ {C R : Type 0} {eq : C → C → Bool} {same : R → R → Bool} (calls : IsEquivalence eq) (answers : IsEquivalence same) {K T S : Type 0} {eqk : K → K → Bool} (keys : IsEquivalence eqk) {inner : slab.Slab (InnerNode C R)} {leaves : slab.Slab (LeafNode K T)} {starts : HashMap K Start S} (forest : IsForest eq same eqk None inner leaves starts) (key : K) (s asked done : List (C × R)) (same_prefix : IsSamePath eq same asked done) (among : AllAmong eq same s asked) where
   -- a path of which all pairs are among the sequence's
   pub Exists-at_leaf : (at : ℕ) → LeadsFrom inner eqk starts key done (Leaf at) → Exists eq same (under eqk (contents inner leaves) key) s
   Exists-at_leaf at lead =
       let f = leaf_at calls answers keys forest key done at lead in
-      Any-under eqk (contents inner leaves) key (λ e. AllAmong eq same s e.path) (any_entry inner leaves (λ (e : Stored K C R T). IsTrue (eqk e.key key) × AllAmong eq same s e.path) at f.0 f.1 (f.2, subst (λ ps. AllAmong eq same s ps) (sym f.3) (AllAmong-same calls answers s asked done same_front among)))
+      Any-under eqk (contents inner leaves) key (λ e. AllAmong eq same s e.path) (any_entry inner leaves (λ (e : Stored K C R T). IsTrue (eqk e.key key) × AllAmong eq same s e.path) at f.0 f.1 (f.2, subst (λ ps. AllAmong eq same s ps) (sym f.3) (AllAmong-same calls answers s asked done same_prefix among)))
 
   module _ (at : ℕ) (node : InnerNode C R) (lead : LeadsFrom inner eqk starts key done (Inner at)) (is : slab.get inner at ≡ Some node) (left : List (C × R)) (k : left ≡ outside eq asked s) where
     -- an entry whose path goes on from here
@@ -65,7 +65,7 @@ module _ {C R : Type 0} {eq : C → C → Bool} {same : R → R → Bool} (calls
     own = ap (λ c. done ++ (c, goes_on.4.1.1) ∷ goes_on.4.2) goes_on.4.4 ∙ sym goes_on.4.3
 
     len : length asked ≡ length done
-    len = same_length eq same asked done same_front
+    len = same_length eq same asked done same_prefix
 
     deep : length asked < length path
     deep = omega (arith, len, length-append done (pair ∷ goes_on.4.2))
@@ -73,8 +73,8 @@ module _ {C R : Type 0} {eq : C → C → Bool} {same : R → R → Bool} (calls
     here : pair ≡ get_or path (length asked) pair
     here = sym (ap (λ n. get_or path n pair) len ∙ get_or-append_seam done pair goes_on.4.2 pair)
 
-    front : IsSamePath eq same asked (take (length asked) path)
-    front = subst (λ ps. IsSamePath eq same asked ps) (sym (ap (λ n. take n path) len ∙ take-append_seam done (pair ∷ goes_on.4.2))) same_front
+    prefix : IsSamePath eq same asked (take (length asked) path)
+    prefix = subst (λ ps. IsSamePath eq same asked ps) (sym (ap (λ n. take n path) len ∙ take-append_seam done (pair ∷ goes_on.4.2))) same_prefix
 
     tree : IsTree eq same eqk (contents inner leaves)
     tree = IsTree-from_forest calls answers keys forest
@@ -86,7 +86,7 @@ module _ {C R : Type 0} {eq : C → C → Bool} {same : R → R → Bool} (calls
     walked d = subst (λ x. Walked eq same eqk key s asked x) (sym (there d)) (record {
       under = goes_on.4.0;
       deep = omega (arith, deep, ap length own);
-      front = subst (λ ps. IsSamePath eq same asked (take (length asked) ps)) own front;
+      prefix = subst (λ ps. IsSamePath eq same asked (take (length asked) ps)) own prefix;
       among = among;
     })
 
@@ -114,7 +114,7 @@ module _ {C R : Type 0} {eq : C → C → Bool} {same : R → R → Bool} (calls
         nothing_follows : (j : ℕ) (d : Stored K C R T) → j < length (contents inner leaves) → IsTrue (eqk (get_or (contents inner leaves) j d).key key) → Follows same (get_or (contents inner leaves) j d).path path (length asked) answer → ⊥
         nothing_follows j d l u f =
             let qs = (get_or (contents inner leaves) j d).path in
-            not_front calls answers keys forest key asked done at node answer lead is same_front none j d l u (IsFront-taken eq same (asked ++ (node.call, answer) ∷ []) qs (suc (length asked)) (IsSamePath-more calls answers (length asked) asked path qs pair answer front deep here (fit j d l u) f))
+            not_prefix calls answers keys forest key asked done at node answer lead is same_prefix none j d l u (IsPrefix-taken eq same (asked ++ (node.call, answer) ∷ []) qs (suc (length asked)) (IsSamePath-more calls answers (length asked) asked path qs pair answer prefix deep here (fit j d l u) f))
 
         pub forks : (rest : List (C × R)) → rest ≡ remove_entry (eq node.call) left → HasDistinctCalls eq s → HasDistinctCalls eq (asked ++ left) → Forks eq same eqk inner leaves starts key s at answer rest
         forks rest cut d d' = record {
@@ -124,7 +124,7 @@ module _ {C R : Type 0} {eq : C → C → Bool} {same : R → R → Bool} (calls
           done = done;
           lead = lead;
           asked = asked;
-          same_front = same_front;
+          same_prefix = same_prefix;
           stem = stem calls answers keys (contents inner leaves) tree key s goes_on.0 (length asked) goes_on.1 asked path goes_on.2 (sym goes_on.3) walked own refl deep pair here left k answer node.call some (calls.refl node.call) nothing_follows;
           rest = cut ∙ left' d;
           distinct = subst (λ xs. HasDistinctCalls eq ((asked ++ (node.call, answer) ∷ []) ++ xs)) (sym cut) (distinct' d');

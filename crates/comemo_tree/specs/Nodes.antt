@@ -150,7 +150,7 @@ pub record Forks {K C R T S : Type 0} (eq : C → C → Bool) (same : R → R �
   pub done : List (C × R)
   pub lead : LeadsFrom inner eqk starts key done (Inner at)
   pub asked : List (C × R)
-  pub same_front : IsSamePath eq same asked done
+  pub same_prefix : IsSamePath eq same asked done
   pub stem : IsStem eq same (under eqk (contents inner leaves) key) s (asked ++ (node.call, answer) ∷ [])
   pub rest : left ≡ outside eq (asked ++ (node.call, answer) ∷ []) s
   pub distinct : HasDistinctCalls eq ((asked ++ (node.call, answer) ∷ []) ++ left)

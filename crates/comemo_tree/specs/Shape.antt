@@ -1,7 +1,7 @@
 -- How many prefixes the paths of a tree have.
 use Rattle.std.specs.Prelude.{◌≡◌, ◌≢◌, ◌<◌, ◌-◌, ◌^◌, ℕ, min, Bool, List, [], length, IsTrue}
 use Rattle.std.specs.List.{All, AllPairs, Any}
-use Rattle.comemo_base.specs.Tree.{Stored, IsFront, IsSamePath}
+use Rattle.comemo_base.specs.Tree.{Stored, IsPrefix, IsSamePath}
 
 -- n things have the property, counted up to sameness: some list of length n has only such things, no two of them the same, and
 -- one that is the same as each such thing
@@ -23,18 +23,18 @@ module _ {K C R : Type 0} (eq : C → C → Bool) (same : R → R → Bool) (eqk
     IsStoredKey key = Any (λ e. IsTrue (eqk e.key key)) es
 
     -- the pairs are a prefix of a path under the key
-    abbrev pub IsFrontUnder : K × List (C × R) → Type 0
-    IsFrontUnder f = Any (λ e. IsTrue (eqk e.key f.0) × IsFront eq same f.1 e.path) es
+    abbrev pub IsPrefixUnder : K × List (C × R) → Type 0
+    IsPrefixUnder f = Any (λ e. IsTrue (eqk e.key f.0) × IsPrefix eq same f.1 e.path) es
 
     -- a proper prefix: the path has more pairs
-    abbrev pub IsProperFrontUnder : K × List (C × R) → Type 0
-    IsProperFrontUnder f = Any (λ e. IsTrue (eqk e.key f.0) × IsFront eq same f.1 e.path × (length f.1 < length e.path)) es
+    abbrev pub IsProperPrefixUnder : K × List (C × R) → Type 0
+    IsProperPrefixUnder f = Any (λ e. IsTrue (eqk e.key f.0) × IsPrefix eq same f.1 e.path × (length f.1 < length e.path)) es
 
     -- the numbers of proper prefixes, of paths, of nonempty prefixes and of keys; the third is at most the greatest `usize`
     pub record IsShape (shape : ℕ × ℕ × ℕ × ℕ) : Type 0 where
-      pub inner : Counts IsProperFrontUnder IsSameUnder shape.0
+      pub inner : Counts IsProperPrefixUnder IsSameUnder shape.0
       pub leaves : length es ≡ shape.1
       pub edge_count : ℕ
-      pub edges : Counts (λ f. IsFrontUnder f × (f.1 ≢ [])) IsSameUnder edge_count
+      pub edges : Counts (λ f. IsPrefixUnder f × (f.1 ≢ [])) IsSameUnder edge_count
       pub edges_fit : shape.2 ≡ min edge_count (2 ^ 64 - 1)
       pub starts : Counts IsStoredKey (λ k l. IsTrue (eqk k l)) shape.3

@@ -2,9 +2,9 @@
 ghost use Rattle.std.specs.Prelude.{◌≡◌, [], List, IfOk, IfErr, OnOk, OnErr, IsOk, option_copied};
 ghost use Rattle.std.specs.List.{All};
 ghost use Rattle.std.specs.Fn.{AlwaysReturns};
-ghost use Rattle.comemo_base.specs.Answers.{Respects, Agrees};
+ghost use Rattle.comemo_base.specs.Answers.{Agrees};
 ghost use Rattle.comemo_base.specs.Insertion.{Adds};
-ghost use Rattle.comemo_base.specs.Lookup.{under, AnswersAs, CanBeAsked, LooksUp, IsLookupRefused, FindsAgreeing};
+ghost use Rattle.comemo_base.specs.Lookup.{under, CanBeAsked, LooksUp, IsLookupRefused, FindsAgreeing, ForAnswers};
 ghost use Rattle.comemo_tree.specs.Retain.{Retains, ReturnsAtMut};
 ghost use Rattle.comemo_tree.specs.Shape.{IsShape};
 ghost use Rattle.comemo_base.specs.Runs.{AsksLaws, IsRun, IsSettled, IsRunReason};
@@ -97,21 +97,17 @@ impl<A: Asks, T> Settled<A, T> {
             IsLookupRefused O.FnMut A.Call.eq A.Answer.eq (under A.Key.eq self.now key.now)
             oracle.old e oracle.new) }
         ensures answered { AlwaysReturns O.FnMut (λ a r. IsOk r) oracle.old → IsOk result }
-        ensures agreeing { (m : A.Call → A.Answer)
-            → Respects A.Call.eq A.Answer.eq m
-            → AnswersAs O.FnMut A.Answer.eq m oracle.old
-            → IfOk result (λ found.
+        ensures agreeing { ForAnswers O.FnMut A.Call.eq A.Answer.eq oracle.old (λ m.
+            IfOk result (λ found.
             FindsAgreeing A.Call.eq A.Answer.eq (under A.Key.eq self.now key.now) m
-            (option_copied found)) }
-        ensures found { (m : A.Call → A.Answer)
-            → Respects A.Call.eq A.Answer.eq m
-            → AnswersAs O.FnMut A.Answer.eq m oracle.old
-            → (pairs : List (A.Call × A.Answer))
+            (option_copied found))) }
+        ensures found { ForAnswers O.FnMut A.Call.eq A.Answer.eq oracle.old (λ m.
+            (pairs : List (A.Call × A.Answer))
             → HasSet A.Call.eq A.Answer.eq (under A.Key.eq self.now key.now) pairs
             → Agrees A.Answer.eq m pairs
             → IfOk result (λ found.
             FindsSet A.Call.eq A.Answer.eq (under A.Key.eq self.now key.now) pairs
-            (option_copied found)) }
+            (option_copied found))) }
     {
         // For the proof: at most one stored path agrees.
         self.tree.reveal_tree();

@@ -9,9 +9,8 @@ ghost use Rattle.std.specs.Map.{lookup};
 ghost use Rattle.std.specs.HashMap as map;
 ghost use Rattle.std.specs.Fn.{AlwaysReturns};
 ghost use Rattle.slab.specs.Slab.{get, slab_len, HasRoomFor, ContainsKey};
-ghost use Rattle.comemo_base.specs.Answers.{Respects};
 ghost use Rattle.comemo_base.specs.Tree.{IsTree};
-ghost use Rattle.comemo_base.specs.Lookup.{under, AnswersAs, CanBeAsked, LooksUp, LooksUpPath, IsLookupRefused, FindsAgreeing, FindsAgreeingPath};
+ghost use Rattle.comemo_base.specs.Lookup.{under, CanBeAsked, LooksUp, LooksUpPath, FindsSome, IsLookupRefused, IsPathRefused, FindsAgreeing, FindsAgreeingPath, ForAnswers};
 ghost use Rattle.comemo_base.specs.Insertion.{Exists, Misses, IsReason, Adds};
 ghost use Rattle.comemo_tree.specs.Retain.{Retains, ReturnsAtMut};
 ghost use Rattle.comemo_tree.specs.Change.{Changes, HasAnswers, LeavesAt};
@@ -168,17 +167,13 @@ impl<K: Eq + Hash, C: Eq + Hash, R: Ord, T> CallTree<K, C, R, T> {
         ensures asked { IfOk result (λ found.
             LooksUp O.FnMut C.eq R.eq (under K.eq self.now key.now)
             oracle.old oracle.new (option_copied found)) }
-        ensures refused { IfErr result (λ e.
-            IsLookupRefused O.FnMut C.eq R.eq (under K.eq self.now key.now)
-            oracle.old e oracle.new) }
+        ensures refused { IfErr result (λ e. IsLookupRefused O.FnMut C.eq R.eq
+            (under K.eq self.now key.now) oracle.old e oracle.new) }
         ensures answered { AlwaysReturns O.FnMut (λ a r. IsOk r) oracle.old → IsOk result }
 
         // For a caller that only knows which answers its oracle has.
-        ensures agreeing { (m : C → R)
-            → Respects C.eq R.eq m
-            → AnswersAs O.FnMut R.eq m oracle.old
-            → IfOk result (λ found.
-            FindsAgreeing C.eq R.eq (under K.eq self.now key.now) m (option_copied found)) }
+        ensures agreeing { ForAnswers O.FnMut C.eq R.eq oracle.old (λ m. IfOk result (λ found.
+            FindsAgreeing C.eq R.eq (under K.eq self.now key.now) m (option_copied found))) }
     {
         let Some(start) = self.starts.get(key) else {
             return Ok(None);
@@ -214,23 +209,15 @@ impl<K: Eq + Hash, C: Eq + Hash, R: Ord, T> CallTree<K, C, R, T> {
         ensures asked { IfOk result (λ found.
             LooksUpPath O.FnMut C.eq R.eq (under K.eq self.now key.now)
             oracle.old oracle.new (option_map (λ p. (p.0.items, p.1.now)) found)) }
-        ensures refused { IfErr result (λ e.
-            IsLookupRefused O.FnMut C.eq R.eq (under K.eq self.now key.now)
-            oracle.old e oracle.new
-            ⊎ ((value : T) × LooksUp O.FnMut C.eq R.eq (under K.eq self.now key.now)
-            oracle.old oracle.new (Some value))) }
-        ensures answered { AlwaysReturns O.FnMut (λ a r. IsOk r) oracle.old
-            → OnErr result ((value : T)
-            × LooksUp O.FnMut C.eq R.eq (under K.eq self.now key.now)
-            oracle.old oracle.new (Some value)) }
+        ensures refused { IfErr result (λ e. IsPathRefused O.FnMut C.eq R.eq
+            (under K.eq self.now key.now) oracle.old e oracle.new) }
+        ensures answered { AlwaysReturns O.FnMut (λ a r. IsOk r) oracle.old → OnErr result
+            (FindsSome O.FnMut C.eq R.eq (under K.eq self.now key.now) oracle.old oracle.new) }
 
         // For a caller that only knows which answers its oracle has.
-        ensures agreeing { (m : C → R)
-            → Respects C.eq R.eq m
-            → AnswersAs O.FnMut R.eq m oracle.old
-            → IfOk result (λ found.
+        ensures agreeing { ForAnswers O.FnMut C.eq R.eq oracle.old (λ m. IfOk result (λ found.
             FindsAgreeingPath C.eq R.eq (under K.eq self.now key.now) m
-            (option_map (λ p. (p.0.items, p.1.now)) found)) }
+            (option_map (λ p. (p.0.items, p.1.now)) found))) }
     {
         let Some(start) = self.starts.get(key) else {
             return Ok(None);

@@ -8,9 +8,9 @@ use Rattle.comemo_base.proofs.Pairs.{held-push, or_turned}
 use Rattle.comemo_base.specs.Runs.{IsAskedInTurn, IsRun}
 use Rattle.comemo_tree_tests.specs.CountedCalls.{AsksCounted, IsDraft, bound_of}
 
-Agrees-front : (m : ℕ → ℕ) (ps qs : List (ℕ × ℕ)) → Agrees nat_eq m (ps ++ qs) → Agrees nat_eq m ps
-Agrees-front m [] qs h = tt
-Agrees-front m (p ∷ ps) qs h = (h.0, Agrees-front m ps qs h.1)
+Agrees-prefix : (m : ℕ → ℕ) (ps qs : List (ℕ × ℕ)) → Agrees nat_eq m (ps ++ qs) → Agrees nat_eq m ps
+Agrees-prefix m [] qs h = tt
+Agrees-prefix m (p ∷ ps) qs h = (h.0, Agrees-prefix m ps qs h.1)
 
 Agrees-last : (m : ℕ → ℕ) (ps : List (ℕ × ℕ)) (q : ℕ × ℕ) → Agrees nat_eq m (ps ++ q ∷ []) → m q.0 ≡ q.1
 Agrees-last m [] q h = eqb-true (m q.0) q.1 h.0
@@ -48,7 +48,7 @@ module _ (key call answer : ℕ) (s t : Sequence ℕ ℕ) (draft : IsDraft key s
 
   pub ask-agrees : (m : ℕ → ℕ) → Agrees nat_eq m t.pairs → Agrees nat_eq m s.pairs
   ask-agrees m g = elim either [
-    | inl n ↦ Agrees-front m s.pairs ((call, answer) ∷ []) (subst (λ ps. Agrees nat_eq m ps) n.0 g)
+    | inl n ↦ Agrees-prefix m s.pairs ((call, answer) ∷ []) (subst (λ ps. Agrees nat_eq m ps) n.0 g)
     | inr o ↦ subst (λ (x : Sequence ℕ ℕ). Agrees nat_eq m x.pairs) o.0 g
   ]
 

@@ -1,1 +1,3 @@
 pub mod CountedCalls
+pub mod Refusals
+pub mod Laws

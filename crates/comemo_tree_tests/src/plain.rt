@@ -45,21 +45,21 @@ pub fn answer_in(pairs: u32, call: u32) -> Option<u32> {
 
 /// A prefix of a list, and the place of the digit after it.
 #[derive(Clone, Copy, Drop)]
-pub struct Front {
+pub struct Prefix {
     pub pairs: u32,
     place: u32,
 }
 
-impl Front {
+impl Prefix {
     /// The empty prefix.
-    pub fn new() -> Front {
-        Front { pairs: 0, place: 1 }
+    pub fn new() -> Prefix {
+        Prefix { pairs: 0, place: 1 }
     }
 
     /// This prefix and one more pair.
-    pub fn with(self, call: u32, answer: u32) -> Front {
+    pub fn with(self, call: u32, answer: u32) -> Prefix {
         let digit = digit_of(call, answer).wrapping_mul(self.place);
-        Front {
+        Prefix {
             pairs: self.pairs.wrapping_add(digit),
             place: self.place.wrapping_mul(BASE),
         }
@@ -76,13 +76,13 @@ pub struct Entry {
 
 impl Entry {
     /// Whether its path begins with a prefix.
-    fn begins(self, key: u32, front: Front) -> bool {
-        self.key == key && self.path % front.place.max(1) == front.pairs
+    fn begins(self, key: u32, prefix: Prefix) -> bool {
+        self.key == key && self.path % prefix.place.max(1) == prefix.pairs
     }
 
     /// The pair of its path after a prefix.
-    fn after(self, front: Front) -> Option<(u32, u32)> {
-        first_of(self.path / front.place.max(1))
+    fn after(self, prefix: Prefix) -> Option<(u32, u32)> {
+        first_of(self.path / prefix.place.max(1))
     }
 }
 
@@ -110,9 +110,9 @@ impl Plain {
     }
 
     /// The first entry under a key whose path begins with a prefix.
-    fn first_from(&self, key: u32, front: Front) -> Option<Entry> {
+    fn first_from(&self, key: u32, prefix: Prefix) -> Option<Entry> {
         for entry in &self.entries {
-            if entry.begins(key, front) {
+            if entry.begins(key, prefix) {
                 return Some(*entry);
             }
         }
@@ -121,30 +121,30 @@ impl Plain {
 
     /// The path under which these pairs are stored, for a key.
     fn path_of(&self, key: u32, pairs: u32) -> Result<u32, InsertError> {
-        let mut front = Front::new();
+        let mut prefix = Prefix::new();
         for _ in 0..=MOST {
-            let Some(entry) = self.first_from(key, front) else {
+            let Some(entry) = self.first_from(key, prefix) else {
                 break;
             };
-            let Some((call, _)) = entry.after(front) else {
+            let Some((call, _)) = entry.after(prefix) else {
                 return Err(InsertError::AlreadyExists);
             };
             let Some(answer) = answer_in(pairs, call) else {
                 return Err(InsertError::MissingCall);
             };
-            front = front.with(call, answer);
+            prefix = prefix.with(call, answer);
         }
         let mut left = pairs;
         for _ in 0..MOST {
             let Some((call, answer)) = first_of(left) else {
                 break;
             };
-            if answer_in(front.pairs, call).is_none() {
-                front = front.with(call, answer);
+            if answer_in(prefix.pairs, call).is_none() {
+                prefix = prefix.with(call, answer);
             }
             left = rest_of(left);
         }
-        Ok(front.pairs)
+        Ok(prefix.pairs)
     }
 
     /// Stores a value under a key and the path of these pairs.
@@ -156,13 +156,13 @@ impl Plain {
 
     /// Looks up by answers, one for each call.
     pub fn look_up(&self, key: u32, answers: u32) -> Found {
-        let mut front = Front::new();
-        let mut asked = Front::new();
+        let mut prefix = Prefix::new();
+        let mut asked = Prefix::new();
         for _ in 0..=MOST {
-            let Some(entry) = self.first_from(key, front) else {
+            let Some(entry) = self.first_from(key, prefix) else {
                 break;
             };
-            let Some((call, _)) = entry.after(front) else {
+            let Some((call, _)) = entry.after(prefix) else {
                 let (value, path) = (Some(entry.value), entry.path);
                 return Found {
                     value,
@@ -171,7 +171,7 @@ impl Plain {
                 };
             };
             asked = asked.with(call, 0);
-            front = front.with(call, answer_in(answers, call).unwrap_or(0));
+            prefix = prefix.with(call, answer_in(answers, call).unwrap_or(0));
         }
         Found {
             value: None,

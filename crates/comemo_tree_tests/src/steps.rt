@@ -1,5 +1,5 @@
 //! Random steps, each done by the tree and by a plain list. The results must be equal.
-use crate::plain::{Entry, Found, Front, MOST, Plain, answer_in, first_of, rest_of};
+use crate::plain::{Entry, Found, MOST, Plain, Prefix, answer_in, first_of, rest_of};
 use comemo_base::{CallSequence, InsertError};
 use comemo_tree::CallTree;
 use std::alloc::Global;
@@ -24,24 +24,24 @@ impl Numbers {
 
     /// Up to five of six calls, each once, each with one of three answers.
     fn pairs(&mut self) -> u32 {
-        let mut front = Front::new();
+        let mut prefix = Prefix::new();
         for _ in 0..self.below(6) {
             let call = self.below(6);
             let answer = self.below(3);
-            if answer_in(front.pairs, call).is_none() {
-                front = front.with(call, answer);
+            if answer_in(prefix.pairs, call).is_none() {
+                prefix = prefix.with(call, answer);
             }
         }
-        front.pairs
+        prefix.pairs
     }
 
     /// An answer to each call.
     fn answers(&mut self) -> u32 {
-        let mut front = Front::new();
+        let mut prefix = Prefix::new();
         for call in 0..6 {
-            front = front.with(call, self.below(3));
+            prefix = prefix.with(call, self.below(3));
         }
-        front.pairs
+        prefix.pairs
     }
 }
 
@@ -67,7 +67,7 @@ fn insert(
 
 /// Whether a tree gets a value by answers, and asks the wanted calls.
 fn gets(tree: &Tree, key: u32, answers: u32, wanted: Found) -> bool {
-    let mut asked = Front::new();
+    let mut asked = Prefix::new();
     let found = tree.get(
         &key,
         &mut |call: &u32| {
@@ -84,16 +84,16 @@ fn gets(tree: &Tree, key: u32, answers: u32, wanted: Found) -> bool {
 
 /// The number of a path.
 fn number_of(path: &[(u32, u32)]) -> u32 {
-    let mut front = Front::new();
+    let mut prefix = Prefix::new();
     for (call, answer) in path {
-        front = front.with(*call, *answer);
+        prefix = prefix.with(*call, *answer);
     }
-    front.pairs
+    prefix.pairs
 }
 
 /// Whether a tree finds a path with its value by answers, and asks the wanted calls.
 fn finds(tree: &Tree, key: u32, answers: u32, wanted: Found) -> bool {
-    let mut asked = Front::new();
+    let mut asked = Prefix::new();
     let found = tree.find(
         &key,
         &mut |call: &u32| {
@@ -179,7 +179,7 @@ impl Both {
                 let answers = [numbers.below(3), numbers.below(3), numbers.below(3)];
                 let count = numbers.below(4) as usize;
                 match answers.as_slice().split_at_checked(count) {
-                    Some((front, _)) => self.agree_on_change(key, front, step),
+                    Some((prefix, _)) => self.agree_on_change(key, prefix, step),
                     None => false,
                 }
             }

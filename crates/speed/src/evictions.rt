@@ -1,7 +1,7 @@
 //! The workloads of evictions. Each fills a cache, and times one eviction.
 
 use crate::stopwatch::{Seen, Stopwatch};
-use crate::sums::{SumKey, SumMemo, sum};
+use crate::sums::{SumKey, SumOfCells, sum};
 use comemo::{CacheData, Fault};
 use comemo_samples::Cells;
 use std::alloc::Global;
@@ -44,7 +44,7 @@ impl Left {
 /// Calls for the sum with this number, in this layout.
 fn call(
     alloc: Global,
-    cache: &mut CacheData<SumMemo>,
+    cache: &mut CacheData<SumOfCells>,
     cells: &mut Cells,
     layout: Layout,
     number: u64,
@@ -68,7 +68,7 @@ pub fn evict<R: Clock>(
     entries: u64,
 ) -> Result<Seen, Fault> {
     let mut cells = Cells::new(alloc, CELLS)?;
-    let mut cache: CacheData<SumMemo> = CacheData::new(alloc);
+    let mut cache: CacheData<SumOfCells> = CacheData::new(alloc);
     for number in 0..entries {
         call(alloc, &mut cache, &mut cells, layout, number)?;
     }

@@ -4,7 +4,7 @@ use crate::evictions::evict;
 use crate::scripts::evaluate_many;
 use crate::sharing::{Share, take_sums};
 use crate::stopwatch::{Seen, Stopwatch};
-use crate::sums::{SumKey, SumMemo, sum};
+use crate::sums::{SumKey, SumOfCells, sum};
 use crate::texts::{text_by_kept_number, text_by_number, text_itself};
 use crate::workload::Workload;
 use comemo::{CacheData, Fault};
@@ -49,7 +49,7 @@ pub fn run<R: Clock + Threads + Wait + Sync>(
 /// Hits one cached sum.
 fn hit<R: Clock>(rt: &R, alloc: Global, count: u32, operations: u64) -> Result<Seen, Fault> {
     let cells = Cells::new(alloc, CELLS)?;
-    let mut cache: CacheData<SumMemo> = CacheData::new(alloc);
+    let mut cache: CacheData<SumOfCells> = CacheData::new(alloc);
     let key = SumKey { start: 1, count };
     sum(alloc, &mut cache, key, &cells)?;
     let watch = Stopwatch::start(rt);
@@ -63,7 +63,7 @@ fn hit<R: Clock>(rt: &R, alloc: Global, count: u32, operations: u64) -> Result<S
 /// Adds the first cells to 0, 1, 2 and so on, each under its own key, and returns the total.
 fn sums_of_keys(
     alloc: Global,
-    cache: &mut CacheData<SumMemo>,
+    cache: &mut CacheData<SumOfCells>,
     cells: &Cells,
     count: u32,
     operations: u64,
@@ -83,7 +83,7 @@ fn miss_new_keys<R: Clock>(
     operations: u64,
 ) -> Result<Seen, Fault> {
     let cells = Cells::new(alloc, CELLS)?;
-    let mut cache: CacheData<SumMemo> = CacheData::new(alloc);
+    let mut cache: CacheData<SumOfCells> = CacheData::new(alloc);
     sums_of_keys(alloc, &mut cache, &cells, count, operations)?;
     cache.evict(0);
     let watch = Stopwatch::start(rt);
@@ -94,7 +94,7 @@ fn miss_new_keys<R: Clock>(
 /// Adds ten cells to 1, the last of which holds 0, 1, 2 and so on, and returns the total.
 fn sums_of_last(
     alloc: Global,
-    cache: &mut CacheData<SumMemo>,
+    cache: &mut CacheData<SumOfCells>,
     cells: &mut Cells,
     operations: u64,
 ) -> Result<u64, Fault> {
@@ -111,7 +111,7 @@ fn sums_of_last(
 /// Misses under one key by the last of ten cells. The cache was filled and emptied before, so it has room.
 fn miss_last_differs<R: Clock>(rt: &R, alloc: Global, operations: u64) -> Result<Seen, Fault> {
     let mut cells = Cells::new(alloc, CELLS)?;
-    let mut cache: CacheData<SumMemo> = CacheData::new(alloc);
+    let mut cache: CacheData<SumOfCells> = CacheData::new(alloc);
     sums_of_last(alloc, &mut cache, &mut cells, operations)?;
     cache.evict(0);
     let watch = Stopwatch::start(rt);
@@ -132,7 +132,7 @@ fn hit_among<R: Clock>(
     operations: u64,
 ) -> Result<Seen, Fault> {
     let mut cells = Cells::new(alloc, CELLS)?;
-    let mut cache: CacheData<SumMemo> = CacheData::new(alloc);
+    let mut cache: CacheData<SumOfCells> = CacheData::new(alloc);
     let key = SumKey { start: 1, count: 1 };
     for number in 0..entries {
         cells.set(0, number);
@@ -155,7 +155,7 @@ fn hit_among_keys<R: Clock>(
     operations: u64,
 ) -> Result<Seen, Fault> {
     let cells = Cells::new(alloc, CELLS)?;
-    let mut cache: CacheData<SumMemo> = CacheData::new(alloc);
+    let mut cache: CacheData<SumOfCells> = CacheData::new(alloc);
     let count = 1;
     for start in 0..keys {
         sum(alloc, &mut cache, SumKey { start, count }, &cells)?;

@@ -1,7 +1,7 @@
 //! The workloads of threads: each thread has its own view, and its own share of one cache.
 
 use crate::stopwatch::{Seen, Stopwatch};
-use crate::sums::{SumKey, SumMemo, sum};
+use crate::sums::{SumKey, SumOfCells, sum};
 use comemo::{Cache, Fault};
 use comemo_samples::Cells;
 use std::alloc::Global;
@@ -53,7 +53,7 @@ impl Share {
 fn add_up<R: Wait>(
     rt: &R,
     alloc: Global,
-    cache: &Cache<SumMemo>,
+    cache: &Cache<SumOfCells>,
     cells: &Cells,
     share: Share,
     thread: u64,
@@ -72,7 +72,7 @@ fn add_up<R: Wait>(
 fn keep_sums<R: Wait>(
     rt: &R,
     alloc: Global,
-    cache: &Cache<SumMemo>,
+    cache: &Cache<SumOfCells>,
     cells: &Cells,
     count: u32,
 ) -> Result<(), Fault> {
@@ -86,7 +86,7 @@ fn keep_sums<R: Wait>(
 fn add_up_all<R: Threads + Wait + Sync>(
     rt: &R,
     alloc: Global,
-    cache: &Cache<SumMemo>,
+    cache: &Cache<SumOfCells>,
     cells: &Cells,
     share: Share,
     threads: u32,
@@ -113,7 +113,7 @@ pub fn take_sums<R: Clock + Threads + Wait + Sync>(
     share: Share,
 ) -> Result<Seen, Fault> {
     let cells = Cells::new(alloc, CELLS)?;
-    let cache: Cache<SumMemo> = Cache::new(alloc);
+    let cache: Cache<SumOfCells> = Cache::new(alloc);
     keep_sums(rt, alloc, &cache, &cells, share.count)?;
     if share.misses {
         add_up_all(rt, alloc, &cache, &cells, share, threads)?;

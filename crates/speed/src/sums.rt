@@ -46,12 +46,9 @@ impl Run<Cells> for SumOfCells {
     }
 }
 
-/// The function of a cache for `sum`.
-pub type SumMemo = SumOfCells;
-
 /// The sum of a number and the first cells, wrapping at 64 bits, memoized under the number and the count. Both a run
 /// and a hit ask each of these cells.
-pub fn sum<H: Hold<SumMemo>>(
+pub fn sum<H: Hold<SumOfCells>>(
     alloc: Global,
     cache: &mut H,
     key: SumKey,

@@ -11,7 +11,7 @@
 //! If memory runs out, a line prints `out of memory` instead.
 ghost use Rattle.std.specs.Prelude.{◌≡◌, ◌<◌, ℕ, List, [], codes, length, Option};
 ghost use Rattle.calc_lines.specs.Runs.{Ran};
-ghost use Rattle.calc_lines.specs.Started.{RanAs, WritesFront, usage_of};
+ghost use Rattle.calc_lines.specs.Started.{RanAs, WritesPrefix, usage_of};
 ghost use Rattle.calc_core.specs.Files.{Texts};
 ghost use Rattle.calc_core.specs.Sessions.{texts_in, Prints, Refuses};
 
@@ -65,7 +65,7 @@ pub fn start<R: BufRead, W: Write, E: Write>(
         (E.contents errors.old) (E.contents errors.new) before after result }
     ensures usage { 0 < length words.now → result ≡ 2 }
     ensures usage_written { 0 < length words.now
-        → WritesFront (E.contents errors.old) (E.contents errors.new) (usage_of (codes "calc")) }
+        → WritesPrefix (E.contents errors.old) (E.contents errors.new) (usage_of (codes "calc")) }
     ensures usage_keeps_reader { 0 < length words.now → reader.new ≡ reader.old }
     ensures usage_keeps_writer { 0 < length words.now → writer.new ≡ writer.old }
 {

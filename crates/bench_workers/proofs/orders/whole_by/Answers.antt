@@ -20,7 +20,7 @@ each Location Styles Styles differ = inl refl
 each Styles Location Location differ = inl refl
 each Styles Location Styles differ = inr (inl refl)
 
-both_asked : {E : Type 0} (touches : ContextCall → ContextCall → Bool) (m n : ContextCall → ℕ) (s t u : Recording ContextCall ℕ) (first second : ContextCall) (one other : Result ℕ E) → first ≢ second → s.pairs ≡ [] → IfOk one (λ x. Asks nat_eq m first x (Took call.ghosts.eq touches s t)) → is_ok one ≡ true → IfOk other (λ x. Asks nat_eq n second x (Took call.ghosts.eq touches t u)) → is_ok other ≡ true → u.whole ≡ true → u.late ≡ false → IsRun call.ghosts.eq nat_eq (AsksLike {K = Unit {0}} (λ _. true) call.ghosts.eq (λ _ _ _. ⊤)) u.pairs
+both_asked : {E : Type 0} (touches : ContextCall → ContextCall → Bool) (m n : ContextCall → ℕ) (s t u : Recording ContextCall ℕ) (first second : ContextCall) (one other : Result ℕ E) → first ≢ second → s.pairs ≡ [] → IfOk one (λ x. Asks nat_eq m first x (Took call.ghosts.eq touches s t)) → is_ok one ≡ true → IfOk other (λ x. Asks nat_eq n second x (Took call.ghosts.eq touches t u)) → is_ok other ≡ true → u.complete ≡ true → u.late ≡ false → IsRun call.ghosts.eq nat_eq (AsksLike {K = Unit {0}} (λ _. true) call.ghosts.eq (λ _ _ _. ⊤)) u.pairs
 both_asked touches m n s t u first second (Ok x) (Ok y) differ none a is b is' = settled_run tt (search rules) (asked_then b (λ n f. tt) (asked_then a (λ n f. tt) (nothing_asked none))) (λ n f k e c _. each first second c differ)
 both_asked touches m n s t u first second (Ok x) (Err e) differ none a is b is' = let no : false ≡ true = is' in cc
 both_asked touches m n s t u first second (Err e) other differ none a is b is' = let no : false ≡ true = is in cc

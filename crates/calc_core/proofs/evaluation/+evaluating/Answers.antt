@@ -78,14 +78,14 @@ pub evaluate_within-returns-in-Ok-Hit-clause-led : goal.evaluate_within-returns-
 evaluate_within-returns-in-Ok-Hit-clause-led t c = led_by_reply c.args.files.now (evaluate_within-returns-in-Ok-Hit-clause-reply t c)
 
 pub evaluate_within-finish-requires-clause-settled : goal.evaluate_within-finish-requires-clause-settled
-evaluate_within-finish-requires-clause-settled t c = λ whole early.
+evaluate_within-finish-requires-clause-settled t c = λ complete early.
     let run = rw (c.in-Ok-Run.is, c.in-Ok-Run.field-0-is) at c.begin_script.ensures.begun in
     script_settled c.in-Ok-Run.pending.key _ run.2.has_key (script_run _ _ (rw c.recording.ensures.value run.2.pairs) c.in-Ok.ensures.asks)
 
 pub evaluate_within-finish-requires-clause-stands : goal.evaluate_within-finish-requires-clause-stands
-evaluate_within-finish-requires-clause-stands t c = λ whole early.
+evaluate_within-finish-requires-clause-stands t c = λ complete early.
     let run = rw (c.in-Ok-Run.is, c.in-Ok-Run.field-0-is) at c.begin_script.ensures.begun in
-    run_stands _ _ _ c.in-Ok-Run.pending.key _ run.2.has_key (rw c.recording.ensures.value run.2.writes) c.in-Ok.ensures.writes c.in-Ok.ensures.learns whole early
+    run_stands _ _ _ c.in-Ok-Run.pending.key _ run.2.has_key (rw c.recording.ensures.value run.2.writes) c.in-Ok.ensures.writes c.in-Ok.ensures.learns complete early
 
 pub evaluate_within-returns-in-Ok-finish-clause-outcome : goal.evaluate_within-returns-in-Ok-finish-clause-outcome
 evaluate_within-returns-in-Ok-finish-clause-outcome t c =
@@ -96,7 +96,7 @@ pub evaluate_within-returns-in-Ok-finish-clause-reply : goal.evaluate_within-ret
 evaluate_within-returns-in-Ok-finish-clause-reply t c =
     let run = rw (c.in-Ok-Run.is, c.in-Ok-Run.field-0-is) at c.begin_script.ensures.begun in
     let ran = c.in-Ok.ensures in
-    let stands = run_stands _ _ _ c.in-Ok-Run.pending.key _ run.2.has_key (rw c.recording.ensures.value run.2.writes) ran.writes ran.learns ran.fits.whole ran.fits.early in
+    let stands = run_stands _ _ _ c.in-Ok-Run.pending.key _ run.2.has_key (rw c.recording.ensures.value run.2.writes) ran.writes ran.learns ran.fits.complete ran.fits.early in
     replied_run c.args.files.now (Took same_call touches) MarkedLate run.2 (rw (rw (c.in-Ok-Run.is, c.in-Ok-Run.field-0-is) at c.begin_script.ensures.kept) at ran.led) ran.fits.early ran.fits.agrees stands (rw (c.in-Ok-finish.is, run.1) at c.finish.ensures.finished)
 
 pub evaluate_within-returns-in-Ok-finish-clause-led : goal.evaluate_within-returns-in-Ok-finish-clause-led
@@ -156,7 +156,7 @@ run_script-loop-part-preserved t c =
       fits = part.fits;
       writes = part.writes ∙ i.writes;
       learns = learns_on i.learns (part.learns bytes is) (λ m p q. leaves_rest (In m) p cut q c.in_default-add.ensures.sum c.in_default-add.ensures.height);
-      asks = settles_rest c.loop-part.total c.add.new.self i.fits.whole i.fits.early part.fits.whole part.fits.early i.asks i.learns cut (part.learns bytes is) (part.asks bytes is) c.in_default-add.ensures.sum;
+      asks = settles_rest c.loop-part.total c.add.new.self i.fits.complete i.fits.early part.fits.complete part.fits.early i.asks i.learns cut (part.learns bytes is) (part.asks bytes is) c.in_default-add.ensures.sum;
       led = led_rest (At (answers_of files)) (moves files) i.led cut (of_files files (part.learns bytes is) part.fits) c.in_default-add.ensures.sum (part.led bytes is);
     }
 
@@ -180,14 +180,14 @@ evaluate_part-returns-in_ok-reply-in-Eval-clause-asks t c = λ bytes is.
     let (own, named, asks) = c.in-Ok.ensures in
     let replied = c.in_ok-reply-in-Eval.ensures.reply in
     let fits = fits_read files asks c.requires in
-    settles_part files asks c.requires fits (told_text files asks c.requires fits.whole fits.early) replied.is_reply (settled_reply files replied.is_reply) (rw c.in-Eval.is at is) named
+    settles_part files asks c.requires fits (told_text files asks c.requires fits.complete fits.early) replied.is_reply (settled_reply files replied.is_reply) (rw c.in-Eval.is at is) named
 
 pub run_script-returns-in-Err-clause-asks : goal.run_script-returns-in-Err-clause-asks
 run_script-returns-in-Err-clause-asks t c =
     let i = c.loop-part.invariant in
     let (bytes, cut, is) = c.in-Some.ensures in
     let part = c.in_ok-outcome.ensures in
-    settles_last c.loop-part.total c.add.new.self i.fits.whole i.fits.early part.fits.whole part.fits.early i.asks i.learns cut (part.learns bytes is) (part.asks bytes is) _ c.in-Err.ensures.sum
+    settles_last c.loop-part.total c.add.new.self i.fits.complete i.fits.early part.fits.complete part.fits.early i.asks i.learns cut (part.learns bytes is) (part.asks bytes is) _ c.in-Err.ensures.sum
 
 pub run_script-returns-clause-asks : goal.run_script-returns-clause-asks
 run_script-returns-clause-asks t c = settles_end _ _ c.loop-part.invariant.asks c.in_default.ensures.0

@@ -31,14 +31,14 @@ returns-in-Ok-Hit-clause-too_deep g c =
     exact_at_ok c.args.files.now (script_given c.args.files.now hit.1) hit.0
 
 pub finish-requires-clause-settled : goal.finish-requires-clause-settled
-finish-requires-clause-settled g c = λ whole early.
+finish-requires-clause-settled g c = λ complete early.
     let run = rw (c.in-Ok-Run.is, c.in-Ok-Run.field-0-is) at c.begin_script.ensures.begun in
     script_settled c.in-Ok-Run.pending.key _ run.2.has_key (script_run _ _ (rw c.recording.ensures.value run.2.pairs) c.in-Ok.ensures.asks)
 
 pub finish-requires-clause-stands : goal.finish-requires-clause-stands
-finish-requires-clause-stands g c = λ whole early.
+finish-requires-clause-stands g c = λ complete early.
     let run = rw (c.in-Ok-Run.is, c.in-Ok-Run.field-0-is) at c.begin_script.ensures.begun in
-    run_stands _ _ _ c.in-Ok-Run.pending.key _ run.2.has_key (rw c.recording.ensures.value run.2.writes) c.in-Ok.ensures.writes c.in-Ok.ensures.learns whole early
+    run_stands _ _ _ c.in-Ok-Run.pending.key _ run.2.has_key (rw c.recording.ensures.value run.2.writes) c.in-Ok.ensures.writes c.in-Ok.ensures.learns complete early
 
 pub returns-in-Ok-finish-clause-outcome : goal.returns-in-Ok-finish-clause-outcome
 returns-in-Ok-finish-clause-outcome g c =
@@ -49,7 +49,7 @@ pub returns-in-Ok-finish-clause-reply : goal.returns-in-Ok-finish-clause-reply
 returns-in-Ok-finish-clause-reply g c =
     let run = rw (c.in-Ok-Run.is, c.in-Ok-Run.field-0-is) at c.begin_script.ensures.begun in
     let ran = c.in-Ok.ensures in
-    let stands = run_stands _ _ _ c.in-Ok-Run.pending.key _ run.2.has_key (rw c.recording.ensures.value run.2.writes) ran.writes ran.learns ran.fits.whole ran.fits.early in
+    let stands = run_stands _ _ _ c.in-Ok-Run.pending.key _ run.2.has_key (rw c.recording.ensures.value run.2.writes) ran.writes ran.learns ran.fits.complete ran.fits.early in
     replied_run c.args.files.now g.S.Sink.took g.S.Sink.lates run.2 (rw (rw (c.in-Ok-Run.is, c.in-Ok-Run.field-0-is) at c.begin_script.ensures.kept) at ran.led) ran.fits.early ran.fits.agrees stands (rw (c.in-Ok-finish.is, run.1) at c.finish.ensures.finished)
 
 pub returns-in-Ok-finish-clause-led : goal.returns-in-Ok-finish-clause-led

@@ -1,14 +1,14 @@
 use Rattle.std.proofs.Common.{◌∙◌, IsUtf8, rules, subst, sym}
-use Rattle.calc_lines.proofs.Steps.{front_none, front_more, stopped_in_read}
+use Rattle.calc_lines.proofs.Steps.{prefix_none, prefix_more, stopped_in_read}
 use Rattle.calc_lines.proofs.rounds.run.Goals as goal
 
 pub loop-init : goal.loop-init
-loop-init g c = front_none g.S.Session.answers g.S.Session.refuses _ _ _
+loop-init g c = prefix_none g.S.Session.answers g.S.Session.refuses _ _ _
 
 pub loop-preserved : goal.loop-preserved
 loop-preserved g c =
     let next = c.in_ok-is_there.ensures.line (search rules) in
-    front_more g.S.Session.answers g.S.Session.refuses _ _ _ _ _ _ _ _ _ _ c.in-Ok.text.now c.loop.invariant next
+    prefix_more g.S.Session.answers g.S.Session.refuses _ _ _ _ _ _ _ _ _ _ c.in-Ok.text.now c.loop.invariant next
     (c.in-Ok.ensures.cases.0 ∙ c.as_slice.ensures.value) c.in_ok-answer_line.ensures.answered
 
 pub returns-in_default : goal.returns-in_default

@@ -12,7 +12,7 @@ returns-in-Ok-Run-clause-run g c =
         is_enabled = refl;
         pairs = c.new.ensures.pairs;
         writes = c.new.ensures.writes;
-        whole = c.new.ensures.whole;
+        complete = c.new.ensures.complete;
         early = c.new.ensures.late;
         none = has.none;
       }) run.0,

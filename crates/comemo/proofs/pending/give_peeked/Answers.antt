@@ -4,7 +4,7 @@ use Rattle.comemo_cache.proofs.Writings.{took_run, spoiled_run}
 use Rattle.comemo.proofs.pending.give_peeked.Goals as goal
 
 pub returns-in_default-clause-err : goal.returns-in_default-clause-err
-returns-in_default-clause-err g c = (g.met.In.Input.starts _, record { front = []; rest = []; parts = refl; mid = c.reserve.new.self; taken = c.reserve.ensures.same; spoiled = c.spoil.ensures })
+returns-in_default-clause-err g c = (g.met.In.Input.starts _, record { prefix = []; rest = []; parts = refl; mid = c.reserve.new.self; taken = c.reserve.ensures.same; spoiled = c.spoil.ensures })
 
 pub returns-in_err-replay-clause-err : goal.returns-in_err-replay-clause-err
 returns-in_err-replay-clause-err g c =

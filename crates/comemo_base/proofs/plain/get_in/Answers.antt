@@ -1,6 +1,6 @@
 use Rattle.std.proofs.Common.{rules, ◌≡◌, ◌<◌, length, [], ◌∷◌, ◌++◌, refl, inl, ap, sym, ◌∙◌, arith}
 use Rattle.std.proofs.lemmas.Fn.{FoldsTo-push}
-use Rattle.comemo_base.specs.Tree.{Stored, IsFront}
+use Rattle.comemo_base.specs.Tree.{Stored, IsPrefix}
 use Rattle.comemo_base.proofs.Under.{All-under}
 use Rattle.std.proofs.lemmas.List.Elements.{All-push}
 use Rattle.comemo_base.specs.Lookup.{under, IsStoredCall}
@@ -9,7 +9,7 @@ use Rattle.comemo_base.proofs.plain.get_in.Goals as goal
 
 pub returns-in_default-clause-asked : goal.returns-in_default-clause-asked
 returns-in_default-clause-asked g c =
-    let none = All-under g.K.PartialEq.eq c.args.entries.now c.args.key.now (λ e. ¬ IsFront g.C.PartialEq.eq g.R.PartialEq.eq [] e.path) (λ j d m k f. c.in_default.ensures.none j d m k) in
+    let none = All-under g.K.PartialEq.eq c.args.entries.now c.args.key.now (λ e. ¬ IsPrefix g.C.PartialEq.eq g.R.PartialEq.eq [] e.path) (λ j d m k f. c.in_default.ensures.none j d m k) in
     ([], refl, (none, inl refl), tt)
 
 pub loop-depth-init : goal.loop-depth-init

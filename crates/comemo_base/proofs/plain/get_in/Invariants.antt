@@ -4,7 +4,7 @@ use Rattle.comemo_base.specs.Tree.{IsSamePath}
 use Rattle.comemo_base.specs.Lookup.{under, Answered, IsStoredCall}
 use Rattle.comemo_base.proofs.plain.get_in.Given as goal
 
--- the oracle was asked the front of the path at hand, at stored calls, and gave its answers
+-- the oracle was asked the prefix of the path at hand, at stored calls, and gave its answers
 abbrev pub invariant-loop-depth : goal.invariant-loop-depth
 invariant-loop-depth g l = record {
   bound : l.at < length l.entries;

@@ -4,12 +4,12 @@ use Rattle.comemo_base.proofs.plain.new_path.Goals as goal
 
 pub returns-clause-path : goal.returns-clause-path
 returns-clause-path g c =
-    let front = c.in_ok-path.path.items in
-    let whole : c.rest.path.items ≡ front ++ outside g.C.PartialEq.eq front c.args.sequence.pairs = sym (append-nil c.rest.path.items) ∙ ap (λ xs. c.rest.path.items ++ xs) (sym c.in_default.ensures.pairs.0) ∙ c.rest.invariant ∙ ap (λ xs. front ++ xs) c.in_ok-path.ensures.left in
-    (front, c.in_ok-path.ensures.stem, whole)
+    let prefix = c.in_ok-path.path.items in
+    let whole : c.rest.path.items ≡ prefix ++ outside g.C.PartialEq.eq prefix c.args.sequence.pairs = sym (append-nil c.rest.path.items) ∙ ap (λ xs. c.rest.path.items ++ xs) (sym c.in_default.ensures.pairs.0) ∙ c.rest.invariant ∙ ap (λ xs. prefix ++ xs) c.in_ok-path.ensures.left in
+    (prefix, c.in_ok-path.ensures.stem, whole)
 
 pub returns-clause-apart : goal.returns-clause-apart
 returns-clause-apart g c =
-    let front = c.in_ok-path.path.items in
-    let whole : c.rest.path.items ≡ front ++ outside g.C.PartialEq.eq front c.args.sequence.pairs = sym (append-nil c.rest.path.items) ∙ ap (λ xs. c.rest.path.items ++ xs) (sym c.in_default.ensures.pairs.0) ∙ c.rest.invariant ∙ ap (λ xs. front ++ xs) c.in_ok-path.ensures.left in
-    λ j d l k. rw whole (c.in_ok-path.ensures.apart (outside g.C.PartialEq.eq front c.args.sequence.pairs) j d l k)
+    let prefix = c.in_ok-path.path.items in
+    let whole : c.rest.path.items ≡ prefix ++ outside g.C.PartialEq.eq prefix c.args.sequence.pairs = sym (append-nil c.rest.path.items) ∙ ap (λ xs. c.rest.path.items ++ xs) (sym c.in_default.ensures.pairs.0) ∙ c.rest.invariant ∙ ap (λ xs. prefix ++ xs) c.in_ok-path.ensures.left in
+    λ j d l k. rw whole (c.in_ok-path.ensures.apart (outside g.C.PartialEq.eq prefix c.args.sequence.pairs) j d l k)

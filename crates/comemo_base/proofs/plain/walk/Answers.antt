@@ -8,7 +8,7 @@ use Rattle.comemo_base.proofs.plain.walk.Goals as goal
 pub walk-init : goal.walk-init
 walk-init g c = record {
   bound = c.in-Some.ensures.some.0;
-  walked = λ d. rw c.new-path.ensures.items (record { under = c.in-Some.ensures.some.1 d; deep = omega arith; front = tt; among = tt });
+  walked = λ d. rw c.new-path.ensures.items (record { under = c.in-Some.ensures.some.1 d; deep = omega arith; prefix = tt; among = tt });
   left = rw c.new-path.ensures.items (sym (outside-nothing g.C.PartialEq.eq c.args.sequence.now.pairs));
   distinct = rw c.new-path.ensures.items c.reveal_distinct_calls.ensures.distinct;
 }

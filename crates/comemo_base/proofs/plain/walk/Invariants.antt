@@ -5,7 +5,7 @@ use Rattle.comemo_base.specs.Insertion.{outside}
 use Rattle.comemo_base.proofs.Steps.{Walked}
 use Rattle.comemo_base.proofs.plain.walk.Given as goal
 
--- the path so far is the front of the path at hand, and its pairs were taken out of the sequence
+-- the path so far is the prefix of the path at hand, and its pairs were taken out of the sequence
 abbrev pub invariant-walk : goal.invariant-walk
 invariant-walk g l = record {
   bound : l.at < length l.entries;

@@ -9,6 +9,6 @@ returns c =
       same_value = degrees.same_value ∙ people.same_value;
       before = λ m f. people.before m (degrees.before m f);
       told = λ m f. search (rules, degrees.told m f, people.told m (degrees.before m f));
-      whole = degrees.whole ∙ people.whole;
+      complete = degrees.complete ∙ people.complete;
       fault = tt;
     }

@@ -36,7 +36,7 @@ add_up-returns-clause-tells g t c =
                 let more : notes cells c.args.count ≡ notes cells (c.args.count - 1) ++ Note (total cells c.args.count) ∷ [] = subst (λ n. notes cells n ≡ notes cells (c.args.count - 1) ++ Note (total cells n) ∷ []) low refl in
                 (search (rules, next, right, cell), rw (h.2, wrote, h.4.2, h.4.3.0, h.4.4, more, map-append second_call (notes cells (c.args.count - 1)) (Note (total cells c.args.count) ∷ [])) (search (rules, next, right, cell)))),
           );
-      whole = all.whole;
+      complete = all.complete;
       fault = tt;
     }
 

@@ -38,18 +38,18 @@ returns-in_default-read-clause-err g c =
     (same, broke_at_once g.met.S.Sink.starts same_answer (with_key (answers_of c.args.files.now)) _ _ (rw kept at c.give_up.ensures))
 
 pub finish-requires-clause-stands : goal.finish-requires-clause-stands
-finish-requires-clause-stands g c = λ whole early.
+finish-requires-clause-stands g c = λ complete early.
     let (run, unchanged, kept, same) = rw (c.in-Ok-Run.is, c.in-Ok-Run.field-0-is, c.fork.ensures) at c.begin.ensures.run in
     let (own, named, asks) = c.in-Ok-read.ensures in
     let long : length c.in-Ok-read.text ≡ c.len-output.result = search rules in
-    size_stands c.args.files.now asks (rw c.recording.ensures.value run.whole) (rw c.recording.ensures.value run.early) (rw c.recording.ensures.value run.pairs) (rw c.recording.ensures.value run.writes) c.in-Ok-Run.pending.key (named ∙ sym c.in-Ok.ensures.ok ∙ key_bytes c.in-Ok.key c.in-Ok-Run.pending.key.0 run.has_key) (sym long) whole early
+    size_stands c.args.files.now asks (rw c.recording.ensures.value run.complete) (rw c.recording.ensures.value run.early) (rw c.recording.ensures.value run.pairs) (rw c.recording.ensures.value run.writes) c.in-Ok-Run.pending.key (named ∙ sym c.in-Ok.ensures.ok ∙ key_bytes c.in-Ok.key c.in-Ok-Run.pending.key.0 run.has_key) (sym long) complete early
 
 pub returns-in-Ok-Run-clause-output : goal.returns-in-Ok-Run-clause-output
 returns-in-Ok-Run-clause-output g c =
     let (run, unchanged, kept, same) = rw (c.in-Ok-Run.is, c.in-Ok-Run.field-0-is, c.fork.ensures) at c.begin.ensures.run in
     let (own, named, asks) = c.in-Ok-read.ensures in
     let long : length c.in-Ok-read.text ≡ c.len-output.result = search rules in
-    mapped (λ reply finished. finished.same ∙ sym long ∙ size_read c.args.files.now asks (rw c.recording.ensures.value run.whole) (rw c.recording.ensures.value run.early) (rw c.recording.ensures.value run.pairs) named) c.finish.result c.finish.ensures.finished
+    mapped (λ reply finished. finished.same ∙ sym long ∙ size_read c.args.files.now asks (rw c.recording.ensures.value run.complete) (rw c.recording.ensures.value run.early) (rw c.recording.ensures.value run.pairs) named) c.finish.result c.finish.ensures.finished
 
 pub returns-in-Ok-Run-clause-reply : goal.returns-in-Ok-Run-clause-reply
 returns-in-Ok-Run-clause-reply g c =
@@ -62,5 +62,5 @@ pub returns-in-Ok-Run-clause-err : goal.returns-in-Ok-Run-clause-err
 returns-in-Ok-Run-clause-err g c =
     let (run, unchanged, kept, same) = rw (c.in-Ok-Run.is, c.in-Ok-Run.field-0-is, c.fork.ensures) at c.begin.ensures.run in
     let (own, named, asks) = c.in-Ok-read.ensures in
-    let fits = size_fits c.args.files.now asks (rw c.recording.ensures.value run.whole) (rw c.recording.ensures.value run.early) (rw c.recording.ensures.value run.pairs) in
+    let fits = size_fits c.args.files.now asks (rw c.recording.ensures.value run.complete) (rw c.recording.ensures.value run.early) (rw c.recording.ensures.value run.pairs) in
     mapped_err (λ e. (e.0, broke_at_end sizing (with_key (answers_of c.args.files.now)) (keyed_calls tests) (keyed_answers tests) fits.respects fits.agrees e.1)) c.finish.result (rw (kept, same) at c.finish.ensures.err)

@@ -1,5 +1,5 @@
 use Rattle.std.proofs.Common.{refl}
-use Rattle.comemo.proofs.Recorders.{held_keeps, tells_output, tells_broken, not_whole}
+use Rattle.comemo.proofs.Recorders.{held_keeps, tells_output, tells_broken, not_complete}
 use Rattle.comemo_cache.proofs.Holding.{some_by}
 use Rattle.comemo.proofs.function.Recorder.call_reply.Goals as goal
 
@@ -18,10 +18,10 @@ returns-clause-tells g c =
     let i = c.self.inside in
     let k = (some_by (g.H.Hold.entries c.args.cache.now) (g.H.Hold.entries c.args.cache.now) (g.H.Hold.entries c.memoized_view.new.cache) _ c.in_ok-reply.ensures.reply).3 in
     let t = tells_output _ g.met.T.Call.Eq.laws g.met.T.Answer.Eq.laws _ _ _ _ (g.met.T.Track.alike i.view) refl c.self.invariant.agrees {P = λ output m. g.G.Function.means c.args.key m output} c.in_ok-reply.reply k (λ n d. d.1) in
-    rw (← c.self.view_is) (record { same_value = t.same_value; before = t.before; told = t.told; whole = t.whole; fault = tt })
+    rw (← c.self.view_is) (record { same_value = t.same_value; before = t.before; told = t.told; complete = t.complete; fault = tt })
 
 pub returns-in_err-reply-clause-tells : goal.returns-in_err-reply-clause-tells
-returns-in_err-reply-clause-tells g c = rw (← c.self.view_is) (tells_broken refl c.from_residual.result c.from_residual.ensures.0 (not_whole c.in_err-reply.ensures.err.1))
+returns-in_err-reply-clause-tells g c = rw (← c.self.view_is) (tells_broken refl c.from_residual.result c.from_residual.ensures.0 (not_complete c.in_err-reply.ensures.err.1))
 
 pub returns-clause-reply : goal.returns-clause-reply
 returns-clause-reply g c = rw (← c.self.view_is) c.in_ok-reply.ensures.reply

@@ -66,7 +66,7 @@ returns-in_err-reply-clause-err g c =
     on_err c.from_residual.result (err.0, rw c.drop-sink.ensures (rw c.new-sink.ensures.value at broke))
 
 pub returns-in_err-reply-clause-tells : goal.returns-in_err-reply-clause-tells
-returns-in_err-reply-clause-tells g c = tells_failed_part (both_mut (parts g)) refl refl ([], ap (λ v. first_mut_as c.args.self.now.value.now v) c.memoized_part.ensures.same) (rw c.drop-sink.ensures c.in_err-reply.ensures.err.1.is_broken.spoiled.spoiled.whole) c.from_residual.result c.from_residual.ensures.0
+returns-in_err-reply-clause-tells g c = tells_failed_part (both_mut (parts g)) refl refl ([], ap (λ v. first_mut_as c.args.self.now.value.now v) c.memoized_part.ensures.same) (rw c.drop-sink.ensures c.in_err-reply.ensures.err.1.is_broken.spoiled.spoiled.complete) c.from_residual.result c.from_residual.ensures.0
 
 pub returns-in_err-reply-clause-agrees : goal.returns-in_err-reply-clause-agrees
-returns-in_err-reply-clause-agrees g c = spoiled_any _ (rw c.drop-sink.ensures c.in_err-reply.ensures.err.1.is_broken.spoiled.spoiled.whole)
+returns-in_err-reply-clause-agrees g c = spoiled_any _ (rw c.drop-sink.ensures c.in_err-reply.ensures.err.1.is_broken.spoiled.spoiled.complete)

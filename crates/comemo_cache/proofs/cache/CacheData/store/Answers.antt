@@ -11,7 +11,7 @@ use Rattle.comemo_cache.proofs.cache.CacheData.store.Goals as goal
 
 pub invariant_of-self : goal.invariant_of-self
 invariant_of-self g c =
-    let M : Meaning g.row.M-Key.Denot g.row.M-Call.Denot g.row.M-Answer.Denot g.row.M-Out.Denot = record { same_call = g.M.Call.PartialEq.eq; same_answer = g.M.Answer.PartialEq.eq; same_key = g.M.Key.PartialEq.eq; is_write = g.M.Call.Call.is_write; is_clone = g.M.Out.Clone.is_clone; def = IsRight g.M.Function.means g.M.Function.writes; naming = g.M.Function.naming } in
+    let M : Meaning g.row.M-Key.Denot g.row.M-Call.Denot g.row.M-Answer.Denot g.row.M-Out.Denot = record { same_call = g.M.Call.PartialEq.eq; same_answer = g.M.Answer.PartialEq.eq; same_key = g.M.Key.PartialEq.eq; is_write = g.M.Call.Call.is_write; is_clone = g.M.Out.Clone.is_clone; right = IsRight g.M.Function.means g.M.Function.writes; naming = g.M.Function.naming } in
     let P = IsLegal M in
     let old = c.self.inside.tree in
     by_result c.insert.result c.insert.ensures.stored c.insert.ensures.err
@@ -21,10 +21,10 @@ invariant_of-self g c =
     (λ e. rw e c.self.invariant)
 
 pub returns-clause-stored : goal.returns-clause-stored
-returns-clause-stored g c = rw (← c.self.view_is) (stores (record { same_call = g.M.Call.PartialEq.eq; same_answer = g.M.Answer.PartialEq.eq; same_key = g.M.Key.PartialEq.eq; is_write = g.M.Call.Call.is_write; is_clone = g.M.Out.Clone.is_clone; def = IsRight g.M.Function.means g.M.Function.writes; naming = g.M.Function.naming }) g.met.M.Call.Eq.laws c.self.inside.tree c.args.key c.args.sequence.pairs c.args.output c.args.writes.items c.insert.new.self c.insert.result c.insert.ensures.ok c.insert.ensures.stored)
+returns-clause-stored g c = rw (← c.self.view_is) (stores (record { same_call = g.M.Call.PartialEq.eq; same_answer = g.M.Answer.PartialEq.eq; same_key = g.M.Key.PartialEq.eq; is_write = g.M.Call.Call.is_write; is_clone = g.M.Out.Clone.is_clone; right = IsRight g.M.Function.means g.M.Function.writes; naming = g.M.Function.naming }) g.met.M.Call.Eq.laws c.self.inside.tree c.args.key c.args.sequence.pairs c.args.output c.args.writes.items c.insert.new.self c.insert.result c.insert.ensures.ok c.insert.ensures.stored)
 
 pub returns-clause-named : goal.returns-clause-named
 returns-clause-named g c =
-    let M : Meaning g.row.M-Key.Denot g.row.M-Call.Denot g.row.M-Answer.Denot g.row.M-Out.Denot = record { same_call = g.M.Call.PartialEq.eq; same_answer = g.M.Answer.PartialEq.eq; same_key = g.M.Key.PartialEq.eq; is_write = g.M.Call.Call.is_write; is_clone = g.M.Out.Clone.is_clone; def = IsRight g.M.Function.means g.M.Function.writes; naming = g.M.Function.naming } in
+    let M : Meaning g.row.M-Key.Denot g.row.M-Call.Denot g.row.M-Answer.Denot g.row.M-Out.Denot = record { same_call = g.M.Call.PartialEq.eq; same_answer = g.M.Answer.PartialEq.eq; same_key = g.M.Key.PartialEq.eq; is_write = g.M.Call.Call.is_write; is_clone = g.M.Out.Clone.is_clone; right = IsRight g.M.Function.means g.M.Function.writes; naming = g.M.Function.naming } in
     let old = c.self.inside.tree in
     missing_unnamed g.met.M.Call.Eq.laws g.met.M.Answer.Eq.laws g.met.M.Key.Eq.laws old c.args.key c.args.sequence.pairs c.reveal_distinct_calls.ensures.distinct M.naming (settled_from_legal M old c.self.invariant) c.requires.settled c.insert.result c.insert.ensures.reason

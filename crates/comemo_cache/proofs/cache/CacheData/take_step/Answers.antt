@@ -3,7 +3,7 @@ use Rattle.comemo_cache.proofs.Stepping.{drained}
 use Rattle.comemo_cache.proofs.cache.CacheData.take_step.Goals as goal
 
 pub returns-in-Ok-Some : goal.returns-in-Ok-Some
-returns-in-Ok-Some g c = rw c.in-Look.is (rw (c.in-Ok-Some.field-0-is, c.as_slice.ensures.value) at c.in-Ok-Some.ensures.ages, refl)
+returns-in-Ok-Some g c = rw c.in-Look.is (rw (c.in-Ok-Some.field-0-is, c.as_slice.ensures.value) at c.in-Ok-Some.ensures.found, refl)
 
 pub returns-in-Ok-None : goal.returns-in-Ok-None
 returns-in-Ok-None g c = rw c.in-Look.is (rw (c.in-Ok-None.field-0-is, c.as_slice.ensures.value) at c.in-Ok-None.ensures.found, refl)

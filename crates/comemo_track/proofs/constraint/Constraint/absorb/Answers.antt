@@ -18,5 +18,5 @@ returns-clause-pairs g c = search rules
 pub returns-clause-writes : goal.returns-clause-writes
 returns-clause-writes g c = search rules
 
-pub returns-clause-whole : goal.returns-clause-whole
-returns-clause-whole g c = search rules
+pub returns-clause-complete : goal.returns-clause-complete
+returns-clause-complete g c = search rules

@@ -18,7 +18,7 @@ returns-clause-ok g c =
     rw (← c.self.view_is) (record {
       pairs = pairs-absorbed g.met.C.Eq.laws g.C.Call.is_write c.self.inside.reads c.args.reads c.absorb.new.self c.self.invariant c.reveal_distinct_calls.ensures.distinct c.in_ok-absorb.ensures.pairs;
       writes = c.in-Ok.ensures.items ∙ ap (λ x. x ++ c.args.writes.items) c.reserve.ensures.items;
-      whole = refl;
+      complete = refl;
       late =
           elim c.if-self.branch [
             | then-self w ↦ w.late-is ∙ w.if-self.true ∙ sym (ap (λ b. b || touched g.C.Call.touches c.self.inside.writes.items c.args.reads.pairs) w.if-self.true)

@@ -1,5 +1,0 @@
-use Rattle.comemo_base_tests.proofs.Alike.{agrees_alike}
-use Rattle.comemo_base_tests.proofs.laws.agree_alike.Goals as goal
-
-pub returns : goal.returns
-returns g c = agrees_alike g.met.C.Eq.laws g.met.R.Eq.laws

@@ -1,5 +1,0 @@
-use Rattle.comemo_base_tests.proofs.Alike.{exists_alike}
-use Rattle.comemo_base_tests.proofs.laws.exist_alike.Goals as goal
-
-pub returns : goal.returns
-returns g c = exists_alike g.met.C.Eq.laws g.met.R.Eq.laws _ _

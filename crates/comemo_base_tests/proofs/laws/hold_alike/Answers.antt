@@ -1,5 +1,0 @@
-use Rattle.comemo_base_tests.proofs.AlikePairs.{held_alike}
-use Rattle.comemo_base_tests.proofs.laws.hold_alike.Goals as goal
-
-pub returns : goal.returns
-returns g c = held_alike g.met.C.Eq.laws g.met.R.Eq.laws
