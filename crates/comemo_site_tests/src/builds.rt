@@ -1,8 +1,8 @@
 //! What pages are rendered to, which calls ran, and what was written to the log.
 
-use comemo::{Cache, CacheData, Caches, How, ReadAndWrite, Top, Track, memoized_mut_with};
-use comemo_site::build::Publish;
-use comemo_site::html::{Html, Rendered};
+use comemo::{Cache, CacheData, Caches, Fault, How, ReadAndWrite, Top, Track, memoized_mut_with};
+use comemo_site::build::{Built, Publish};
+use comemo_site::html::Rendered;
 use comemo_site::link::Link;
 use comemo_site::log::{Log, Warning};
 use comemo_site::parse::parse;
@@ -53,49 +53,96 @@ fn small_site(alloc: Global) -> Result<Site, AllocError> {
     Ok(site)
 }
 
-fn page(alloc: Global, kept: &mut Kept, site: &Site, name: &str) -> Result<Rendered, Fail> {
-    let page = page_now(alloc, kept, site, text(alloc, name)?, 4)?;
-    Ok(page)
+/// Whether a page of the site, after an edit of another or of none, is this HTML, and so many pages and titles are kept.
+fn renders(
+    alloc: Global,
+    kept: &mut Kept,
+    site: &mut Site,
+    edit: (&str, &str),
+    name: &str,
+    html: &[u8],
+    count: (usize, usize),
+) -> bool {
+    if edit.0 != "" && set(alloc, site, edit.0, edit.1).is_err() {
+        return false;
+    }
+    let Ok(name) = text(alloc, name) else {
+        return false;
+    };
+    let Ok(page) = page_now(alloc, kept, site, name, 4) else {
+        return false;
+    };
+    page.as_bytes() == html && (kept.0.len(), kept.1.len()) == count
 }
+
+/// Edits of the small site: the page that changes, if any, and its source; the page that is rendered then, and its HTML;
+/// and how many pages and titles are kept.
+const EDITS: &[(&str, &str, &str, &[u8], usize, usize)] = &[
+    // home at 4 and footer at 3; the titles of about and of home
+    ("", "", "home", HOME_HTML, 2, 2),
+    // about alone: its footer is a hit
+    ("", "", "about", ABOUT_HTML, 3, 2),
+    // the words of about alone: home saw its title
+    (
+        "about",
+        "# About us\nwe were\ninclude footer\n",
+        "home",
+        HOME_HTML,
+        3,
+        2,
+    ),
+    // the title of about: home sees it, and the footer doesn't
+    (
+        "about",
+        "# Who\nwe were\ninclude footer\n",
+        "home",
+        HOME_AFTER,
+        4,
+        3,
+    ),
+];
 
 #[test]
 fn an_edit_runs_again_what_it_reaches(rt: HostRuntime) -> Result<(), Fail> {
     let alloc = rt.alloc();
     let mut site = small_site(alloc)?;
     let mut kept: Kept = (CacheData::new(alloc), CacheData::new(alloc));
-    let home = page(alloc, &mut kept, &site, "home")?;
-    assert_eq!(rt; home.as_bytes(), HOME_HTML);
-    // home at 4 and footer at 3; the titles of about and of home
-    assert_eq!(rt; (kept.0.len(), kept.1.len()), (2, 2));
-    let about = page(alloc, &mut kept, &site, "about")?;
-    assert_eq!(rt; about.as_bytes(), ABOUT_HTML);
-    // about alone: its footer is a hit
-    assert_eq!(rt; (kept.0.len(), kept.1.len()), (3, 2));
-    // the words of about alone: home saw its title
-    set(
-        alloc,
-        &mut site,
-        "about",
-        "# About us\nwe were\ninclude footer\n",
-    )?;
-    page(alloc, &mut kept, &site, "home")?;
-    assert_eq!(rt; (kept.0.len(), kept.1.len()), (3, 2));
-    // the title of about: home sees it, and the footer doesn't
-    set(
-        alloc,
-        &mut site,
-        "about",
-        "# Who\nwe were\ninclude footer\n",
-    )?;
-    let home = page(alloc, &mut kept, &site, "home")?;
-    assert_eq!(rt; home.as_bytes(), HOME_AFTER);
-    assert_eq!(rt; (kept.0.len(), kept.1.len()), (4, 3));
+    for (edited, source, name, html, pages, titles) in EDITS {
+        let edit = (*edited, *source);
+        let is_so = renders(
+            alloc,
+            &mut kept,
+            &mut site,
+            edit,
+            *name,
+            *html,
+            (*pages, *titles),
+        );
+        assert!(rt; is_so, "{name} after {edited:?} is {source:?}");
+    }
     // neither was used in the last round but home and its footer, and the two titles
     kept.evict_all(1);
-    page(alloc, &mut kept, &site, "home")?;
+    let is_so = renders(
+        alloc,
+        &mut kept,
+        &mut site,
+        ("", ""),
+        "home",
+        HOME_AFTER,
+        (4, 3),
+    );
+    assert!(rt; is_so);
     kept.evict_all(1);
     assert_eq!(rt; (kept.0.len(), kept.1.len()), (1, 0));
     Ok(())
+}
+
+/// Whether the pages of a table are five, the third is this HTML, and the last is empty.
+fn is_table(pages: &[Result<Rendered, Fault>], footer: &[u8]) -> bool {
+    let [_, _, Ok(third), _, Ok(last)] = pages else {
+        return false;
+    };
+    third.as_bytes() == footer && last.as_bytes().is_empty()
 }
 
 #[test]
@@ -104,25 +151,44 @@ fn threads_render_a_table(rt: HostRuntime) -> Result<(), Fail> {
     let mut site = small_site(alloc)?;
     let shared: SharedPages = (Cache::new(alloc), Cache::new(alloc));
     let mut names = Vec::new(alloc);
-    for name in ["home", "about", "footer", "home", "nowhere"] {
-        names.push(text(alloc, name)?)?;
+    let rows: &[&str] = &["home", "about", "footer", "home", "nowhere"];
+    for name in rows {
+        names.push(text(alloc, *name)?)?;
     }
+    let pages = table(&rt, alloc, &shared, &site, names.as_slice(), 4)?;
+    assert!(rt; is_table(pages.as_slice(), FOOTER_HTML));
+    set(alloc, &mut site, "footer", "go to\n\nlink home\n")?;
+    let pages = table(&rt, alloc, &shared, &site, names.as_slice(), 4)?;
     let gone: &[u8] = b"<p>go to</p>\n<p><a href=\"home.html\">Home</a></p>\n";
-    for (source, expected) in [(FOOTER, FOOTER_HTML), ("go to\n\nlink home\n", gone)] {
-        set(alloc, &mut site, "footer", source)?;
-        let pages = table(&rt, alloc, &shared, &site, names.as_slice(), 4)?;
-        assert_eq!(rt; pages.len(), 5);
-        for (place, rendered) in pages.into_iter().enumerate() {
-            let rendered = rendered?;
-            if place == 2 {
-                assert_eq!(rt; rendered.as_bytes(), expected);
-            }
-            if place == 4 {
-                assert!(rt; rendered.as_bytes().is_empty());
-            }
-        }
-    }
+    assert!(rt; is_table(pages.as_slice(), gone));
     Ok(())
+}
+
+/// Whether a link to a page is this HTML, comes this way, and leaves so many warnings in the log.
+fn links(
+    alloc: Global,
+    kept: &mut (CacheData<Link>, (Global, CacheData<Title>)),
+    site: &Site,
+    log: &mut Log,
+    name: &str,
+    html: &[u8],
+    how: How,
+    warnings: usize,
+) -> bool {
+    let Ok(key) = text(alloc, name) else {
+        return false;
+    };
+    let mut both = ReadAndWrite {
+        first: site.track(alloc),
+        second: log,
+    };
+    let top = &mut Top::new();
+    let Ok(reply) = memoized_mut_with(alloc, &mut kept.0, &mut kept.1, key, &mut both, top, true)
+    else {
+        return false;
+    };
+    let is_so = reply.output.as_bytes() == html && reply.how == how;
+    is_so && both.second.warnings().len() == warnings
 }
 
 #[test]
@@ -130,86 +196,102 @@ fn a_hit_warns_again(rt: HostRuntime) -> Result<(), Fail> {
     let alloc = rt.alloc();
     let site = small_site(alloc)?;
     let mut log = Log::new(alloc);
-    let mut cache: CacheData<Link> = CacheData::new(alloc);
-    let titles: CacheData<Title> = CacheData::new(alloc);
-    let mut needs = (alloc, titles);
+    let mut kept = (CacheData::new(alloc), (alloc, CacheData::new(alloc)));
     let about: &[u8] = b"<p><a href=\"about.html\">About us</a></p>\n";
     let lost: &[u8] = b"<p><a href=\"lost.html\">lost</a></p>\n";
-    for (name, html, how, warnings) in [
+    let calls: &[(&str, &[u8], How, usize)] = &[
         ("about", about, How::Stored, 0),
         ("lost", lost, How::Stored, 1),
         ("lost", lost, How::Hit, 2),
-    ] {
-        let mut both = ReadAndWrite {
-            first: site.track(alloc),
-            second: &mut log,
-        };
-        let key = text(alloc, name)?;
-        let reply = memoized_mut_with(
-            alloc,
-            &mut cache,
-            &mut needs,
-            key,
-            &mut both,
-            &mut Top::new(),
-            true,
-        )?;
-        assert_eq!(rt; reply.output.as_bytes(), html);
-        assert_eq!(rt; reply.how, how);
-        assert_eq!(rt; log.warnings().len(), warnings);
+    ];
+    for (name, html, how, warnings) in calls {
+        let is_so = links(
+            alloc, &mut kept, &site, &mut log, *name, *html, *how, *warnings,
+        );
+        assert!(rt; is_so, "{name}");
     }
     assert!(rt; log.warnings().last() == Some(&Warning::Missing(text(alloc, "lost")?)));
     Ok(())
+}
+
+const ONCE: &[u8] = b"<p>see</p>\n<p><a href=\"nowhere.html\">nowhere</a></p>\n";
+
+/// Whether these are as many copies of `ONCE`.
+fn is_repeated(html: &[u8], times: usize) -> bool {
+    let mut left = html;
+    for _ in 0..times {
+        let Some(rest) = left.strip_prefix(ONCE) else {
+            return false;
+        };
+        left = rest;
+    }
+    left.is_empty()
+}
+
+/// Whether the last three warnings are of a page that is missing, of it again, and of a page that is included too deep.
+fn ends_too_deep(warnings: &[Warning]) -> bool {
+    match warnings {
+        [
+            ..,
+            Warning::Missing(first),
+            Warning::Missing(second),
+            Warning::TooDeep(third),
+        ] => {
+            let are_missing = first.as_str() == "nowhere" && second.as_str() == "nowhere";
+            are_missing && third.as_str() == "broken"
+        }
+        _ => false,
+    }
+}
+
+/// Whether the page `broken`, with what it includes down to a limit, comes this way, as many times `ONCE`, and with so
+/// many warnings.
+fn publishes(
+    alloc: Global,
+    kept: &mut (CacheData<Publish>, (Global, Built)),
+    site: &Site,
+    limit: u64,
+    how: How,
+    times: usize,
+    warnings: usize,
+) -> bool {
+    let Ok(name) = text(alloc, "broken") else {
+        return false;
+    };
+    let mut log = Log::new(alloc);
+    let mut both = ReadAndWrite {
+        first: site.track(alloc),
+        second: &mut log,
+    };
+    let key = (name, limit);
+    let top = &mut Top::new();
+    let Ok(reply) = memoized_mut_with(alloc, &mut kept.0, &mut kept.1, key, &mut both, top, true)
+    else {
+        return false;
+    };
+    let is_so = reply.how == how && is_repeated(reply.output.as_bytes(), times);
+    let given = both.second.warnings();
+    is_so && given.len() == warnings && ends_too_deep(given)
 }
 
 #[test]
 fn a_page_that_is_a_hit_warns_again(rt: HostRuntime) -> Result<(), Fail> {
     let alloc = rt.alloc();
     let mut site = small_site(alloc)?;
-    set(
-        alloc,
-        &mut site,
-        "broken",
-        "see\n\nlink nowhere\ninclude broken\n",
-    )?;
-    let mut log = Log::new(alloc);
-    let mut cache: CacheData<Publish> = CacheData::new(alloc);
-    let mut needs = (alloc, (CacheData::new(alloc), CacheData::new(alloc)));
-    let expected = vec![in alloc;
-        Warning::Missing(text(alloc, "nowhere")?),
-        Warning::Missing(text(alloc, "nowhere")?),
-        Warning::TooDeep(text(alloc, "broken")?),
-    ]?;
-    // pages and titles that are kept stand last: broken at 3 does the warnings of broken at 2 again by a hit
-    for (limit, how, times, warnings, pages, titles) in [
-        (2, How::Stored, 2, 3, 2, 1),
-        (2, How::Hit, 2, 3, 2, 1),
-        (3, How::Stored, 3, 4, 3, 1),
-    ] {
-        log.clear();
-        let mut both = ReadAndWrite {
-            first: site.track(alloc),
-            second: &mut log,
-        };
-        let key = (text(alloc, "broken")?, limit);
-        let reply = memoized_mut_with(
-            alloc,
-            &mut cache,
-            &mut needs,
-            key,
-            &mut both,
-            &mut Top::new(),
-            true,
-        )?;
-        let mut html = Html::new(alloc);
-        for _ in 0..times {
-            html.push(b"<p>see</p>\n<p><a href=\"nowhere.html\">nowhere</a></p>\n")?;
-        }
-        assert_eq!(rt; reply.output.as_bytes(), html.as_bytes());
-        assert_eq!(rt; reply.how, how);
-        assert_eq!(rt; log.warnings().len(), warnings);
-        assert!(rt; log.warnings().ends_with(expected.as_slice()));
-        assert_eq!(rt; (needs.1.0.len(), needs.1.1.len()), (pages, titles));
+    let source = "see\n\nlink nowhere\ninclude broken\n";
+    set(alloc, &mut site, "broken", source)?;
+    let built = (CacheData::new(alloc), CacheData::new(alloc));
+    let mut kept = (CacheData::new(alloc), (alloc, built));
+    // pages that are kept stand last: broken at 3 does the warnings of broken at 2 again by a hit
+    let calls: &[(u64, How, usize, usize, usize)] = &[
+        (2, How::Stored, 2, 3, 2),
+        (2, How::Hit, 2, 3, 2),
+        (3, How::Stored, 3, 4, 3),
+    ];
+    for (limit, how, times, warnings, pages) in calls {
+        let is_so = publishes(alloc, &mut kept, &site, *limit, *how, *times, *warnings);
+        assert!(rt; is_so, "{limit} by {how:?}");
+        assert_eq!(rt; (kept.1.1.0.len(), kept.1.1.1.len()), (*pages, 1));
     }
     Ok(())
 }

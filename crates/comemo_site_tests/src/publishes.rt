@@ -10,7 +10,9 @@ use comemo_site::site::{Site, SiteCall};
 use comemo_site::tally::Tally;
 use comemo_site::text::Text;
 use std::alloc::{AllocError, Global};
+use std::sync::Wait;
 use std::test::Fail;
+use std::thread::Threads;
 
 /// The names of the pages, in order, with their sources.
 const PAGES: &[(&str, &str)] = &[
@@ -73,24 +75,43 @@ fn ten_pages(alloc: Global) -> Result<(Site, Vec<Text>), AllocError> {
     Ok((site, names))
 }
 
-/// Why each page was rendered again, a line for each that was; and how many calls ran and were hits.
-fn reasons(
+/// Whether the pages were rendered again for these reasons, a line for each.
+fn are_explained(
     alloc: Global,
     names: &[Text],
     pages: &[Result<Published, Fault>],
-) -> Result<(String, Tally), AllocError> {
-    let mut lines = String::new(alloc);
-    let mut tally = Tally::new();
+    expected: &str,
+) -> bool {
+    let mut left = expected;
     for (name, page) in names.iter().zip(pages) {
-        if let Ok(page) = page {
-            tally.add(page.tally);
-            if let Some(reason) = &page.reason {
-                lines.push_str(reason.line(alloc, name.as_str())?.as_str())?;
-                lines.push('\n')?;
+        let Ok(page) = page else {
+            return false;
+        };
+        if let Some(reason) = &page.reason {
+            let Ok(line) = reason.line(alloc, name.as_str()) else {
+                return false;
+            };
+            let Some((first, rest)) = left.split_once('\n') else {
+                return false;
+            };
+            if line.as_str() != first {
+                return false;
             }
+            left = rest;
         }
     }
-    Ok((lines, tally))
+    left.is_empty()
+}
+
+/// How many calls ran and were hits.
+fn tally_of(pages: &[Result<Published, Fault>]) -> Tally {
+    let mut tally = Tally::new();
+    for page in pages {
+        if let Ok(page) = page {
+            tally.add(page.tally);
+        }
+    }
+    tally
 }
 
 /// Whether the document of the page at a place is this.
@@ -101,22 +122,32 @@ fn is_document(pages: &[Result<Published, Fault>], place: usize, document: &[u8]
     }
 }
 
-/// The warnings of all pages, a line for each.
-fn warnings(
+/// Whether these are the warnings of all pages, a line for each.
+fn is_said(
     alloc: Global,
     names: &[Text],
     pages: &[Result<Published, Fault>],
-) -> Result<String, AllocError> {
-    let mut lines = String::new(alloc);
+    expected: &str,
+) -> bool {
+    let mut left = expected;
     for (name, page) in names.iter().zip(pages) {
-        if let Ok(page) = page {
-            for warning in &page.warnings {
-                lines.push_str(warning_line(alloc, name.as_str(), warning)?.as_str())?;
-                lines.push('\n')?;
+        let Ok(page) = page else {
+            return false;
+        };
+        for warning in &page.warnings {
+            let Ok(line) = warning_line(alloc, name.as_str(), warning) else {
+                return false;
+            };
+            let Some((first, rest)) = left.split_once('\n') else {
+                return false;
+            };
+            if line.as_str() != first {
+                return false;
             }
+            left = rest;
         }
     }
-    Ok(lines)
+    left.is_empty()
 }
 
 const SETTINGS: Settings = Settings {
@@ -124,6 +155,17 @@ const SETTINGS: Settings = Settings {
     jobs: 3,
     explains: true,
 };
+
+/// The warnings of the ten pages.
+const WARNINGS: &str = "broken: no page is named nowhere\nbroken: no page is named lost\n\
+    loop: loop is included too deep\n";
+
+/// Whether these are the documents and the warnings of the ten pages.
+fn are_ten(alloc: Global, names: &[Text], pages: &[Result<Published, Fault>]) -> bool {
+    let are_first = is_document(pages, 3, EMPTY) && is_document(pages, 5, START);
+    let are_last = is_document(pages, 7, INDEX) && is_document(pages, 8, LOOP);
+    pages.len() == 10 && are_first && are_last && is_said(alloc, names, pages, WARNINGS)
+}
 
 #[test]
 fn ten_pages_are_published(rt: HostRuntime) -> Result<(), Fail> {
@@ -134,31 +176,20 @@ fn ten_pages_are_published(rt: HostRuntime) -> Result<(), Fail> {
     // by runs, and then by hits
     for _ in 0..2 {
         let pages = publish_all(&rt, alloc, &shared, &site, names, SETTINGS)?;
-        assert_eq!(rt; pages.len(), 10);
-        for (place, document) in [(3, EMPTY), (5, START), (7, INDEX), (8, LOOP)] {
-            assert!(rt;
-                is_document(pages.as_slice(), place, document),
-                "page {place}"
-            );
-        }
-        let said = warnings(alloc, names, pages.as_slice())?;
-        assert_eq!(rt;
-            said.as_str(),
-            "broken: no page is named nowhere\nbroken: no page is named lost\nloop: loop is included too deep\n"
-        );
+        assert!(rt; are_ten(alloc, names, pages.as_slice()));
     }
     Ok(())
 }
 
+/// Why the ten pages are rendered if nothing is kept.
+const NEW: &str =
+    "about: it is new\nbroken: it is new\ncontact: it is new\nempty: it is new\nfooter: it is new\n\
+         guide/start: it is new\nguide/units: it is new\nindex: it is new\nloop: it is new\nnews: it is new\n";
+
 /// Edits of the ten pages: the name of a page, or none, its new source, and why pages are rendered again.
 const EDITS: &[(&str, &str, &str)] = &[
     // nothing: each page is new
-    (
-        "",
-        "",
-        "about: it is new\nbroken: it is new\ncontact: it is new\nempty: it is new\nfooter: it is new\n\
-         guide/start: it is new\nguide/units: it is new\nindex: it is new\nloop: it is new\nnews: it is new\n",
-    ),
+    ("", "", NEW),
     (
         "about",
         "# About us\n\nFour people.\n\ninclude footer\n",
@@ -178,6 +209,26 @@ const EDITS: &[(&str, &str, &str)] = &[
     ("lost", "Found.\n", ""),
 ];
 
+/// Whether the pages of a site are rendered again for these reasons. How many calls ran and were hits, too.
+fn explains<R: Threads + Wait + Sync>(
+    rt: &R,
+    alloc: Global,
+    shared: &SharedBuilt,
+    site: &Site,
+    names: &[Text],
+    settings: Settings,
+    expected: &str,
+) -> Option<Tally> {
+    let Ok(pages) = publish_all(rt, alloc, shared, site, names, settings) else {
+        return None;
+    };
+    if are_explained(alloc, names, pages.as_slice(), expected) {
+        Some(tally_of(pages.as_slice()))
+    } else {
+        None
+    }
+}
+
 #[test]
 fn an_edit_is_explained(rt: HostRuntime) -> Result<(), Fail> {
     let alloc = rt.alloc();
@@ -188,101 +239,140 @@ fn an_edit_is_explained(rt: HostRuntime) -> Result<(), Fail> {
         if *name != "" {
             set(alloc, &mut site, *name, *source)?;
         }
-        let pages = publish_all(&rt, alloc, &shared, &site, names, SETTINGS)?;
-        let (lines, _) = reasons(alloc, names, pages.as_slice())?;
-        let is_so = lines.as_str() == *expected;
-        assert!(rt; is_so, "{lines}");
+        let said = explains(&rt, alloc, &shared, &site, names, SETTINGS, *expected);
+        assert!(rt; said.is_some(), "{name:?} is {source:?}");
     }
     // gone again: as before, so each page is a hit
     site.remove("lost");
-    let pages = publish_all(&rt, alloc, &shared, &site, names, SETTINGS)?;
-    let (lines, tally) = reasons(alloc, names, pages.as_slice())?;
-    assert_eq!(rt; lines.as_str(), "");
-    assert_eq!(rt; tally, Tally { runs: 0, hits: 10 });
+    let again = explains(&rt, alloc, &shared, &site, names, SETTINGS, "");
+    assert!(rt; again == Some(Tally { runs: 0, hits: 10 }));
     // nothing is kept: the ten pages, the three that are in others, and twice the one that is in itself
     shared.0.evict(&rt, 0);
     let one = Settings {
         jobs: 1,
         ..SETTINGS
     };
-    let pages = publish_all(&rt, alloc, &shared, &site, names, one)?;
-    let (_, tally) = reasons(alloc, names, pages.as_slice())?;
-    assert_eq!(rt; tally, Tally { runs: 15, hits: 2 });
+    let anew = explains(&rt, alloc, &shared, &site, names, one, NEW);
+    assert!(rt; anew == Some(Tally { runs: 15, hits: 2 }));
     Ok(())
+}
+
+/// Whether a change reaches just these pages, each followed by a space.
+fn reaches(
+    alloc: Global,
+    names: &[Text],
+    pages: &[Result<Published, Fault>],
+    is_title: bool,
+    name: &str,
+    expected: &str,
+) -> bool {
+    let Ok(changed) = Text::from_str(alloc, name) else {
+        return false;
+    };
+    let changed = if is_title {
+        [SiteCall::TitleOf(changed)]
+    } else {
+        [SiteCall::BlocksOf(changed)]
+    };
+    let mut left = expected;
+    for (name, page) in names.iter().zip(pages) {
+        let Ok(page) = page else {
+            return false;
+        };
+        if is_reached(&page.reads, changed.as_slice()) {
+            let Some((first, rest)) = left.split_once(' ') else {
+                return false;
+            };
+            if name.as_str() != first {
+                return false;
+            }
+            left = rest;
+        }
+    }
+    left.is_empty()
 }
 
 #[test]
 fn a_change_reaches_who_asked(rt: HostRuntime) -> Result<(), Fail> {
     let alloc = rt.alloc();
     let (site, names) = ten_pages(alloc)?;
+    let names = names.as_slice();
     let shared: SharedBuilt = (Cache::new(alloc), Cache::new(alloc));
-    let pages = publish_all(&rt, alloc, &shared, &site, names.as_slice(), SETTINGS)?;
-    let call = |name| Text::from_str(alloc, name);
-    let cases = [
-        (
-            SiteCall::BlocksOf(call("footer")?),
-            "about contact footer index ",
-        ),
-        (SiteCall::TitleOf(call("footer")?), "index "),
-        (
-            SiteCall::TitleOf(call("index")?),
-            "about contact footer index ",
-        ),
-        (SiteCall::BlocksOf(call("news")?), "index news "),
-        (SiteCall::TitleOf(call("nowhere")?), "broken "),
-        (SiteCall::BlocksOf(call("lost")?), "broken "),
-        (SiteCall::BlocksOf(call("other")?), ""),
+    let pages = publish_all(&rt, alloc, &shared, &site, names, SETTINGS)?;
+    let changes: &[(bool, &str, &str)] = &[
+        (false, "footer", "about contact footer index "),
+        (true, "footer", "index "),
+        (true, "index", "about contact footer index "),
+        (false, "news", "index news "),
+        (true, "nowhere", "broken "),
+        (false, "lost", "broken "),
+        (false, "other", ""),
     ];
-    for (changed, expected) in cases {
-        let changed = [changed];
-        let mut reached = String::new(alloc);
-        for (name, page) in names.iter().zip(&pages) {
-            if let Ok(page) = page {
-                if is_reached(&page.reads, changed.as_slice()) {
-                    reached.push_str(name.as_str())?;
-                    reached.push(' ')?;
-                }
-            }
-        }
-        assert_eq!(rt; reached.as_str(), expected);
+    for (is_title, name, expected) in changes {
+        let is_so = reaches(alloc, names, pages.as_slice(), *is_title, *name, *expected);
+        assert!(rt; is_so, "{name}, its title: {is_title}");
     }
     Ok(())
 }
 
+/// Whether a document is written where there was none or another, and not where it was there.
+fn is_written_if_new(pages: &[Result<Published, Fault>]) -> bool {
+    let Some(Ok(page)) = pages.get(3) else {
+        return false;
+    };
+    let is_new = is_changed(None, &page.document);
+    let is_other = is_changed(Some(b""), &page.document);
+    is_new && is_other && !is_changed(Some(EMPTY), &page.document)
+}
+
 #[test]
-fn reports_are_printed(rt: HostRuntime) -> Result<(), Fail> {
+fn a_document_is_written_if_it_is_new(rt: HostRuntime) -> Result<(), Fail> {
     let alloc = rt.alloc();
     let (site, names) = ten_pages(alloc)?;
     let shared: SharedBuilt = (Cache::new(alloc), Cache::new(alloc));
     let pages = publish_all(&rt, alloc, &shared, &site, names.as_slice(), SETTINGS)?;
-    if let Some(Ok(page)) = pages.get(3) {
-        assert!(rt; is_changed(None, &page.document));
-        assert!(rt; is_changed(Some(b""), &page.document));
-        assert!(rt; !is_changed(Some(EMPTY), &page.document));
-    }
+    assert!(rt; is_written_if_new(pages.as_slice()));
+    Ok(())
+}
+
+/// Whether the line of a round is as its documentation says.
+fn is_round_line(alloc: Global) -> bool {
     let mut tally = Tally::new();
     tally.count_run();
     tally.count_hit();
     let same = tally;
     tally.add(same);
-    let line = round_line(alloc, 7, 1, tally, 12)?;
-    assert_eq!(rt;
-        line.as_str(),
-        "round 7: pages changed 1, calls run 2, calls hit 2, 12 ms"
-    );
+    let Ok(line) = round_line(alloc, 7, 1, tally, 12) else {
+        return false;
+    };
+    line.as_str() == "round 7: pages changed 1, calls run 2, calls hit 2, 12 ms"
+}
+
+/// Whether the line of a summary is as its documentation says.
+fn is_summary_line(alloc: Global) -> bool {
     let mut summary = Summary::new();
     summary.written = 3;
-    let line = summary.line(alloc)?;
-    assert_eq!(rt;
-        line.as_str(),
-        "written 3, unchanged 0, failed 0, warnings 0"
-    );
-    let deep = Warning::TooDeep(Text::from_str(alloc, "b")?);
-    let line = warning_line(alloc, "a", &deep)?;
-    assert_eq!(rt; line.as_str(), "a: b is included too deep");
-    assert_eq!(rt; page_name("a/b.md"), Some("a/b"));
-    assert_eq!(rt; page_name("b.txt"), Some("b"));
-    assert_eq!(rt; page_name("b.html"), None);
-    assert_eq!(rt; document_path(alloc, "a/b")?.as_str(), "a/b.html");
-    Ok(())
+    let Ok(line) = summary.line(alloc) else {
+        return false;
+    };
+    line.as_str() == "written 3, unchanged 0, failed 0, warnings 0"
+}
+
+/// Whether the path of a document is as its documentation says.
+fn is_path(alloc: Global) -> bool {
+    let Ok(path) = document_path(alloc, "a/b") else {
+        return false;
+    };
+    path.as_str() == "a/b.html"
+}
+
+#[test]
+fn reports_are_printed(rt: HostRuntime) {
+    let alloc = rt.alloc();
+    assert!(rt; is_round_line(alloc));
+    assert!(rt; is_summary_line(alloc));
+    assert!(rt; is_path(alloc));
+    assert!(rt; page_name("a/b.md") == Some("a/b"));
+    assert!(rt; page_name("b.txt") == Some("b"));
+    assert!(rt; page_name("b.html") == None);
 }
