@@ -45,6 +45,11 @@ module _ {E : Type 0} where
   some_led (Some es) None P h = (es, h.0, h.1)
   some_led None o' P h = h
 
+  -- what was found in entries that are not told
+  pub found_untold : {A X : Type 0} (Q : E → A → Type 0) (es : E) (r : Result A X) → IfOk r (Q es) → IfOk r (λ found. Held None (λ x. Q x found))
+  found_untold Q es (Ok a) p = (es, p)
+  found_untold Q es (Err e) p = tt
+
   -- what was stored between entries that are not told
   pub stored_in : {A X : Type 0} (P : E → E → Type 0) (es es' : E) (r : Result A X) → OnOk r (P es es') → OnOk r ((one : E) × (two : E) × P one two)
   stored_in P es es' (Ok a) p = (es, es', p)
