@@ -8,8 +8,8 @@ use Rattle.calc_lines.proofs.Steps.{failed_as}
 use Rattle.calc_lines.proofs.output.put.Goals as goal
 
 -- what was written goes on by the first n of the rest
-moves_front : (all done rest : List ℕ) (n : ℕ) → all ≡ done ++ rest → all ≡ (done ++ take n rest) ++ take (length rest - n) (drop n rest)
-moves_front all done rest n e =
+moves_prefix : (all done rest : List ℕ) (n : ℕ) → all ≡ done ++ rest → all ≡ (done ++ take n rest) ++ take (length rest - n) (drop n rest)
+moves_prefix all done rest n e =
     e ∙ ap (λ l. done ++ l) (sym (take-append-drop n rest)) ∙ sym (append_assoc done (take n rest) (drop n rest)) ∙ ap (λ l. (done ++ take n rest) ++ l) (sym (take_rest rest n))
 
 -- what was written is a beginning, and not all
@@ -31,4 +31,4 @@ loop-rest-preserved g c =
     let (done, split, appended) = c.loop-rest.invariant in
     let rest = c.loop-rest.rest.now in
     let n = c.in_ok-count.count in
-    (done ++ take n rest, moves_front _ done rest n split, Appends-trans _ _ _ _ _ appended c.in_ok-count.ensures.bytes)
+    (done ++ take n rest, moves_prefix _ done rest n split, Appends-trans _ _ _ _ _ appended c.in_ok-count.ensures.bytes)
