@@ -1,5 +1,5 @@
 -- How a call began, or why it failed to begin.
-use Rattle.std.specs.Prelude.{◌≡◌, List, [], ◌∷◌, ◌++◌, Option}
+use Rattle.std.specs.Prelude.{List, [], Option}
 use Rattle.comemo_cache.specs.Meaning.{Meaning, Invocation}
 use Rattle.comemo_cache.specs.Cache.{Entries, Touches}
 use Rattle.comemo_cache.specs.Held.{Held, Leads, Stays}
@@ -20,10 +20,6 @@ abbrev pub OnFault : Fault → Type 0 → Type 0 → Type 0
 OnFault fault.Memory P Q = P
 OnFault fault.Write P Q = Q
 OnFault fault.Incomplete P Q = ⊥
-
--- a list of writes was done up to one: P holds of the writes before it and of that one
-abbrev pub StopsIn : {C : Type 0} → List C → (List C → C → Type 0) → Type 0
-StopsIn {C} writes P = (prefix : List C) × (next : C) × (rest : List C) × (writes ≡ prefix ++ next ∷ rest) × P prefix next
 
 module _ {K C R O : Type 0} (M : Meaning K C R O) (call : Invocation K C R) (before : Option (Entries K C R O)) (done : List C → Type 0) where
   -- a hit returned this output and touched its entry, from these entries before it to those after it

@@ -1,6 +1,6 @@
 //! Calls of memoized functions, from begin to end: a hit, or a run, which is finished and stored if possible, or given
 //! up. Each call clones its key, also for a hit. On error each function here makes its sink incomplete.
-ghost use Rattle.std.specs.Prelude.{◌≡◌, ◌≤◌, [], ◌↔◌, List, Bool, true, false, length, IsTrue, IfOk, IfErr, IfSome, IfNone, OnOk, OnErr, Ok, Err, ⊤};
+ghost use Rattle.std.specs.Prelude.{◌≡◌, ◌≤◌, [], ◌∷◌, ◌++◌, ◌↔◌, List, Bool, true, false, length, IsTrue, IfOk, IfErr, IfSome, IfNone, OnOk, OnErr, Ok, Err, ⊤};
 ghost use Rattle.std.specs.List.{All};
 ghost use Rattle.comemo_base.specs.Tree.{IsSamePath};
 ghost use Rattle.comemo_cache.specs.Meaning.{Invocation, SameWrites, IsNamedRun, exactly, invocation, run};
@@ -8,7 +8,7 @@ ghost use Rattle.comemo_cache.specs.Cache.{Stands, HasNone};
 ghost use Rattle.comemo_cache.specs.Found.{TouchesFound};
 ghost use Rattle.comemo_tree.specs.Change.{HasAnswers};
 ghost use Rattle.comemo.specs.Begin.{Reaches, HasToRun, IsRun, came_to};
-ghost use Rattle.comemo.specs.Begun.{OnBegun, OnFault, StopsIn, BeganByHit, FailedToBegin};
+ghost use Rattle.comemo.specs.Begun.{OnBegun, OnFault, BeganByHit, FailedToBegin};
 ghost use Rattle.comemo.specs.Finish.{Ends, Gives, Finished, BreaksOffRun};
 ghost use Rattle.comemo_cache.specs.Held.{Held, Leads, Stays};
 
@@ -529,10 +529,10 @@ fn replay<In: Input, S: Sink<Call = In::Call, Answer = In::Answer>>(
     ensures done { OnOk result (In.did input.old input.new writes.items) }
     ensures sent { OnOk result (S.took sink.old sink.new [] writes.items) }
     ensures fault { IfErr result (λ fault. fault ≡ Fault.Write) }
-    ensures err { OnErr result (StopsIn writes.items (λ prefix next.
-        In.did input.old input.new prefix
+    ensures err { OnErr result ((prefix : List In.Call) × (next : In.Call) × (rest : List In.Call)
+        × (writes.items ≡ prefix ++ next ∷ rest) × In.did input.old input.new prefix
         × ⟦<S as Breaking>⟧.spoiled_after sink.old sink.new [] prefix
-        × (In.Call.is_write next ≡ true))) }
+        × (In.Call.is_write next ≡ true)) }
 {
     for write in writes {
         let Ok(()) = input.call_mut(&write) else {
@@ -598,10 +598,11 @@ where
     ensures err { IfErr result (λ fault. OnFault fault
         (Stays (H.entries cache.old) (H.entries cache.new) × In.did input.old input.new []
         × ⟦<S as Breaking>⟧.breaks_off sink.old sink.new found.pairs.items)
-        (StopsIn found.writes.items (λ prefix next. In.did input.old input.new prefix
+        ((prefix : List M.Call) × (next : M.Call) × (rest : List M.Call)
+        × (found.writes.items ≡ prefix ++ next ∷ rest) × In.did input.old input.new prefix
         × ⟦<S as Breaking>⟧.spoiled_after sink.old sink.new found.pairs.items prefix
         × (M.Call.is_write next ≡ true) × Leads (H.entries cache.old) (H.entries cache.new)
-        (TouchesFound M.Answer.eq M.Key.eq key.now found.pairs.items found.age)))) }
+        (TouchesFound M.Answer.eq M.Key.eq key.now found.pairs.items found.age))) }
 {
     let Ok(answers) = answers_of_aged(alloc, &found) else {
         sink.spoil();
@@ -641,9 +642,10 @@ where
     ensures sent { OnOk result (S.took sink.old sink.new [] peeked.writes.items) }
     ensures err { IfErr result (λ fault. OnFault fault
         (In.did input.old input.new [] × ⟦<S as Breaking>⟧.breaks_off sink.old sink.new [])
-        (StopsIn peeked.writes.items (λ prefix next. In.did input.old input.new prefix
+        ((prefix : List M.Call) × (next : M.Call) × (rest : List M.Call)
+        × (peeked.writes.items ≡ prefix ++ next ∷ rest) × In.did input.old input.new prefix
         × ⟦<S as Breaking>⟧.spoiled_after sink.old sink.new [] prefix
-        × (M.Call.is_write next ≡ true)))) }
+        × (M.Call.is_write next ≡ true))) }
 {
     let Peeked {
         output,
