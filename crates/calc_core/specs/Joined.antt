@@ -31,7 +31,7 @@ touches = part_touches (λ _ _. false) (λ _ _. false)
 -- the meaning of a function of a key and the files, given this one and plain outputs; no call is a write, and it names no asked
 -- calls
 abbrev pub joined : {K O : Type 0} → (K → K → Bool) → (K × ⊤ → (JoinedCall → JoinedAnswer) → O → List JoinedCall → Type 0) → Meaning (K × ⊤) JoinedCall JoinedAnswer O
-joined same right = record { same_call = same_call; same_answer = same_answer; same_key = same_key same; is_write = by_part (λ _. false) (λ _. false); is_clone = λ a b. b ≡ a; right = def; naming = unnamed }
+joined same right = record { same_call = same_call; same_answer = same_answer; same_key = same_key same; is_write = by_part (λ _. false) (λ _. false); is_clone = λ a b. b ≡ a; right = right; naming = unnamed }
 
 -- its call at a key and these files
 abbrev pub with_files : {K : Type 0} → K → Files → Invocation (K × ⊤) JoinedCall JoinedAnswer
