@@ -220,8 +220,10 @@ fn publish_shared<R: Wait>(
     name: &Text,
     settings: Settings,
 ) -> Result<Published, Fault>
-    ensures { IfOk result
+    ensures published { IfOk result
         (IsPublished (site_answer site.now.pages) settings.limit name.now) }
+    ensures stays { IfOk result
+        (StaysPublished (site_answer site.now.pages) settings.limit name.now) }
 {
     let mut kept = (shared.0.hold(rt), shared.1.hold(rt));
     publish_page(alloc, &mut kept, site, name, settings)
@@ -243,12 +245,23 @@ fn fill<R: Threads + Wait + Sync>(
     ensures published { (i : ℕ) (d : _) (e : _) → i < length names.now
         → IfOk (slice_index_or pages.new i e) (IsPublished (site_answer site.now.pages)
         settings.limit (slice_index_or names.now i d)) }
+    ensures stays { (i : ℕ) (d : _) (e : _) → i < length names.now
+        → IfOk (slice_index_or pages.new i e) (StaysPublished (site_answer site.now.pages)
+        settings.limit (slice_index_or names.now i d)) }
 {
     for_each_mut(
         rt,
         pages,
         settings.jobs,
-        &|i, page| *page = publish_shared(rt, alloc, shared, site, &names[i], settings),
+        &|i, page|
+            requires { i < length names.now }
+            ensures published { (d : _) → IfOk page.new (IsPublished
+                (site_answer site.entry.now.pages) settings.limit
+                (slice_index_or names.entry.now i d)) }
+            ensures stays { (d : _) → IfOk page.new (StaysPublished
+                (site_answer site.entry.now.pages) settings.limit
+                (slice_index_or names.entry.now i d)) }
+        { *page = publish_shared(rt, alloc, shared, site, &names[i], settings) },
     );
 }
 
@@ -262,8 +275,11 @@ pub fn publish_all<R: Threads + Wait + Sync>(
     settings: Settings,
 ) -> Result<Vec<Result<Published, Fault>>, AllocError>
     requires { 0 < settings.jobs }
-    ensures { IfOk result (λ pages. (i : ℕ) (d : _) (e : _) → i < length names.now
+    ensures published { IfOk result (λ pages. (i : ℕ) (d : _) (e : _) → i < length names.now
         → IfOk (slice_index_or pages.items i e) (IsPublished (site_answer site.now.pages)
+        settings.limit (slice_index_or names.now i d))) }
+    ensures stays { IfOk result (λ pages. (i : ℕ) (d : _) (e : _) → i < length names.now
+        → IfOk (slice_index_or pages.items i e) (StaysPublished (site_answer site.now.pages)
         settings.limit (slice_index_or names.now i d))) }
 {
     let mut pages: Vec<Result<Published, Fault>> = Vec::new(alloc);
