@@ -15,11 +15,10 @@ use comemo_site::tally::Tally;
 use comemo_site::text::Text;
 use std::alloc::Global;
 use std::collections::{BTreeMap, BTreeSet, HashMap};
-use std::io::ErrorKind;
 use std::rt::Runtime;
 use std::sync::Wait;
 use std::thread::Threads;
-use std::{fs, mem};
+use std::{fs, io, mem};
 
 /// How deep includes go.
 const LIMIT: u64 = 8;
@@ -79,6 +78,14 @@ fn give_reason<R: Runtime + AllocGlobal>(rt: &R, name: &Text, page: &Published) 
     Ok(())
 }
 
+/// What is wrong with a file that cannot be read.
+fn unread<R: AllocGlobal>(rt: &R, file: &str, error: &io::Error) -> Result<String> {
+    if error.kind() == io::ErrorKind::InvalidData {
+        return Ok(format!(in rt.alloc(); "{file}: not UTF-8")?);
+    }
+    Ok(format!(in rt.alloc(); "{file}: {error}")?)
+}
+
 impl<'a> Builder<'a> {
     /// No pages.
     pub fn new<R: AllocGlobal>(rt: &R, request: Request<'a>, explains: bool) -> Self {
@@ -123,6 +130,18 @@ impl<'a> Builder<'a> {
         Ok(())
     }
 
+    /// What is wrong with a file whose page is another file's; `None` if it isn't.
+    fn taken<R: AllocGlobal>(&self, rt: &R, path: &str, name: &str) -> Result<Option<String>> {
+        let source = self.request.source;
+        match self.pages.get(name) {
+            Some(page) if page.path.as_str() != path => Ok(Some(format!(in rt.alloc();
+                "{source}/{path}: the page {name} is in {} already",
+                page.path.as_str()
+            )?)),
+            _ => Ok(None),
+        }
+    }
+
     /// The text of a file; `None`, and it is said why, if it cannot be read or its page is another file's.
     fn text_of<R: Runtime + AllocGlobal>(
         &mut self,
@@ -130,25 +149,14 @@ impl<'a> Builder<'a> {
         path: &str,
         name: &str,
     ) -> Result<Option<String>> {
-        let source = self.request.source;
-        if let Some(page) = self.pages.get(name) {
-            let owner = page.path.as_str();
-            if owner != path {
-                let what = format!(in rt.alloc();
-                    "{source}/{path}: the page {name} is in {owner} already"
-                )?;
-                self.fail(rt, what.as_str())?;
-                return Ok(None);
-            }
+        if let Some(what) = self.taken(rt, path, name)? {
+            self.fail(rt, what.as_str())?;
+            return Ok(None);
         }
-        let error = match fs::read_to_string(rt, format!(in rt.alloc(); "{source}/{path}")?) {
+        let file = format!(in rt.alloc(); "{}/{path}", self.request.source)?;
+        let what = match fs::read_to_string(rt, file.as_str()) {
             Ok(text) => return Ok(Some(text)),
-            Err(error) => error,
-        };
-        let what = if error.kind() == ErrorKind::InvalidData {
-            format!(in rt.alloc(); "{source}/{path}: not UTF-8")?
-        } else {
-            format!(in rt.alloc(); "{source}/{path}: {error}")?
+            Err(error) => unread(rt, file.as_str(), &error)?,
         };
         self.fail(rt, what.as_str())?;
         Ok(None)
