@@ -75,6 +75,17 @@ fn ten_pages(alloc: Global) -> Result<(Site, Vec<Text>), AllocError> {
     Ok((site, names))
 }
 
+/// What ends a line.
+const LINE_END: &[u8] = b"\n";
+
+/// What stands between two names.
+const SPACE: &[u8] = b" ";
+
+/// A text without a word that it begins with and what ends the word; `None` if it doesn't begin so.
+fn without<'a>(text: &'a [u8], word: &[u8], end: &[u8]) -> Option<&'a [u8]> {
+    text.strip_prefix(word)?.strip_prefix(end)
+}
+
 /// Whether the pages were rendered again for these reasons, a line for each.
 fn are_explained(
     alloc: Global,
@@ -82,7 +93,7 @@ fn are_explained(
     pages: &[Result<Published, Fault>],
     expected: &str,
 ) -> bool {
-    let mut left = expected;
+    let mut left = expected.as_bytes();
     for (name, page) in names.iter().zip(pages) {
         let Ok(page) = page else {
             return false;
@@ -91,12 +102,9 @@ fn are_explained(
             let Ok(line) = reason.line(alloc, name.as_str()) else {
                 return false;
             };
-            let Some((first, rest)) = left.split_once('\n') else {
+            let Some(rest) = without(left, line.as_bytes(), LINE_END) else {
                 return false;
             };
-            if line.as_str() != first {
-                return false;
-            }
             left = rest;
         }
     }
@@ -129,7 +137,7 @@ fn is_said(
     pages: &[Result<Published, Fault>],
     expected: &str,
 ) -> bool {
-    let mut left = expected;
+    let mut left = expected.as_bytes();
     for (name, page) in names.iter().zip(pages) {
         let Ok(page) = page else {
             return false;
@@ -138,12 +146,9 @@ fn is_said(
             let Ok(line) = warning_line(alloc, name.as_str(), warning) else {
                 return false;
             };
-            let Some((first, rest)) = left.split_once('\n') else {
+            let Some(rest) = without(left, line.as_bytes(), LINE_END) else {
                 return false;
             };
-            if line.as_str() != first {
-                return false;
-            }
             left = rest;
         }
     }
@@ -274,18 +279,15 @@ fn reaches(
     } else {
         [SiteCall::BlocksOf(changed)]
     };
-    let mut left = expected;
+    let mut left = expected.as_bytes();
     for (name, page) in names.iter().zip(pages) {
         let Ok(page) = page else {
             return false;
         };
         if is_reached(&page.reads, changed.as_slice()) {
-            let Some((first, rest)) = left.split_once(' ') else {
+            let Some(rest) = without(left, name.as_str().as_bytes(), SPACE) else {
                 return false;
             };
-            if name.as_str() != first {
-                return false;
-            }
             left = rest;
         }
     }
