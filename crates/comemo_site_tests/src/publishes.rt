@@ -1,5 +1,7 @@
 //! A site of ten pages: its documents, its warnings, and what an edit renders again and why.
 
+ghost use Rattle.std.specs.Prelude.{◌<◌};
+
 use comemo::{Cache, Fault};
 use comemo_site::log::Warning;
 use comemo_site::names::{document_path, page_name};
@@ -223,7 +225,9 @@ fn explains<R: Threads + Wait + Sync>(
     names: &[Text],
     settings: Settings,
     expected: &str,
-) -> Option<Tally> {
+) -> Option<Tally>
+    requires { 0 < settings.jobs }
+{
     let Ok(pages) = publish_all(rt, alloc, shared, site, names, settings) else {
         return None;
     };
