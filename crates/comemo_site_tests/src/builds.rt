@@ -248,7 +248,8 @@ fn ends_too_deep(warnings: &[Warning]) -> bool {
 /// many warnings.
 fn publishes(
     alloc: Global,
-    kept: &mut (CacheData<Publish>, (Global, Built)),
+    cache: &mut CacheData<Publish>,
+    needs: &mut (Global, Built),
     site: &Site,
     limit: u64,
     how: How,
@@ -265,8 +266,7 @@ fn publishes(
     };
     let key = (name, limit);
     let top = &mut Top::new();
-    let Ok(reply) = memoized_mut_with(alloc, &mut kept.0, &mut kept.1, key, &mut both, top, true)
-    else {
+    let Ok(reply) = memoized_mut_with(alloc, cache, needs, key, &mut both, top, true) else {
         return false;
     };
     let is_so = reply.how == how && is_repeated(reply.output.as_bytes(), times);
@@ -280,8 +280,8 @@ fn a_page_that_is_a_hit_warns_again(rt: HostRuntime) -> Result<(), Fail> {
     let mut site = small_site(alloc)?;
     let source = "see\n\nlink nowhere\ninclude broken\n";
     set(alloc, &mut site, "broken", source)?;
-    let built = (CacheData::new(alloc), CacheData::new(alloc));
-    let mut kept = (CacheData::new(alloc), (alloc, built));
+    let mut cache: CacheData<Publish> = CacheData::new(alloc);
+    let mut needs = (alloc, (CacheData::new(alloc), CacheData::new(alloc)));
     // pages that are kept stand last: broken at 3 does the warnings of broken at 2 again by a hit
     let calls: &[(u64, How, usize, usize, usize)] = &[
         (2, How::Stored, 2, 3, 2),
@@ -289,9 +289,11 @@ fn a_page_that_is_a_hit_warns_again(rt: HostRuntime) -> Result<(), Fail> {
         (3, How::Stored, 3, 4, 3),
     ];
     for (limit, how, times, warnings, pages) in calls {
-        let is_so = publishes(alloc, &mut kept, &site, *limit, *how, *times, *warnings);
+        let is_so = publishes(
+            alloc, &mut cache, &mut needs, &site, *limit, *how, *times, *warnings,
+        );
         assert!(rt; is_so, "{limit} by {how:?}");
-        assert_eq!(rt; (kept.1.1.0.len(), kept.1.1.1.len()), (*pages, 1));
+        assert_eq!(rt; (needs.1.0.len(), needs.1.1.len()), (*pages, 1));
     }
     Ok(())
 }
