@@ -53,7 +53,8 @@ fn small_site(alloc: Global) -> Result<Site, AllocError> {
     Ok(site)
 }
 
-/// Whether a page of the site, after an edit of another or of none, is this HTML, and so many pages and titles are kept.
+/// Whether a page of the site, after an edit of another or of none, is this HTML, and so many pages and titles are
+/// kept.
 fn renders(
     alloc: Global,
     kept: &mut Kept,
@@ -75,8 +76,8 @@ fn renders(
     page.as_bytes() == html && (kept.0.len(), kept.1.len()) == count
 }
 
-/// Edits of the small site: the page that changes, if any, and its source; the page that is rendered then, and its HTML;
-/// and how many pages and titles are kept.
+/// Edits of the small site: the page that changes, if any, and its source; the page that is rendered then, and its
+/// HTML; and how many pages and titles are kept.
 const EDITS: &[(&str, &str, &str, &[u8], usize, usize)] = &[
     // home at 4 and footer at 3; the titles of about and of home
     ("", "", "home", HOME_HTML, 2, 2),
