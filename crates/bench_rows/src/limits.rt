@@ -17,7 +17,7 @@ fn one_under(
     evaluate(
         alloc,
         cache,
-        &files.track(alloc),
+        &files.view(alloc),
         "1",
         limit,
         &mut Top::new(),

@@ -32,7 +32,7 @@ fn said_after(
     reads: &[PlaceCall],
     recording: &mut Constraint<PlaceCall, PlaceAnswer>,
 ) -> Result<String, AllocError> {
-    let mut view = place.track(alloc);
+    let mut view = place.view(alloc);
     let mut location = None;
     let mut styles = None;
     for read in reads {
@@ -55,7 +55,7 @@ fn text_at(
     reads: &[PlaceCall],
 ) -> Result<Reply<String>, Fault> {
     let place = Place::at(alloc, location)?;
-    match begin(alloc, cache, &mut place.track(alloc), &mut Top::new(), true)? {
+    match begin(alloc, cache, &mut place.view(alloc), &mut Top::new(), true)? {
         Begun::Hit(output) => Ok(Reply {
             output,
             how: How::Hit,

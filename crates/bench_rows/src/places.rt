@@ -33,7 +33,7 @@ fn said_of(
     place: &Place,
     recording: &mut Constraint<PlaceCall, PlaceAnswer>,
 ) -> Result<String, AllocError> {
-    let mut view = place.track(alloc);
+    let mut view = place.view(alloc);
     let PlaceAnswer::At(location) = view.ask(PlaceCall::Location, recording)? else {
         return Err(AllocError);
     };
@@ -54,7 +54,7 @@ pub(crate) fn contextual<S: Sink<Call = PlaceCall, Answer = PlaceAnswer>>(
     sink: &mut S,
 ) -> Result<(Reply<String>, u64), Fault> {
     let before = place.asked();
-    let begun = begin(alloc, cache, &mut place.track(alloc), sink, true)?;
+    let begun = begin(alloc, cache, &mut place.view(alloc), sink, true)?;
     let asked = place.asked().wrapping_sub(before);
     match begun {
         Begun::Hit(output) => {

@@ -201,7 +201,7 @@ fn call_within(
     place: &Place,
     sink: &mut Constraint<PlaceCall, PlaceAnswer>,
 ) -> (Result<Reply<String>, Fault>, bool) {
-    match begin(alloc, outer, &mut place.track(alloc), sink, true) {
+    match begin(alloc, outer, &mut place.view(alloc), sink, true) {
         Ok(Begun::Hit(output)) => {
             let how = How::Hit;
             (Ok(Reply { output, how }), false)

@@ -4,8 +4,7 @@ ghost use Rattle.std.proofs.Common.{rules};
 use crate::broken::Broken;
 use crate::place::{PlaceAnswer, PlaceCall};
 use crate::places::AnySaid;
-use comemo::internal::Accelerated;
-use comemo::{Begun, CacheData, Constraint, Fault, How, Reply, Top, Track, begin};
+use comemo::{Begun, CacheData, Constraint, Fault, How, Reply, Top, Track, Tracked, begin};
 use std::alloc::{AllocError, Global};
 use std::sync::atomic::{AtomicU64, Ordering};
 
@@ -68,7 +67,7 @@ impl Track for Watched {
 /// The text for a place: where it is and, for the fifth only, how it is set.
 fn said_of(
     alloc: Global,
-    view: &mut Accelerated<'_, Watched>,
+    view: &mut Tracked<'_, Watched>,
     recording: &mut Constraint<PlaceCall, PlaceAnswer>,
 ) -> Result<String, AllocError> {
     let PlaceAnswer::At(location) = view.ask(PlaceCall::Location, recording)? else {
@@ -87,7 +86,7 @@ fn said_of(
 fn contextual(
     alloc: Global,
     cache: &mut CacheData<AnySaid>,
-    view: &mut Accelerated<'_, Watched>,
+    view: &mut Tracked<'_, Watched>,
 ) -> Result<Reply<String>, Fault> {
     match begin(alloc, cache, view, &mut Top::new(), true)? {
         Begun::Hit(output) => Ok(Reply {
@@ -108,7 +107,7 @@ fn contextual(
 pub(crate) fn a_view_asks_once(alloc: Global) -> Result<bool, Broken> {
     let place = Watched::at(alloc, 5)?;
     let mut cache = CacheData::new(alloc);
-    let mut view = place.track(alloc).accelerated(alloc);
+    let mut view = place.track(alloc);
     for how in [How::Stored, How::Hit, How::Hit] {
         let reply = contextual(alloc, &mut cache, &mut view)?;
         if reply.output.as_str() != "Twenty has styles" || reply.how != how {

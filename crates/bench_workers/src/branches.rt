@@ -1,6 +1,6 @@
 //! Branches of one run, each in a thread with its own recording and view.
 
-use comemo::{Constraint, Fault, Track, Tracked};
+use comemo::{Constraint, Fault, Track, View};
 use comemo_samples::{Cells, Get};
 use std::alloc::{AllocError, Global};
 use std::thread::{Threads, join};
@@ -8,7 +8,7 @@ use std::thread::{Threads, join};
 /// The recording of a branch that asks for two places.
 fn branch(
     alloc: Global,
-    view: &Tracked<'_, Cells>,
+    view: &View<'_, Cells>,
     places: [u32; 2],
 ) -> Result<Constraint<Get, u64>, AllocError> {
     let mut view = view.fork(alloc);
@@ -28,7 +28,7 @@ pub fn branches_are_absorbed_in_order<R: Threads + Sync>(
     for place in 0..3 {
         cells.set(place, place as u64 + 1);
     }
-    let view = cells.track(alloc);
+    let view = cells.view(alloc);
     let (left, right) = join(
         rt,
         || branch(alloc, &view, [0, 1]),

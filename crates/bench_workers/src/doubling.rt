@@ -22,7 +22,7 @@ pub fn doubled<H: Hold<Double>, G: Gate>(
     let nothing = ();
     let mut input = Keyed {
         key: &number,
-        view: nothing.track(alloc),
+        view: nothing.view(alloc),
     };
     let mut sink = Top::new();
     match begin(alloc, cache, &mut input, &mut sink, true)? {

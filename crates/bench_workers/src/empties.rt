@@ -45,7 +45,7 @@ fn empty_by<H: Hold<Empty>, G: Gate>(
     };
     let mut input = Keyed {
         key: &(),
-        view: context.track(alloc),
+        view: context.view(alloc),
     };
     let mut sink = Top::new();
     match begin(alloc, cache, &mut input, &mut sink, true)? {
@@ -54,7 +54,7 @@ fn empty_by<H: Hold<Empty>, G: Gate>(
             how: How::Hit,
         })),
         Begun::Run(mut pending) => {
-            let asked = context.track(alloc).ask(question, pending.recording());
+            let asked = context.view(alloc).ask(question, pending.recording());
             if asked.is_err() || !gate.reach(1) {
                 pending.give_up(&mut sink);
                 return Ok(None);

@@ -51,7 +51,7 @@ fn whole_by<H: Hold<Whole>, G: Gate>(
     };
     let mut input = Keyed {
         key: &(),
-        view: context.track(alloc),
+        view: context.view(alloc),
     };
     let mut sink = Top::new();
     match begin(alloc, cache, &mut input, &mut sink, true)? {
@@ -60,8 +60,8 @@ fn whole_by<H: Hold<Whole>, G: Gate>(
             how: How::Hit,
         })),
         Begun::Run(mut pending) => {
-            let one = context.track(alloc).ask(first, pending.recording());
-            let other = context.track(alloc).ask(second, pending.recording());
+            let one = context.view(alloc).ask(first, pending.recording());
+            let other = context.view(alloc).ask(second, pending.recording());
             if one.is_err() || other.is_err() || !gate.reach(1) {
                 pending.give_up(&mut sink);
                 return Ok(None);

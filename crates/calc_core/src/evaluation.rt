@@ -12,11 +12,11 @@
 //! files.write(String::from_str(alloc, "a")?, String::from_str(alloc, "1 + eval b")?)?;
 //! files.write(String::from_str(alloc, "b")?, String::from_str(alloc, "2")?)?;
 //! let mut cache = CacheData::new(alloc);
-//! let outer = evaluate(alloc, &mut cache, &files.track(alloc), "eval a", 8, &mut Top::new())?;
+//! let outer = evaluate(alloc, &mut cache, &files.view(alloc), "eval a", 8, &mut Top::new())?;
 //! assert_eq!(rt; (outer.output.value, outer.output.height), (Ok(3), 3));
 //!
 //! // What the run called is kept too.
-//! let inner = evaluate(alloc, &mut cache, &files.track(alloc), "1 + eval b", 8, &mut Top::new())?;
+//! let inner = evaluate(alloc, &mut cache, &files.view(alloc), "1 + eval b", 8, &mut Top::new())?;
 //! assert_eq!(rt; (inner.output.value, inner.how), (Ok(3), How::Hit));
 //! ```
 ghost use Rattle.std.specs.Prelude.{◌≡◌, ◌≢◌, ⊤, ◌<◌, ◌≤◌, ◌↔◌, ℕ, List, IfOk, OnOk, OnErr, Err};
@@ -43,8 +43,7 @@ use crate::files::{FileCall, Files, JoinedAnswer, JoinedCall, Text};
 use crate::scripts::{CalcFault, Outcome, Part, Parts, Total};
 use comemo::internal::{Breaking, Hashed, Multi, Pending};
 use comemo::{
-    Begun, CacheData, Constraint, Function, How, MultiAnswer, MultiCall, Reply, Sink, Tracked,
-    begin,
+    Begun, CacheData, Constraint, Function, How, MultiAnswer, MultiCall, Reply, Sink, View, begin,
 };
 use std::alloc::Global;
 
@@ -89,7 +88,7 @@ pub enum EvalFault {
 fn begin_script<S: Sink<Call = JoinedCall, Answer = JoinedAnswer>>(
     alloc: Global,
     cache: &mut CacheData<Eval>,
-    files: &Tracked<'_, Files>,
+    files: &View<'_, Files>,
     script: &Text,
     limit: u64,
     sink: &mut S,
@@ -160,7 +159,7 @@ macro_rules! evaluate_script {
 fn evaluate_part(
     alloc: Global,
     cache: &mut CacheData<Eval>,
-    files: &Tracked<'_, Files>,
+    files: &View<'_, Files>,
     part: Part<'_>,
     limit: u64,
     recording: &mut Constraint<JoinedCall, JoinedAnswer>,
@@ -206,7 +205,7 @@ fn evaluate_part(
 fn run_script(
     alloc: Global,
     cache: &mut CacheData<Eval>,
-    files: &Tracked<'_, Files>,
+    files: &View<'_, Files>,
     script: &Text,
     limit: u64,
     recording: &mut Constraint<JoinedCall, JoinedAnswer>,
@@ -245,7 +244,7 @@ fn run_script(
 fn evaluate_within(
     alloc: Global,
     cache: &mut CacheData<Eval>,
-    files: &Tracked<'_, Files>,
+    files: &View<'_, Files>,
     script: &Text,
     limit: u64,
     recording: &mut Constraint<JoinedCall, JoinedAnswer>,
@@ -268,7 +267,7 @@ fn evaluate_within(
 fn evaluate_text<S: Sink<Call = JoinedCall, Answer = JoinedAnswer>>(
     alloc: Global,
     cache: &mut CacheData<Eval>,
-    files: &Tracked<'_, Files>,
+    files: &View<'_, Files>,
     script: &Text,
     limit: u64,
     sink: &mut S,
@@ -296,7 +295,7 @@ fn evaluate_text<S: Sink<Call = JoinedCall, Answer = JoinedAnswer>>(
 pub fn evaluate<S: Sink<Call = JoinedCall, Answer = JoinedAnswer>>(
     alloc: Global,
     cache: &mut CacheData<Eval>,
-    files: &Tracked<'_, Files>,
+    files: &View<'_, Files>,
     script: &str,
     limit: u64,
     sink: &mut S,

@@ -7,11 +7,11 @@
 //! let mut files = Files::new(alloc);
 //! files.write(String::from_str(alloc, "a")?, String::from_str(alloc, "hello")?)?;
 //! let mut sizes = CacheData::new(alloc);
-//! let first = size(alloc, &mut sizes, &files.track(alloc), "a", &mut Top::new())?;
+//! let first = size(alloc, &mut sizes, &files.view(alloc), "a", &mut Top::new())?;
 //! assert_eq!(rt; (first.output, first.how), (5, How::Stored));
 //!
 //! files.write(String::from_str(alloc, "b")?, String::from_str(alloc, "other")?)?;
-//! let again = size(alloc, &mut sizes, &files.track(alloc), "a", &mut Top::new())?;
+//! let again = size(alloc, &mut sizes, &files.view(alloc), "a", &mut Top::new())?;
 //! assert_eq!(rt; (again.output, again.how), (5, How::Hit));
 //! ```
 ghost use Rattle.std.specs.Prelude.{◌≡◌, ℕ, List, [], false, refl, String, string_bytes, bytes_eq, if◌then◌else◌, IfOk, OnOk, OnErr};
@@ -26,7 +26,7 @@ pub mod measure;
 pub mod text;
 
 use comemo::internal::Second;
-use comemo::{Call, MultiAnswer, MultiCall, Sink, Track, Tracked};
+use comemo::{Call, MultiAnswer, MultiCall, Sink, Track, View};
 pub use measure::{FileSize, size};
 use std::alloc::{AllocError, Global};
 use std::collections::HashMap;
@@ -116,7 +116,7 @@ impl Files {
     /// Fails if copying the path or the sink does; the sink is then unchanged.
     pub fn read<S: Sink<Call = JoinedCall, Answer = JoinedAnswer>>(
         alloc: Global,
-        view: &Tracked<'_, Files>,
+        view: &View<'_, Files>,
         path: &str,
         sink: &mut S,
     ) -> Result<Text, AllocError>

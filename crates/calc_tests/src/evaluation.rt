@@ -28,7 +28,7 @@ fn comes_to(
     want: Result<(Outcome, How), EvalFault>,
     reads: usize,
 ) -> bool {
-    let view = files.track(alloc);
+    let view = files.view(alloc);
     let mut sink = Constraint::new(alloc);
     let came = match evaluate(alloc, cache, &view, script, limit, &mut sink) {
         Ok(Reply { output, how }) => Ok((output, how)),

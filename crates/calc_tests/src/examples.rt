@@ -82,14 +82,14 @@ fn of_files(rt: HostRuntime) -> Result<(), Fail> {
         String::from_str(alloc, "hello")?,
     )?;
     let mut sizes = CacheData::new(alloc);
-    let first = size(alloc, &mut sizes, &files.track(alloc), "a", &mut Top::new())?;
+    let first = size(alloc, &mut sizes, &files.view(alloc), "a", &mut Top::new())?;
     assert_eq!(rt; (first.output, first.how), (5, How::Stored));
 
     files.write(
         String::from_str(alloc, "b")?,
         String::from_str(alloc, "other")?,
     )?;
-    let again = size(alloc, &mut sizes, &files.track(alloc), "a", &mut Top::new())?;
+    let again = size(alloc, &mut sizes, &files.view(alloc), "a", &mut Top::new())?;
     assert_eq!(rt; (again.output, again.how), (5, How::Hit));
     Ok(())
 }
@@ -107,7 +107,7 @@ fn of_evaluation(rt: HostRuntime) -> Result<(), Fail> {
     let outer = evaluate(
         alloc,
         &mut cache,
-        &files.track(alloc),
+        &files.view(alloc),
         "eval a",
         8,
         &mut Top::new(),
@@ -118,7 +118,7 @@ fn of_evaluation(rt: HostRuntime) -> Result<(), Fail> {
     let inner = evaluate(
         alloc,
         &mut cache,
-        &files.track(alloc),
+        &files.view(alloc),
         "1 + eval b",
         8,
         &mut Top::new(),

@@ -19,11 +19,11 @@ fn sized_around_a_write(
     ensures { IfOk result (λ both. both.0.how ≡ How.Stored
         → (both.1.how ≡ How.Hit) × (both.1.output ≡ both.0.output)) }
 {
-    let before = size(alloc, cache, &files.track(alloc), path, &mut Top::new())?;
+    let before = size(alloc, cache, &files.view(alloc), path, &mut Top::new())?;
     let Ok(()) = files.write(other, text) else {
         return Err(Fault::Memory);
     };
-    let after = size(alloc, cache, &files.track(alloc), path, &mut Top::new())?;
+    let after = size(alloc, cache, &files.view(alloc), path, &mut Top::new())?;
     Ok((before, after))
 }
 

@@ -31,7 +31,7 @@ pub fn explain<M: Function<Call = T::Call, Answer = T::Answer>, H: Hold<M>, T: T
 {
     let mut input = Keyed {
         key,
-        view: of.track(alloc),
+        view: of.view(alloc),
     };
     cache.explain(alloc, key, &mut input)
 }

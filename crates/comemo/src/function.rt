@@ -14,7 +14,7 @@ use comemo_cache::cache::{Function, Meant};
 use comemo_cache::hold::Hold;
 use comemo_track::constraint::Constraint;
 use comemo_track::input::Keyed;
-use comemo_track::track::{Breaking, Call, Sink, Top, Track, Tracked};
+use comemo_track::track::{Breaking, Call, Sink, Top, Track, View};
 use std::alloc::Global;
 use std::marker::Model;
 
@@ -74,7 +74,7 @@ pub trait Run<T: Track>: Function<Call = T::Call, Answer = T::Answer> {
 #[derive(Drop)]
 pub struct Recorder<'a, T: Track> {
     pub(crate) alloc: Global,
-    pub(crate) view: Tracked<'a, T>,
+    pub(crate) view: View<'a, T>,
     pub(crate) recording: Constraint<T::Call, T::Answer>,
 }
 
@@ -92,7 +92,7 @@ impl<'a, T: Track> Model for Recorder<'a, T> {
 
 impl<'a, T: Track> Recorder<'a, T> {
     /// A recorder with an empty recording.
-    pub fn new(alloc: Global, view: Tracked<'a, T>) -> Self
+    pub fn new(alloc: Global, view: View<'a, T>) -> Self
         ensures value { result.value ≡ view.entry }
         ensures pairs { result.recording.pairs ≡ [] }
         ensures writes { result.recording.writes ≡ [] }
@@ -232,7 +232,7 @@ where
         × BrokeOff T.Answer.eq (T.answers of.now)
         (⟦<S as Breaking>⟧.breaks_off sink.old sink.new)) }
 {
-    memoized_view(alloc, cache, needs, key, &of.track(alloc), sink, enabled)
+    memoized_view(alloc, cache, needs, key, &of.view(alloc), sink, enabled)
 }
 
 /// As `memoized_with`, for a view of the value.
@@ -241,7 +241,7 @@ pub(crate) fn memoized_view<M: Run<T>, H: Hold<M>, T: Track, S>(
     cache: &mut H,
     needs: &mut M::Needs,
     key: M::Key,
-    of: &Tracked<'_, T>,
+    of: &View<'_, T>,
     sink: &mut S,
     enabled: bool,
 ) -> Result<Reply<M::Out>, Fault>
@@ -262,7 +262,7 @@ where
         view: of.fork(alloc),
     };
     // A hit returns at once: its reply as the value of the match would be moved twice.
-    match look_up(alloc, cache, &mut input, sink, enabled) {
+    match look_up(cache, &mut input, sink, enabled) {
         Ok(Begun::Hit(output)) => {
             return Ok(Reply {
                 output,
@@ -281,7 +281,7 @@ fn run_kept<M: Run<T>, H: Hold<M>, T: Track, S: Sink<Call = T::Call, Answer = T:
     cache: &mut H,
     needs: &mut M::Needs,
     key: M::Key,
-    of: &Tracked<'_, T>,
+    of: &View<'_, T>,
     sink: &mut S,
     enabled: bool,
 ) -> Result<Reply<M::Out>, Fault>

@@ -103,6 +103,9 @@ pub trait Records {
     ghost began: { Self → Recording Self.Call Self.Answer
         → (Lent Self.Of Self.Call Self.Answer → Type 0) → Type 0 };
 
+    // wherever such a run was begun, what its recorder is at last agrees
+    ghost agrees_after: { Self → Recording Self.Call Self.Answer → Self → Type 0 };
+
     // what a run learns from a question, a write or a call, which had this result
     ghost tells: { {X : Type 0} → Self → Self → Result X Fault
         → (X → (Self.Call → Self.Answer) → Type 0) → Type 0 };
@@ -145,6 +148,11 @@ impl<'a, 'b, T: Track> Records for RecorderMut<'a, 'b, T> {
     ghost began = { λ t around P. (s : Lent T T.Call T.Answer)
         → Within ⟦<T as Written>⟧.did T.Call.touches T.Answer.eq T.answers
         s (lent t.value t.recording) around → P s };
+
+    ghost agrees_after = { λ s around t. (w : Lent T T.Call T.Answer)
+        → Within ⟦<T as Written>⟧.did T.Call.touches T.Answer.eq T.answers
+        w (lent s.value s.recording) around
+        → ⟦<T as ToldMut>⟧.agrees (lent t.value t.recording) };
 
     ghost tells = { λ s t r P. TellsMut ⟦<T as ToldMut>⟧.goes ⟦<T as Told>⟧.fits
         (lent s.value s.recording) (lent t.value t.recording) r P };
@@ -226,7 +234,7 @@ impl<'a, 'b, T: Track> RecorderMut<'a, 'b, T> {
         ensures err { IfErr result (λ fault. (fault ≡ Fault.Memory)
             × ⟦<Self as Records>⟧.took self.old self.new [] []) }
     {
-        let mut view = self.value.track(self.alloc);
+        let mut view = self.value.view(self.alloc);
         Ok(view.ask(call, self.recording)?)
     }
 
@@ -273,7 +281,7 @@ impl<'a, 'b, T: Track> RecorderMut<'a, 'b, T> {
         ensures err { OnErr result (Stays (H.entries cache.old) (H.entries cache.new)
             × ⟦<Self as Records>⟧.broke_off self.old self.new) }
     {
-        let view = self.value.track(self.alloc);
+        let view = self.value.view(self.alloc);
         let reply = memoized_view(self.alloc, cache, needs, key, &view, self.recording, true)?;
         // For the proof: its pairs are reads, and its writes are writes.
         self.recording.reveal_reads_and_writes();

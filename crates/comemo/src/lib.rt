@@ -48,7 +48,7 @@ pub use comemo_base::{Prehashed, hash};
 pub use comemo_cache::{Cache, CacheData, Caches, Contents, Explanation, Function, Hold};
 pub use comemo_track::{
     Both, BothMut, Call, Constraint, MultiAnswer, MultiCall, ReadAndWrite, Sink, Top, Track,
-    Tracked,
+    Tracked, View,
 };
 pub use explanation::explain;
 pub use function::{Recorder, Run, memoized, memoized_with};

@@ -14,7 +14,7 @@ use comemo_cache::hold::Hold;
 use comemo_track::both::Both;
 use comemo_track::mapped::{CallMap, MappedSink};
 use comemo_track::multi::{First, MultiAnswer, MultiCall, Second};
-use comemo_track::track::{Track, Tracked};
+use comemo_track::track::{Track, View};
 
 impl<'a, T: Track> Recorder<'a, T> {
     /// As `call`, for a function of a part of the value: what it asked is recorded, renamed by a map.
@@ -23,7 +23,7 @@ impl<'a, T: Track> Recorder<'a, T> {
         cache: &mut H,
         needs: &mut G::Needs,
         key: G::Key,
-        of: &Tracked<'_, A>,
+        of: &View<'_, A>,
         map: P,
     ) -> Result<G::Out, Fault>
     where

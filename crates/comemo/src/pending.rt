@@ -563,13 +563,11 @@ fn answers_of<C: Call, R: Clone + Ord>(
 }
 
 /// Clones of the answers of a path that was found, or none if its entry has age 0 and needn't be touched.
-fn answers_of_aged<M: Function>(
-    alloc: Global,
-    found: &Found<M>,
-) -> Result<Vec<M::Answer>, AllocError>
+fn answers_of_aged<M: Function>(found: &Found<M>) -> Result<Vec<M::Answer>, AllocError>
     ensures { IfOk result (λ answers. (found.now.age ≡ 0 → ⊥)
         → HasAnswers M.Answer.eq found.now.pairs.items answers.items) }
 {
+    let alloc = *found.pairs.allocator();
     if found.age == 0 {
         return Ok(Vec::new(alloc));
     }
@@ -578,7 +576,6 @@ fn answers_of_aged<M: Function>(
 
 /// Sends the path that a look-up found, does and sends its writes, and returns its output.
 fn give_found<M: Function, H: Hold<M>, In, S>(
-    alloc: Global,
     cache: &mut H,
     key: &M::Key,
     found: Found<M>,
@@ -604,7 +601,7 @@ where
         × (M.Call.is_write next ≡ true) × Leads (H.entries cache.old) (H.entries cache.new)
         (TouchesFound M.Answer.eq M.Key.eq key.now found.pairs.items found.age))) }
 {
-    let Ok(answers) = answers_of_aged(alloc, &found) else {
+    let Ok(answers) = answers_of_aged(&found) else {
         sink.spoil();
         return Err(Fault::Memory);
     };
@@ -663,7 +660,6 @@ where
 /// Looks for an entry that agrees, with its path, and returns its output. The contract holds from each earlier state
 /// since which nothing was written: a caller may have peeked.
 fn look_hit<M: Function, H: Hold<M>, In, S>(
-    alloc: Global,
     cache: &mut H,
     key: &M::Key,
     input: &mut In,
@@ -684,7 +680,7 @@ where
 {
     match cache.look(key, input) {
         Ok(Some(found)) => {
-            let output = give_found(alloc, cache, key, found, input, sink)?;
+            let output = give_found(cache, key, found, input, sink)?;
             Ok(Some(output))
         }
         Ok(None) => Ok(None),
@@ -697,7 +693,6 @@ where
 
 /// Looks for an entry that agrees, and returns its output. If the sink ignores all, it peeks first, to clone no path.
 fn find_hit<M: Function, H: Hold<M>, In, S>(
-    alloc: Global,
     cache: &mut H,
     key: &M::Key,
     input: &mut In,
@@ -715,7 +710,7 @@ where
         true cache.old cache.new input.old input.new sink.old sink.new) }
 {
     if !sink.keeps_nothing() {
-        return look_hit(alloc, cache, key, input, sink);
+        return look_hit(cache, key, input, sink);
     }
     let peeked = match cache.peek(key, input) {
         Ok(Some(peeked)) => peeked,
@@ -727,7 +722,7 @@ where
     };
     // The entry has to be touched, by the answers of its path.
     if peeked.age > 0 {
-        return look_hit(alloc, cache, key, input, sink);
+        return look_hit(cache, key, input, sink);
     }
     let output = give_peeked(peeked, input, sink)?;
     Ok(Some(output))
@@ -735,7 +730,6 @@ where
 
 /// As `begin`, but returns a run's key, so that a hit makes no room for a recording.
 pub(crate) fn look_up<M: Function, H: Hold<M>, In, S>(
-    alloc: Global,
     cache: &mut H,
     input: &mut In,
     sink: &mut S,
@@ -759,7 +753,7 @@ where
     if !enabled {
         return Ok(Begun::Run(key));
     }
-    match find_hit(alloc, cache, &key, input, sink) {
+    match find_hit(cache, &key, input, sink) {
         Ok(Some(output)) => Ok(Begun::Hit(output)),
         Ok(None) => Ok(Begun::Run(key)),
         Err(fault) => Err(fault),
@@ -796,7 +790,7 @@ where
         (⟦<S as Breaking>⟧.spoiled_after sink.old sink.new) fault (H.entries cache.new)) }
 {
     // A hit returns at once: as the value of the match it would be moved with the room of a `Pending`.
-    match look_up(alloc, cache, input, sink, enabled) {
+    match look_up(cache, input, sink, enabled) {
         Ok(Begun::Hit(output)) => return Ok(Begun::Hit(output)),
         Ok(Begun::Run(key)) => Ok(Begun::Run(Pending {
             alloc,

@@ -56,7 +56,7 @@ impl<'a, T: Track> Recorder<'a, T> {
             key,
             view: self.view.fork(alloc),
         };
-        let own = match look_up(alloc, cache, &mut input, &mut self.recording, true) {
+        let own = match look_up(cache, &mut input, &mut self.recording, true) {
             Ok(Begun::Hit(output)) => return Ok(Begun::Hit(output)),
             Ok(Begun::Run(own)) => own,
             Err(fault) => return Err(fault),

@@ -137,7 +137,7 @@ impl<'a, 'b, T: Track> RecorderMut<'a, 'b, T> {
             key,
             value: self.value,
         };
-        let own = match look_up(alloc, cache, &mut input, self.recording, true) {
+        let own = match look_up(cache, &mut input, self.recording, true) {
             Ok(Begun::Hit(output)) => {
                 // For the proof: its pairs are reads, and its writes are writes.
                 self.recording.reveal_reads_and_writes();
@@ -163,8 +163,7 @@ impl<'a, 'b, T: Track> RecorderMut<'a, 'b, T> {
         requires agrees { ⟦<Self as Records>⟧.agrees self.old }
         requires right { IfOk ran (⟦<G as Nesting<H, Self>>⟧.right key.now self.old) }
         requires settled { IfOk ran (λ _. ⟦<G as Nesting<H, Self>>⟧.named key.now self.old) }
-        ensures agrees { ⟦<Self as Records>⟧.began self.old inner.around
-            (λ _. ⟦<Self as Records>⟧.agrees self.new) }
+        ensures agrees { ⟦<Self as Records>⟧.agrees_after self.old inner.around self.new }
         ensures tells { ⟦<Self as Records>⟧.began self.old inner.around (λ s.
             ⟦<Self as Writes>⟧.tells s self.new result
             (λ out m W. IsRight G.means G.writes key.now m out W)) }
@@ -195,8 +194,7 @@ impl<'a, 'b, T: Track> RecorderMut<'a, 'b, T> {
         requires agrees { ⟦<Self as Records>⟧.agrees self.old }
         requires right { IfOk ran (⟦<G as Nesting<H, Self>>⟧.right key.now self.old) }
         requires settled { IfOk ran (λ _. ⟦<G as Nesting<H, Self>>⟧.named key.now self.old) }
-        ensures agrees { ⟦<Self as Records>⟧.began self.old inner.around
-            (λ _. ⟦<Self as Records>⟧.agrees self.new) }
+        ensures agrees { ⟦<Self as Records>⟧.agrees_after self.old inner.around self.new }
         ensures tells { ⟦<Self as Records>⟧.began self.old inner.around (λ s.
             ⟦<Self as Writes>⟧.tells s self.new result
             (λ reply m W. IsRight G.means G.writes key.now m reply.output W)) }

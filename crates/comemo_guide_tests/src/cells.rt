@@ -113,8 +113,8 @@ fn is_shown(
         return false;
     };
     let both = Both {
-        first: sheet.track(alloc),
-        second: settings.track(alloc),
+        first: sheet.view(alloc),
+        second: settings.view(alloc),
     };
     match memoized_with(alloc, cache, numbers, key, &both, &mut Top::new(), true) {
         Ok(reply) => reply.output == shown && reply.how == how,
@@ -143,7 +143,7 @@ fn is_ranged(alloc: Global, kept: &mut Ranges, sheet: &Sheet, name: &str, value:
     let Ok(name) = String::from_str(alloc, name) else {
         return false;
     };
-    let mut recorder = Recorder::new(alloc, sheet.track(alloc));
+    let mut recorder = Recorder::new(alloc, sheet.view(alloc));
     match ranged(kept, name, 4, &mut recorder) {
         Ok(now) => now == Some(value),
         Err(_) => false,
@@ -161,7 +161,7 @@ fn is_range_total(
     let Ok(names) = names(alloc, cells) else {
         return false;
     };
-    let mut recorder = Recorder::new(alloc, sheet.track(alloc));
+    let mut recorder = Recorder::new(alloc, sheet.view(alloc));
     match range_total(kept, Range { names, limit: 4 }, &mut recorder) {
         Ok(now) => now == total,
         Err(_) => false,

@@ -216,8 +216,8 @@ fn compares(
 ) -> bool {
     let (one, other) = (town(one), town(other));
     let towns = comemo::Both {
-        first: one.track(alloc),
-        second: other.track(alloc),
+        first: one.view(alloc),
+        second: other.view(alloc),
     };
     match memoized(alloc, cache, (), &towns) {
         Ok(reply) => reply.output == is_warmer && reply.how == how,
@@ -255,8 +255,8 @@ fn leads(
 ) -> bool {
     let (one, other) = (town(one), town(other));
     let towns = comemo::Both {
-        first: one.track(alloc),
-        second: other.track(alloc),
+        first: one.view(alloc),
+        second: other.view(alloc),
     };
     match memoized_with(alloc, cache, kept, (), &towns, &mut Top::new(), true) {
         Ok(reply) => reply.output == lead && reply.how == how,

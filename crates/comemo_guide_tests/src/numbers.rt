@@ -7,7 +7,7 @@ use std::test::Fail;
 
 /// Whether this is the number at a place.
 fn is_number<H: Hold<Fib>>(alloc: Global, cache: &mut H, place: u64, number: u64) -> bool {
-    let mut recorder = Recorder::new(alloc, ().track(alloc));
+    let mut recorder = Recorder::new(alloc, ().view(alloc));
     match numbered(cache, place, &mut recorder) {
         Ok(found) => found == number,
         Err(_) => false,
@@ -42,7 +42,7 @@ fn a_shared_cache_keeps_them_too(rt: HostRuntime) {
 
 /// How a call of the number at place 0, made by hand, ends.
 fn how_it_went(alloc: Global, cache: &mut CacheData<Fib>) -> Result<How, Fault> {
-    let mut recorder = Recorder::new(alloc, ().track(alloc));
+    let mut recorder = Recorder::new(alloc, ().view(alloc));
     match recorder.begin(cache, &0)? {
         Begun::Hit(_) => Ok(How::Hit),
         Begun::Run(run) => {

@@ -70,7 +70,7 @@ fn is_totalled(
 ) -> bool {
     let mut book = Notebook::new(alloc, 7, room);
     let mut both = ReadAndWrite {
-        first: cells.track(alloc),
+        first: cells.view(alloc),
         second: &mut book,
     };
     let mut own: CacheData<NotesTotals> = CacheData::new(alloc);
@@ -152,10 +152,10 @@ fn is_compared(
     equal: bool,
 ) -> bool {
     let both = Both {
-        first: one.track(alloc),
-        second: other.track(alloc),
+        first: one.view(alloc),
+        second: other.view(alloc),
     };
-    let mut recorder = Recorder::new(alloc, both.track(alloc));
+    let mut recorder = Recorder::new(alloc, both.view(alloc));
     compared(cache, count, &mut recorder) == Ok(equal)
 }
 

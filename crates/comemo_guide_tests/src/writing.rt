@@ -131,7 +131,7 @@ fn a_town_is_read_by_another_function_and_a_counter_written(rt: HostRuntime) -> 
     for (people, degrees, how, sum, inner) in calls {
         let town = Town { people, degrees };
         let mut both = ReadAndWrite {
-            first: town.track(alloc),
+            first: town.view(alloc),
             second: &mut counter,
         };
         let reply = memoized_mut_with(
@@ -167,7 +167,7 @@ fn a_counter_that_is_written_is_read_too(rt: HostRuntime) -> Result<(), Fail> {
     for (number, how, sum) in calls {
         let mut counter = Counter { number };
         let mut both = ReadAndWrite {
-            first: town.track(alloc),
+            first: town.view(alloc),
             second: &mut counter,
         };
         let reply = memoized_mut(alloc, &mut cache, (), &mut both)?;
@@ -196,7 +196,7 @@ fn a_counter_is_written_by_another_function(rt: HostRuntime) -> Result<(), Fail>
             degrees,
         };
         let mut both = ReadAndWrite {
-            first: town.track(alloc),
+            first: town.view(alloc),
             second: &mut counter,
         };
         let reply = memoized_mut_with(

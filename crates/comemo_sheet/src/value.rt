@@ -88,6 +88,6 @@ pub fn value_now<H: Hold<Value>>(
 ) -> Result<Option<i64>, Fault>
     ensures { IfOk result (λ value. value ≡ value_of (cell_answer sheet.now.cells) limit name) }
 {
-    let mut recorder = Recorder::new(alloc, sheet.track(alloc));
+    let mut recorder = Recorder::new(alloc, sheet.view(alloc));
     valued(cache, name, limit, &mut recorder)
 }

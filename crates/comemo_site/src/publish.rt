@@ -69,7 +69,7 @@ pub fn page_built<B: Hold<Build>, T: Hold<Title>>(
 {
     let mut log = Log::new(alloc);
     let mut both = ReadAndWrite {
-        first: site.track(alloc),
+        first: site.view(alloc),
         second: &mut log,
     };
     let (html, reads, writes) = page_recorded(alloc, kept, tally, &mut both, name, limit)?;

@@ -83,7 +83,7 @@ pub fn reason_now<B: Hold<Build>>(
 {
     let mut log = Log::new(alloc);
     let both = ReadAndWrite {
-        first: site.track(alloc),
+        first: site.view(alloc),
         second: &mut log,
     };
     let key = (name.clone()?, limit);

@@ -104,6 +104,6 @@ pub fn page_now<P: Hold<Render>, T: Hold<Title>>(
 ) -> Result<Rendered, Fault>
     ensures { IfOk result (λ html. html ≡ page_html (site_answer site.now.pages) limit name) }
 {
-    let mut recorder = Recorder::new(alloc, site.track(alloc));
+    let mut recorder = Recorder::new(alloc, site.view(alloc));
     rendered(alloc, kept, name, limit, &mut recorder)
 }

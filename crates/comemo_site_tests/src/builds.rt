@@ -180,7 +180,7 @@ fn links(
         return false;
     };
     let mut both = ReadAndWrite {
-        first: site.track(alloc),
+        first: site.view(alloc),
         second: log,
     };
     let top = &mut Top::new();
@@ -262,7 +262,7 @@ fn publishes(
     };
     let mut log = Log::new(alloc);
     let mut both = ReadAndWrite {
-        first: site.track(alloc),
+        first: site.view(alloc),
         second: &mut log,
     };
     let key = (name, limit);

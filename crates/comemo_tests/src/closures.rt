@@ -2,7 +2,7 @@
 ghost use Rattle.std.specs.Prelude.{◌≡◌, IfOk, ◌+◌, ◌%◌, ◌^◌, ⊤};
 ghost use Rattle.std.proofs.Common.{rules};
 
-use comemo::{CacheData, Constraint, Fault, Function, How, Reply, Top, Track, Tracked, memoize};
+use comemo::{CacheData, Constraint, Fault, Function, How, Reply, Top, Track, View, memoize};
 use comemo_samples::{Context, ContextCall};
 use std::alloc::Global;
 
@@ -31,7 +31,7 @@ impl Function for SumOf {
 pub fn closed_sum(
     alloc: Global,
     cache: &mut CacheData<SumOf>,
-    context: &Tracked<'_, Context>,
+    context: &View<'_, Context>,
     enabled: bool,
 ) -> Result<Reply<u64>, Fault>
     ensures { IfOk result
@@ -43,7 +43,7 @@ pub fn closed_sum(
         &mut context.fork(alloc),
         &mut Top::new(),
         enabled,
-        |view: &mut Tracked<'_, Context>, recording: &mut Constraint<ContextCall, u64>| {
+        |view: &mut View<'_, Context>, recording: &mut Constraint<ContextCall, u64>| {
             let at = view.ask(ContextCall::Location, recording)?;
             let by = view.ask(ContextCall::Styles, recording)?;
             Ok(at.wrapping_add(by))
@@ -64,7 +64,7 @@ fn gives(
         location: 3,
         styles,
     };
-    match closed_sum(alloc, cache, &context.track(alloc), enabled) {
+    match closed_sum(alloc, cache, &context.view(alloc), enabled) {
         Ok(reply) => reply.output == sum && reply.how == how,
         Err(_) => false,
     }

@@ -6,7 +6,7 @@ ghost use Rattle.comemo.specs.Function.{WritesNone};
 use crate::inputs::LocationOf;
 use comemo::{
     Both, CacheData, Constraint, Fault, Function, MultiAnswer, MultiCall, Recorder, Run, Sink, Top,
-    Track, Tracked, memoize, memoized_with,
+    Track, View, memoize, memoized_with,
 };
 use comemo_samples::{Context, ContextCall};
 use std::alloc::Global;
@@ -148,12 +148,10 @@ fn is_told_of_closure(alloc: Global, fault: Fault) -> bool {
     let reply = memoize(
         alloc,
         &mut cache,
-        &mut context().track(alloc),
+        &mut context().view(alloc),
         &mut outer,
         true,
-        |_view: &mut Tracked<'_, Context>, _recording: &mut Constraint<ContextCall, u64>| Err(
-            fault,
-        ),
+        |_view: &mut View<'_, Context>, _recording: &mut Constraint<ContextCall, u64>| Err(fault),
     );
     reply.err() == Some(fault) && !outer.is_whole()
 }
@@ -166,10 +164,10 @@ fn is_told_of_spoiled(alloc: Global) -> bool {
     let reply = memoize(
         alloc,
         &mut cache,
-        &mut context().track(alloc),
+        &mut context().view(alloc),
         &mut outer,
         true,
-        |_view: &mut Tracked<'_, Context>, recording: &mut Constraint<ContextCall, u64>| {
+        |_view: &mut View<'_, Context>, recording: &mut Constraint<ContextCall, u64>| {
             recording.spoil();
             Ok(3)
         },
@@ -204,8 +202,8 @@ fn is_told<F: Run<Context, Key = bool, Out = u64>>(
 fn is_told_of_part(alloc: Global, key: (bool, bool), fault: Fault) -> bool {
     let (one, other) = (context(), context());
     let both = Both {
-        first: one.track(alloc),
-        second: other.track(alloc),
+        first: one.view(alloc),
+        second: other.view(alloc),
     };
     let mut cache: CacheData<CallingOfPart> = CacheData::new(alloc);
     let mut kept = (CacheData::new(alloc), CacheData::new(alloc));

@@ -4,7 +4,7 @@ ghost use Rattle.std.proofs.Common.{rules};
 ghost use Rattle.comemo_tests.specs.Broken.{IsBroken};
 
 use comemo::internal::Breaking;
-use comemo::{Begun, CacheData, Fault, Function, How, Reply, Sink, Top, Track, Tracked, begin};
+use comemo::{Begun, CacheData, Fault, Function, How, Reply, Sink, Top, Track, View, begin};
 use comemo_samples::{Context, ContextCall};
 use std::alloc::Global;
 
@@ -33,7 +33,7 @@ impl Function for LocationOf {
 pub fn lent_location<S: Sink<Call = ContextCall, Answer = u64>>(
     alloc: Global,
     cache: &mut CacheData<LocationOf>,
-    context: &mut Tracked<'_, Context>,
+    context: &mut View<'_, Context>,
     sink: &mut S,
 ) -> Result<Reply<u64>, Fault>
     ensures output { IfOk result (λ reply. reply.output ≡ context.old.location) }
@@ -59,7 +59,7 @@ pub fn lent_location<S: Sink<Call = ContextCall, Answer = u64>>(
 
 /// The cached location of a context, if there is one.
 fn kept(alloc: Global, cache: &CacheData<LocationOf>, context: &Context) -> Option<u64> {
-    match cache.look(&(), &mut context.track(alloc)) {
+    match cache.look(&(), &mut context.view(alloc)) {
         Ok(Some(found)) => Some(found.output),
         Ok(None) => None,
         Err(_) => None,
@@ -76,7 +76,7 @@ fn is_located(
 ) -> bool {
     let context = Context { location, styles };
     let was_kept = kept(alloc, cache, &context).is_some();
-    let is_given = match lent_location(alloc, cache, &mut context.track(alloc), &mut Top::new()) {
+    let is_given = match lent_location(alloc, cache, &mut context.view(alloc), &mut Top::new()) {
         Ok(reply) => reply.output == location && reply.how == how,
         Err(_) => false,
     };

@@ -6,8 +6,7 @@ ghost use Rattle.comemo.specs.MeaningLaws.{none_alike};
 
 use comemo::internal::{First, Hashed, Input, Multi, Second};
 use comemo::{
-    Begun, CacheData, Fault, Function, How, MultiAnswer, MultiCall, Reply, Top, Track, Tracked,
-    begin,
+    Begun, CacheData, Fault, Function, How, MultiAnswer, MultiCall, Reply, Top, Track, View, begin,
 };
 use comemo_samples::{Context, ContextCall};
 use std::alloc::Global;
@@ -52,7 +51,7 @@ pub fn contains(
     alloc: Global,
     cache: &mut CacheData<ContainsNumber>,
     number: u64,
-    context: &Tracked<'_, Context>,
+    context: &View<'_, Context>,
 ) -> Result<Reply<bool>, Fault>
     ensures { IfOk result
         (λ reply. reply.output ≡
@@ -97,7 +96,7 @@ fn says(
         location: 3,
         styles,
     };
-    match contains(alloc, cache, number, &context.track(alloc)) {
+    match contains(alloc, cache, number, &context.view(alloc)) {
         Ok(reply) => reply.output == is_in && reply.how == how,
         Err(_) => false,
     }
@@ -146,7 +145,7 @@ fn sum(
     first: &Context,
     second: &Context,
 ) -> Result<(u64, How), Fault> {
-    let mut input = Multi((first.track(alloc), second.track(alloc)));
+    let mut input = Multi((first.view(alloc), second.view(alloc)));
     match begin(alloc, cache, &mut input, &mut Top::new(), true) {
         Err(fault) => Err(fault),
         Ok(Begun::Hit(sum)) => Ok((sum, How::Hit)),

@@ -3,8 +3,6 @@
 #![tactic(auto)]
 
 #[cfg(test)]
-mod accelerated;
-#[cfg(test)]
 mod again;
 #[cfg(test)]
 mod closures;
@@ -26,6 +24,8 @@ mod runs;
 mod scarce;
 #[cfg(test)]
 mod touching;
+#[cfg(test)]
+mod tracked;
 #[cfg(test)]
 mod views;
 #[cfg(test)]

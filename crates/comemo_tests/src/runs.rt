@@ -42,7 +42,7 @@ fn begin_any(
 ) -> Result<Begun<u64, Pending<Anything>>, Fault> {
     let mut input = Keyed {
         key: &7,
-        view: context.track(alloc),
+        view: context.view(alloc),
     };
     begin(alloc, cache, &mut input, outer, true)
 }
@@ -98,7 +98,7 @@ fn end_two(
         first.give_up(&mut outer);
         return None;
     };
-    let mut view = context.track(alloc);
+    let mut view = context.view(alloc);
     let asked = view.ask(ContextCall::Location, first.recording());
     let asked_too = view.ask(ContextCall::Location, second.recording());
     let have_asked = asked.is_ok() && asked_too.is_ok();
@@ -155,7 +155,7 @@ fn call(
         Ok(Begun::Hit(_)) => Ok(How::Hit),
         Ok(Begun::Run(mut run)) => {
             let _ = context
-                .track(alloc)
+                .view(alloc)
                 .ask(ContextCall::Location, run.recording());
             finish(run, cache, outer)
         }

@@ -134,7 +134,7 @@ fn read(number: u64, left: &Left) -> Result<Scarce, AllocError> {
 /// Asks 1 and 2, and returns their sum.
 fn ask_both(alloc: Global, left: &Left, recording: &mut Recording) -> Result<u64, AllocError> {
     let echo = Echo;
-    let mut view = echo.track(alloc);
+    let mut view = echo.view(alloc);
     let one = view.ask(read(1, left)?, recording)?;
     let two = view.ask(read(2, left)?, recording)?;
     Ok(one.wrapping_add(two))
@@ -150,7 +150,7 @@ fn call(
     let echo = Echo;
     let mut input = Keyed {
         key: &7,
-        view: echo.track(alloc),
+        view: echo.view(alloc),
     };
     match begin(alloc, cache, &mut input, sink, true) {
         Ok(Begun::Hit(output)) => {
@@ -196,7 +196,7 @@ fn age_of(alloc: Global, left: &Left, cache: &CacheData<AnyEcho>) -> Option<usiz
     let echo = Echo;
     let mut input = Keyed {
         key: &7,
-        view: echo.track(alloc),
+        view: echo.view(alloc),
     };
     match cache.look(&7, &mut input) {
         Ok(Some(found)) => Some(found.age),
@@ -304,7 +304,7 @@ fn begin_run(
     let echo = Echo;
     let mut input = Keyed {
         key: &7,
-        view: echo.track(alloc),
+        view: echo.view(alloc),
     };
     match begin(alloc, cache, &mut input, sink, true) {
         Ok(Begun::Run(pending)) => Some(pending),

@@ -1,7 +1,7 @@
 //! Views that hold a sink, sinks by reference, how views print, and the validation of a recording against a value that
 //! fails to answer.
 
-use crate::accelerated::Counting;
+use crate::tracked::Counting;
 use comemo::{Constraint, Sink, Top, Track};
 use comemo_samples::{Context, ContextCall, Counter};
 use std::alloc::{AllocError, Global};
@@ -81,8 +81,8 @@ fn printed(alloc: Global) -> Result<String, AllocError> {
     let mut other = Counter { number: 0 };
     let mut recording: Recording = Constraint::new(alloc);
     let mut top = Top::new();
-    let plain = value.track(alloc);
-    let knowing = plain.accelerated(alloc);
+    let plain = value.view(alloc);
+    let knowing = value.track(alloc);
     let sending = value.track_with(alloc, &mut recording);
     let writing = counter.track_mut(alloc);
     let both = other.track_mut_with(alloc, &mut top);

@@ -3,7 +3,7 @@ ghost use Rattle.std.specs.Prelude.{◌≡◌};
 ghost use Rattle.std.proofs.Common.{rules};
 
 use crate::multi::{MultiAnswer, MultiCall};
-use crate::track::{Track, Tracked};
+use crate::track::{Track, View};
 use std::alloc::{AllocError, Global};
 
 /// Views joined: two tracked values as one, which is tracked itself, so that a run can get both by one view.
@@ -13,9 +13,9 @@ use std::alloc::{AllocError, Global};
 #[derive(Drop)]
 pub struct Both<'a, A, B> {
     /// A view of the first value.
-    pub first: Tracked<'a, A>,
+    pub first: View<'a, A>,
     /// A view of the second value.
-    pub second: Tracked<'a, B>,
+    pub second: View<'a, B>,
 }
 
 /// The call's part answers; it fails if that does.
@@ -47,16 +47,16 @@ impl<'a, A: Track, B: Track> Track for Both<'a, A, B> {
 }
 
 /// Views of the parts.
-impl<'a, 'b, A: Track, B: Track> Tracked<'a, Both<'b, A, B>> {
+impl<'a, 'b, A: Track, B: Track> View<'a, Both<'b, A, B>> {
     /// A view of the first value.
-    pub fn first(&self, alloc: Global) -> Tracked<'b, A>
+    pub fn first(&self, alloc: Global) -> View<'b, A>
         ensures { result ≡ self.now.first }
     {
         self.value.first.fork(alloc)
     }
 
     /// A view of the second value.
-    pub fn second(&self, alloc: Global) -> Tracked<'b, B>
+    pub fn second(&self, alloc: Global) -> View<'b, B>
         ensures { result ≡ self.now.second }
     {
         self.value.second.fork(alloc)

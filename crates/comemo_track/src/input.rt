@@ -8,7 +8,7 @@ ghost use Rattle.comemo_track.specs.WritingLaws.{done_both, done_keeps};
 ghost use Rattle.comemo_track.specs.Views.{place_of};
 ghost use Rattle.comemo_track.specs.Writing.{touched_by};
 
-use crate::track::{Call, Track, Tracked, Written};
+use crate::track::{Call, Track, View, Written};
 use crate::writing::TrackedMut;
 use std::alloc::AllocError;
 use std::hash::Hash;
@@ -83,7 +83,7 @@ pub struct Keyed<'a, 'b, K: Clone + Eq + Hash, T> {
     /// The untracked argument.
     pub key: &'b K,
     /// A view of the tracked argument.
-    pub view: Tracked<'a, T>,
+    pub view: View<'a, T>,
     // a clone of a key is equal
     pub ghost clones: { (x y : K) → K.is_clone x y → IsTrue (K.eq x y) },
 }
@@ -183,7 +183,7 @@ impl<'a, 'b, K: Clone + Eq + Hash, T: Track> Input for KeyedMut<'a, 'b, K, T> {
 
 /// A view: an input without a key, whose calls and answers are the view's. Passed by `&mut`, it can be used again after
 /// a look-up.
-impl<'a, T: Track> Input for Tracked<'a, T> {
+impl<'a, T: Track> Input for View<'a, T> {
     type Call = T::Call;
 
     type Key = ();
@@ -225,7 +225,7 @@ impl<'a, T: Track> Input for Tracked<'a, T> {
 ///
 /// A proof that passes a reference to such a reference knows nothing of the view afterwards; one that lends the view
 /// does.
-impl<'a, T: Track> Input for &mut Tracked<'a, T> {
+impl<'a, T: Track> Input for &mut View<'a, T> {
     type Call = T::Call;
 
     type Key = ();

@@ -31,7 +31,6 @@
 //! `src/examples.rt`, through the crate `comemo`, which has all that this one has.
 #![tactic(auto)]
 
-pub mod accelerate;
 pub mod both;
 pub mod both_mut;
 pub mod constraint;
@@ -40,9 +39,9 @@ pub mod mapped;
 pub mod multi;
 pub mod read_and_write;
 pub mod track;
+pub mod tracked;
 pub mod writing;
 
-pub use accelerate::Accelerated;
 pub use both::Both;
 pub use both_mut::BothMut;
 pub use constraint::Constraint;
@@ -50,5 +49,6 @@ pub use input::{Hashed, Input, Keyed, KeyedMut};
 pub use mapped::{CallMap, MappedSink};
 pub use multi::{First, Multi, MultiAnswer, MultiCall, Second};
 pub use read_and_write::ReadAndWrite;
-pub use track::{Breaking, Call, Sink, Top, Track, Tracked, TrackedWith, Written};
+pub use track::{Breaking, Call, Sink, Top, Track, TrackedWith, View, Written};
+pub use tracked::Tracked;
 pub use writing::{TrackedMut, TrackedMutWith};

@@ -4,7 +4,7 @@ ghost use Rattle.std.proofs.Common.{◌∙◌};
 ghost use Rattle.comemo_track.specs.Mapped.{Through};
 ghost use Rattle.comemo_track.specs.Sending.{Asks, sent_pairs, sent_writes};
 
-use crate::track::{Call, Sink, Track, Tracked};
+use crate::track::{Call, Sink, Track, View};
 use std::alloc::AllocError;
 
 /// Renames calls and answers.
@@ -160,7 +160,7 @@ impl<'a, S: Sink<Call = M::To, Answer = M::ToAnswer>, M: CallMap> Sink for Mappe
     }
 }
 
-impl<'a, T: Track> Tracked<'a, T> {
+impl<'a, T: Track> View<'a, T> {
     /// As `ask`, through a map: asks the value a read, and sends the renamed call and answer to a sink.
     pub fn ask_through<
         M: CallMap<From = T::Call, FromAnswer = T::Answer> + Drop,

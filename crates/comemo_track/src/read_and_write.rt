@@ -3,7 +3,7 @@ ghost use Rattle.std.specs.Prelude.{◌≡◌};
 ghost use Rattle.std.proofs.Common.{rules};
 
 use crate::multi::{MultiAnswer, MultiCall};
-use crate::track::{Track, Tracked};
+use crate::track::{Track, View};
 use std::alloc::AllocError;
 
 /// Two tracked values as one: a view of the first, and a second that is borrowed to be read and written.
@@ -12,7 +12,7 @@ use std::alloc::AllocError;
 #[derive(Drop)]
 pub struct ReadAndWrite<'a, A, B> {
     /// The view of the first value.
-    pub first: Tracked<'a, A>,
+    pub first: View<'a, A>,
     /// The second value.
     pub second: &'a mut B,
 }

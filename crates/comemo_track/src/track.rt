@@ -8,6 +8,7 @@ ghost use Rattle.comemo_track.specs.Sending.{sent_pairs, sent_writes, Asks, Brea
 ghost use Rattle.comemo_track.specs.Views.{value_of, sink_of, place_of, place_in, writing_sink_of};
 ghost use Rattle.comemo_track.specs.Writing.{SameReads, Done};
 
+use crate::tracked::Tracked;
 use crate::writing::{TrackedMut, TrackedMutWith};
 use std::alloc::{AllocError, Global};
 use std::fmt;
@@ -362,14 +363,24 @@ pub trait Track {
         Err(AllocError)
     }
 
-    /// A view of the value, which records its reads.
+    /// A view of the value that keeps the answers it gets. Does not allocate.
     final fn track(&self, alloc: Global) -> Tracked<'_, Self>
+    where
+        Self: Sized,
+        ensures value { result.value ≡ self.now }
+        ensures none { result.known ≡ [] }
+    {
+        Tracked::new(alloc, self)
+    }
+
+    /// A view of the value that asks it each time.
+    final fn view(&self, alloc: Global) -> View<'_, Self>
     where
         Self: Sized,
         ensures { result ≡ self.now }
     {
         let _ = alloc;
-        Tracked { value: self }
+        View { value: self }
     }
 
     /// A view of the value that sends its reads to a sink, which it borrows.
@@ -452,13 +463,14 @@ impl Track for () {
     }
 }
 
-/// A read-only view of a tracked value. Contracts see it as the value. It doesn't lend the value.
+/// A read-only view of a tracked value, which is asked each time. Contracts see it as the value. It doesn't lend the
+/// value.
 #[derive(Drop)]
-pub struct Tracked<'a, T> {
+pub struct View<'a, T> {
     pub(crate) value: &'a T,
 }
 
-impl<'a, T> Model for Tracked<'a, T> {
+impl<'a, T> Model for View<'a, T> {
     ghost Value = { T };
 
     ghost coded = { T.code };
@@ -466,7 +478,7 @@ impl<'a, T> Model for Tracked<'a, T> {
     ghost view = { λ s. s.value.now };
 }
 
-impl<'a, T: Track> Tracked<'a, T> {
+impl<'a, T: Track> View<'a, T> {
     /// Asks the value a read, and sends the call with its answer to a sink.
     ///
     /// The value is asked once, even if the sink holds the read. Fails if the answer, its clone or the sink does; the
@@ -497,16 +509,16 @@ impl<'a, T: Track> Tracked<'a, T> {
     }
 
     /// Another view of the same value, for instance for a branch.
-    pub fn fork(&self, alloc: Global) -> Tracked<'a, T>
+    pub fn fork(&self, alloc: Global) -> View<'a, T>
         ensures { result ≡ self.now }
     {
         let _ = alloc;
-        Tracked { value: self.value }
+        View { value: self.value }
     }
 }
 
 /// Prints `Tracked(..)`, whatever the value is.
-impl<'a, T> Debug for Tracked<'a, T> {
+impl<'a, T> Debug for View<'a, T> {
     ghost use Rattle.comemo_track.specs.Views.{tracked_text};
 
     ghost debug_output = { λ _. Some tracked_text };
@@ -526,7 +538,7 @@ pub struct TrackedWith<'a, T, S> {
 }
 
 impl<'a, T: Track, S: Sink<Call = T::Call, Answer = T::Answer>> TrackedWith<'a, T, S> {
-    /// Asks the value a read, and sends the call with its answer to the view's sink, as `Tracked::ask` does.
+    /// Asks the value a read, and sends the call with its answer to the view's sink, as `View::ask` does.
     pub fn ask(&mut self, call: T::Call) -> Result<T::Answer, AllocError>
         requires { T.Call.is_write call ≡ false }
         ensures ok { IfOk result (λ answer.
@@ -536,7 +548,7 @@ impl<'a, T: Track, S: Sink<Call = T::Call, Answer = T::Answer>> TrackedWith<'a, 
         ensures value { value_of self.new ≡ value_of self.old }
         ensures same { (sink_of self.new).ghost_name ≡ (sink_of self.old).ghost_name }
     {
-        let mut view = Tracked { value: self.value };
+        let mut view = View { value: self.value };
         view.ask(call, self.sink)
     }
 }
@@ -548,6 +560,6 @@ impl<'a, T, S> Debug for TrackedWith<'a, T, S> {
     ghost debug_output = { λ _. Some tracked_text };
 
     fn fmt<W: fmt::Write>(&self, f: &mut fmt::Formatter<W>) -> fmt::Result {
-        Debug::fmt(&Tracked { value: self.value }, f)
+        Debug::fmt(&View { value: self.value }, f)
     }
 }

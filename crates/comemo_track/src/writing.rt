@@ -3,7 +3,8 @@ ghost use Rattle.std.specs.Prelude.{◌≡◌, [], ◌∷◌, true, false, Some,
 ghost use Rattle.comemo_track.specs.Sending.{Asks};
 ghost use Rattle.comemo_track.specs.Views.{value_of, sink_of, place_of, place_in, writing_sink_of};
 
-use crate::track::{Sink, Track, Tracked, TrackedWith, Written};
+use crate::track::{Sink, Track, TrackedWith, View, Written};
+use crate::tracked::Tracked;
 use std::alloc::{AllocError, Global};
 use std::fmt;
 use std::fmt::Debug;
@@ -16,7 +17,7 @@ pub struct TrackedMut<'a, T> {
 }
 
 impl<'a, T: Track> TrackedMut<'a, T> {
-    /// Asks the value a read, and sends the call with its answer to a sink, as `Tracked::ask` does.
+    /// Asks the value a read, and sends the call with its answer to a sink, as `View::ask` does.
     pub fn ask<S: Sink<Call = T::Call, Answer = T::Answer>>(
         &mut self,
         call: T::Call,
@@ -29,7 +30,7 @@ impl<'a, T: Track> TrackedMut<'a, T> {
         ensures err { OnErr result (S.took sink.old sink.new [] []) }
         ensures same { self.new ≡ self.old }
     {
-        let mut view = Tracked {
+        let mut view = View {
             value: &*self.value,
         };
         view.ask(call, sink)
@@ -69,23 +70,21 @@ impl<'a, T: Track> TrackedMut<'a, T> {
         self.value.ask(call)
     }
 
-    /// Turns this view into a read-only one.
+    /// Turns this view into a read-only one, which knows nothing yet.
     pub fn downgrade(this: Self, alloc: Global) -> Tracked<'a, T>
-        ensures { result ≡ (place_of this.entry).now }
+        ensures value { result.value ≡ (place_of this.entry).now }
+        ensures none { result.known ≡ [] }
     {
-        let _ = alloc;
         let TrackedMut { value } = this;
-        Tracked { value }
+        Tracked::new(alloc, value)
     }
 
-    /// A read-only view that borrows this one.
+    /// A read-only view that borrows this one, and knows nothing yet.
     pub fn reborrow<'b>(this: &'b Self, alloc: Global) -> Tracked<'b, T>
-        ensures { result ≡ (place_of this.now).now }
+        ensures value { result.value ≡ (place_of this.now).now }
+        ensures none { result.known ≡ [] }
     {
-        let _ = alloc;
-        Tracked {
-            value: &*this.value,
-        }
+        Tracked::new(alloc, &*this.value)
     }
 }
 
@@ -127,7 +126,7 @@ pub struct TrackedMutWith<'a, T, S> {
 }
 
 impl<'a, T: Track, S: Sink<Call = T::Call, Answer = T::Answer>> TrackedMutWith<'a, T, S> {
-    /// Asks the value a read, and sends the call with its answer to the view's sink, as `Tracked::ask` does.
+    /// Asks the value a read, and sends the call with its answer to the view's sink, as `View::ask` does.
     pub fn ask(&mut self, call: T::Call) -> Result<T::Answer, AllocError>
         requires { T.Call.is_write call ≡ false }
         ensures ok { IfOk result (λ answer.
@@ -139,7 +138,7 @@ impl<'a, T: Track, S: Sink<Call = T::Call, Answer = T::Answer>> TrackedMutWith<'
         ensures same { (writing_sink_of self.new).ghost_name
             ≡ (writing_sink_of self.old).ghost_name }
     {
-        let mut view = Tracked {
+        let mut view = View {
             value: &*self.value,
         };
         view.ask(call, self.sink)

@@ -10,7 +10,7 @@ ghost use Rattle.calc_core.specs.Files.{OnFiles, text_at, answers_of, with_key};
 use crate::files::{FileCall, Files, JoinedAnswer, JoinedCall, Text};
 use comemo::internal::{Breaking, Hashed, Multi, Pending};
 use comemo::{
-    Begun, CacheData, Fault, Function, How, MultiAnswer, MultiCall, Reply, Sink, Tracked, begin,
+    Begun, CacheData, Fault, Function, How, MultiAnswer, MultiCall, Reply, Sink, View, begin,
 };
 use std::alloc::Global;
 
@@ -47,7 +47,7 @@ impl Function for FileSize {
 pub fn size<S: Sink<Call = JoinedCall, Answer = JoinedAnswer>>(
     alloc: Global,
     cache: &mut CacheData<FileSize>,
-    files: &Tracked<'_, Files>,
+    files: &View<'_, Files>,
     path: &str,
     sink: &mut S,
 ) -> Result<Reply<u64>, Fault>

@@ -98,7 +98,7 @@ impl State {
     {
         // For the proof: each stored path is a run.
         self.evaluated.reveal_runs();
-        let view = self.files.track(self.alloc);
+        let view = self.files.view(self.alloc);
         let cache = &mut self.evaluated;
         match evaluate(
             self.alloc,
@@ -123,7 +123,7 @@ impl State {
         ensures answer { Answers (texts_in self.old) (size_of path.now) result (texts_in self.new) }
         ensures evaluated { self.new.evaluated ≡ self.old.evaluated }
     {
-        let view = self.files.track(self.alloc);
+        let view = self.files.view(self.alloc);
         match size(self.alloc, &mut self.sizes, &view, path, &mut Top::new()) {
             Ok(Reply { output, how }) => Answer::Size {
                 hit: how == How::Hit,

@@ -3,8 +3,9 @@ ghost use Rattle.std.specs.Prelude.{◌≡◌, IfOk, false, refl};
 ghost use Rattle.std.proofs.Common.{rules};
 
 use crate::inputs::LocationOf;
-use comemo::internal::Accelerated;
-use comemo::{Begun, CacheData, Call, Constraint, Fault, How, Reply, Sink, Top, Track, begin};
+use comemo::{
+    Begun, CacheData, Call, Constraint, Fault, How, Reply, Sink, Top, Track, Tracked, begin,
+};
 use comemo_samples::{Context, ContextCall};
 use std::alloc::{AllocError, Global};
 use std::hash::Hash;
@@ -60,7 +61,7 @@ impl Track for Counting {
 pub fn known_location(
     alloc: Global,
     cache: &mut CacheData<LocationOf>,
-    view: &mut Accelerated<'_, Counting>,
+    view: &mut Tracked<'_, Counting>,
 ) -> Result<Reply<u64>, Fault>
     ensures output { IfOk result (λ reply. reply.output ≡ view.old.value.context.location) }
     ensures same { view.new.value ≡ view.old.value }
@@ -85,7 +86,7 @@ pub fn known_location(
 /// hits. The value is asked once.
 fn asks_once(alloc: Global, cache: &mut CacheData<LocationOf>, location: u64, first: How) -> bool {
     let value = Counting::new(location, 5, false);
-    let mut view = value.track(alloc).accelerated(alloc);
+    let mut view = value.track(alloc);
     let hows: &[How] = &[first, How::Hit, How::Hit];
     for how in hows {
         let is_so = match known_location(alloc, cache, &mut view) {
@@ -113,7 +114,7 @@ fn hits_and_runs_ask_through_one_view(rt: HostRuntime) {
 }
 
 /// Whether a view returns the location 3 twice.
-fn gives_twice(view: &mut Accelerated<'_, Counting>) -> bool {
+fn gives_twice(view: &mut Tracked<'_, Counting>) -> bool {
     let first = view.ask(ContextCall::Location, &mut Top::new());
     let second = view.ask(ContextCall::Location, &mut Top::new());
     first == Ok(3) && second == Ok(3)
@@ -122,7 +123,7 @@ fn gives_twice(view: &mut Accelerated<'_, Counting>) -> bool {
 /// Whether a view keeps an answer, and sends it without asking the value again.
 fn sends_what_it_knows(alloc: Global) -> bool {
     let value = Counting::new(3, 5, false);
-    let mut view = value.track(alloc).accelerated(alloc);
+    let mut view = value.track(alloc);
     let is_given = gives_twice(&mut view);
     let is_known = view.known(&ContextCall::Location) == Some(&3);
     let mut recording = Constraint::new(alloc);
@@ -138,7 +139,7 @@ fn sends_what_it_knows(alloc: Global) -> bool {
 /// view asks each time.
 fn forks_know_nothing(alloc: Global) -> bool {
     let value = Counting::new(3, 5, false);
-    let mut view = value.track(alloc).accelerated(alloc);
+    let mut view = value.track(alloc);
     let is_given = gives_twice(&mut view);
     let mut fork = view.fork(alloc);
     let was_unknown = fork.known(&ContextCall::Location).is_none();
@@ -217,7 +218,7 @@ impl Track for Echo {
 }
 
 /// Whether a view that is out of memory for a call returns the answer of the value, and does not keep it.
-fn goes_without(view: &mut Accelerated<'_, Echo>) -> bool {
+fn goes_without(view: &mut Tracked<'_, Echo>) -> bool {
     let is_given = view.ask(Single { number: 8 }, &mut Top::new()) == Ok(8);
     is_given && view.known(&Single { number: 8 }).is_none()
 }
@@ -228,7 +229,7 @@ fn a_view_without_memory_goes_without(rt: HostRuntime) {
     let value = Echo {
         asked: AtomicU64::new(0),
     };
-    let mut view = value.track(alloc).accelerated(alloc);
+    let mut view = value.track(alloc);
     let is_so = goes_without(&mut view) && goes_without(&mut view);
     assert!(rt; is_so);
     assert_eq!(rt; value.asked.load(Ordering::SeqCst), 2);

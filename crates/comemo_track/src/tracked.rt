@@ -1,4 +1,4 @@
-//! A view that caches the answers it got. Calls are looked up in constant expected time.
+//! A view that keeps the answers it got. Calls are looked up in constant expected time.
 ghost use Rattle.std.specs.Prelude.{◌≡◌, [], List, true, false, IsTrue, IfOk, IfSome, OnOk, OnErr, refl};
 ghost use Rattle.std.specs.Option.{option_copied};
 ghost use Rattle.std.specs.Map.{lookup};
@@ -9,21 +9,20 @@ ghost use Rattle.comemo_track.specs.Answered.{StaysKnown};
 ghost use Rattle.comemo_track.specs.InputLaws.{equal_if_one};
 
 use crate::input::Input;
-use crate::track::{Sink, Track, Tracked};
+use crate::track::{Sink, Track, View};
 use std::alloc::{AllocError, Global};
 use std::collections::HashMap;
 use std::fmt;
 use std::fmt::Debug;
 use std::marker::Model;
 
-/// A read-only view of a tracked value that caches answers: the value isn't asked again for what the view knows.
+/// A read-only view of a tracked value that keeps the answers it gets: the value isn't asked twice for one call.
 ///
 /// Contracts see the value and the pairs that the view knows, each the value's answer to a read. Use it for a value
-/// whose answers are expensive: each look-up hashes the call and clones the answer. The first pair needs no allocation;
-/// the others go to a `HashMap`, and a pair that finds no memory isn't cached. The view must be dropped before the
-/// value changes.
+/// whose answers are expensive, and a `View` for others: each question hashes the call and clones the answer. The first
+/// pair needs no allocation; the others go to a `HashMap`, and a pair that finds no memory isn't kept.
 #[derive(Drop)]
-pub struct Accelerated<'a, T: Track> {
+pub struct Tracked<'a, T: Track> {
     pub(crate) value: &'a T,
     // The first call asked, with its answer.
     pub(crate) first: Option<(T::Call, T::Answer)>,
@@ -31,7 +30,7 @@ pub struct Accelerated<'a, T: Track> {
     pub(crate) table: HashMap<T::Call, T::Answer>,
 }
 
-impl<'a, T: Track> Model for Accelerated<'a, T> {
+impl<'a, T: Track> Model for Tracked<'a, T> {
     ghost use Rattle.comemo_track.specs.Answered.{Answered, answered_code, IsAnswered, known_of};
 
     ghost Value = { Answered T T.Call T.Answer };
@@ -48,24 +47,22 @@ impl<'a, T: Track> Model for Accelerated<'a, T> {
 }
 
 impl<'a, T: Track> Tracked<'a, T> {
-    /// A caching view of the same value, which knows nothing yet. Does not allocate.
-    pub fn accelerated(&self, alloc: Global) -> Accelerated<'a, T>
-        ensures value { result.value ≡ self.now }
+    /// A view of a value that knows nothing yet.
+    pub(crate) fn new(alloc: Global, value: &'a T) -> Self
+        ensures value { result.value ≡ value.now }
         ensures none { result.known ≡ [] }
     {
-        Accelerated {
-            value: self.value,
+        Tracked {
+            value,
             first: None,
             table: HashMap::new(alloc),
         }
     }
-}
 
-impl<'a, T: Track> Accelerated<'a, T> {
     /// Asks a read, and sends the call with its answer to a sink.
     ///
     /// Fails if the value has to be asked and fails, or if a clone of the answer or the sink does; the sink is then
-    /// unchanged. A cached answer that can't be cloned is asked again.
+    /// unchanged. A kept answer that can't be cloned is asked again.
     pub fn ask<S: Sink<Call = T::Call, Answer = T::Answer>>(
         &mut self,
         call: T::Call,
@@ -84,19 +81,19 @@ impl<'a, T: Track> Accelerated<'a, T> {
         Ok(answer)
     }
 
-    /// The cached answer to a call, if there is one. The value isn't asked.
+    /// The kept answer to a call, if there is one. The value isn't asked.
     pub fn known(&self, call: &T::Call) -> Option<&T::Answer>
         ensures known { option_copied result ≡ lookup (T.Call.eq call.now) self.now.known }
         ensures read { IfSome result (λ _. T.Call.is_write call.now ≡ false) }
         ensures right { IfSome result
             (λ answer. IsTrue (T.Answer.eq (T.answers self.now.value call.now) answer.now)) }
     {
-        // A use of the field makes the invariant known to the proof: what is cached is the value's answer.
+        // A use of the field makes the invariant known to the proof: what is kept is the value's answer.
         let _ = &self.value;
         self.kept(call)
     }
 
-    /// The cached answer to a call, in the first pair or in the table.
+    /// The kept answer to a call, in the first pair or in the table.
     fn kept(&self, call: &T::Call) -> Option<&T::Answer>
         ensures { option_copied result ≡ lookup (T.Call.eq call.now) self.now.known }
     {
@@ -108,7 +105,7 @@ impl<'a, T: Track> Accelerated<'a, T> {
         self.table.get(call)
     }
 
-    /// The answer to a read, from the cache or else from the value, then cached. Sends nothing.
+    /// The answer to a read: what is kept, or else the value's, which is then kept. Sends nothing.
     fn answer(&mut self, call: &T::Call) -> Result<T::Answer, AllocError>
         requires { T.Call.is_write call.now ≡ false }
         ensures ok { IfOk result
@@ -122,12 +119,12 @@ impl<'a, T: Track> Accelerated<'a, T> {
             }
         }
         let answer = self.value.ask(call)?;
-        // If it can't be cached, the value is asked again next time.
+        // If it can't be kept, the value is asked again next time.
         let _ = self.keep(call, &answer);
         Ok(answer)
     }
 
-    /// Caches the value's answer to a read. On error nothing changes.
+    /// Keeps the value's answer to a read. On error nothing changes.
     fn keep(&mut self, call: &T::Call, answer: &T::Answer) -> Result<(), AllocError>
         requires read { T.Call.is_write call.now ≡ false }
         requires right { IsTrue (T.Answer.eq (T.answers self.old.value call.now) answer.now) }
@@ -146,27 +143,26 @@ impl<'a, T: Track> Accelerated<'a, T> {
         Ok(())
     }
 
-    /// Another caching view of the same value, which knows nothing yet. The two don't share what they learn. Does not
-    /// allocate.
-    pub fn fork(&self, alloc: Global) -> Accelerated<'a, T>
+    /// Another view of the same value, which knows nothing yet. The two don't share what they learn. Does not allocate.
+    pub fn fork(&self, alloc: Global) -> Tracked<'a, T>
         ensures value { result.value ≡ self.now.value }
         ensures none { result.known ≡ [] }
     {
-        self.view(alloc).accelerated(alloc)
+        Tracked::new(alloc, self.value)
     }
 
-    /// A view of the same value without a cache. Does not allocate.
-    pub fn view(&self, alloc: Global) -> Tracked<'a, T>
+    /// A view of the same value that asks it each time. Does not allocate.
+    pub fn view(&self, alloc: Global) -> View<'a, T>
         ensures { result ≡ self.now.value }
     {
         let _ = alloc;
-        Tracked { value: self.value }
+        View { value: self.value }
     }
 }
 
-/// A caching view: an input without a key, whose calls and answers are the value's. A look-up asks the value only what
+/// A view: an input without a key, whose calls and answers are the value's. A look-up asks the value only what
 /// the view doesn't know yet. Passed by `&mut`, the view can be used again after the look-up.
-impl<'a, T: Track> Input for Accelerated<'a, T> {
+impl<'a, T: Track> Input for Tracked<'a, T> {
     type Call = T::Call;
 
     type Key = ();
@@ -218,11 +214,11 @@ fn call_behind<I: Input>(input: &mut &mut I, call: &I::Call) -> Result<I::Answer
     (**input).call(call)
 }
 
-/// A reference to a caching view: an input like the view, for a place to which the view can't be moved.
+/// A reference to a view: an input like the view, for a place to which the view can't be moved.
 ///
 /// A proof that passes a reference to such a reference knows nothing of the view afterwards; one that lends the view
 /// does.
-impl<'a, T: Track> Input for &mut Accelerated<'a, T> {
+impl<'a, T: Track> Input for &mut Tracked<'a, T> {
     type Call = T::Call;
 
     type Key = ();
@@ -262,14 +258,14 @@ impl<'a, T: Track> Input for &mut Accelerated<'a, T> {
     }
 }
 
-/// Prints `Tracked(..)`, as a view without a cache does.
-impl<'a, T: Track> Debug for Accelerated<'a, T> {
+/// Prints `Tracked(..)`, as a `View` does.
+impl<'a, T: Track> Debug for Tracked<'a, T> {
     ghost use Rattle.std.specs.Prelude.{Some};
     ghost use Rattle.comemo_track.specs.Views.{tracked_text};
 
     ghost debug_output = { λ _. Some tracked_text };
 
     fn fmt<W: fmt::Write>(&self, f: &mut fmt::Formatter<W>) -> fmt::Result {
-        Debug::fmt(&Tracked { value: self.value }, f)
+        Debug::fmt(&View { value: self.value }, f)
     }
 }

@@ -2,7 +2,7 @@ use Rattle.std.proofs.Common.{rules, ◌≡◌, Some, false}
 use Rattle.std.specs.Prelude.{is_some}
 use Rattle.comemo_track.specs.Answered.{known_of}
 use Rattle.comemo_track.proofs.Known.{put_true, puts_behind, puts_first}
-use Rattle.comemo_track.proofs.accelerate.Accelerated.keep.Goals as goal
+use Rattle.comemo_track.proofs.tracked.Tracked.keep.Goals as goal
 
 pub invariant_of-self : goal.invariant_of-self
 invariant_of-self g c =

@@ -1,5 +1,5 @@
 use Rattle.std.proofs.Common.{rules}
-use Rattle.comemo_tests.proofs.accelerated.known_location.Goals as goal
+use Rattle.comemo_tests.proofs.tracked.known_location.Goals as goal
 
 pub returns-in-Ok-Hit-clause-output : goal.returns-in-Ok-Hit-clause-output
 returns-in-Ok-Hit-clause-output c =
