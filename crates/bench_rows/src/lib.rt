@@ -1,4 +1,5 @@
-//! Worked rows of the library and of the program `calc`, by their numbers, and the program `bench` without its streams.
+//! Worked rows of the library and of the program `calc`, by their numbers, workers that share caches, and the program
+//! `bench` without its streams.
 //!
 //! A row makes calls in turn, and knows the result of each. `run_rows` has the table of the rows.
 //!
@@ -50,6 +51,7 @@ mod tally;
 mod texts;
 mod trees;
 mod views;
+pub mod workers;
 mod writes;
 
 pub use broken::Broken;

@@ -14,7 +14,7 @@ ghost use Rattle.calc_lines.specs.Started.{WritesPrefix};
 
 use crate::comparison::fuzz;
 use crate::table::run_rows;
-use bench_workers::threads;
+use crate::workers::threads;
 use calc_lines::put_message;
 use comemo::Cache;
 use std::alloc::Global;

@@ -1,7 +1,7 @@
 //! Rows of caches that threads share.
 
 use crate::broken::Broken;
-use bench_workers::{
+use crate::workers::{
     Null, branches_are_absorbed_in_order, evictions_reach_a_cache, two_runs_of_one_key,
     two_runs_that_ask_in_turned_order, two_runs_that_ask_other_questions, workers_beside_evictions,
 };

@@ -1,4 +1,4 @@
-//! The row of a view that caches answers.
+//! The row of a `Tracked`, which keeps answers.
 ghost use Rattle.std.proofs.Common.{rules};
 
 use crate::broken::Broken;

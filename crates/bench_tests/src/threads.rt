@@ -2,7 +2,7 @@
 
 use crate::dead::{Dead, Step};
 use crate::overtaken::Overtaken;
-use bench_workers::{
+use bench_rows::workers::{
     Meeting, Null, doubled, evictions_reach_a_cache, evictions_reach_all_keys, two_runs_of_one_key,
 };
 use comemo::internal::evictors::evict;

@@ -44,8 +44,8 @@ impl<T: Track> Told for T {
 
 /// How a function that only reads is done, on a tracked value.
 ///
-/// The value may borrow: several values as one, by `Both`, or a view of the user's own type. The meaning names no value, so
-/// the cache outlives it. A function that calls itself has no `Run`.
+/// The value may borrow: several values as one, by `Both` or a struct of the user's. The meaning names no value, so the
+/// cache outlives it. A function that calls itself has no `Run`.
 pub trait Run<T: Track>: Function<Call = T::Call, Answer = T::Answer> {
     /// What a run needs besides its arguments: the caches of the functions that it calls, or `()`.
     ///
@@ -70,7 +70,7 @@ pub trait Run<T: Track>: Function<Call = T::Call, Answer = T::Answer> {
             (λ fault. fault ≡ Fault.Incomplete → of.new.recording.complete ≡ false) };
 }
 
-/// A view of a tracked value that records what it is asked. A run gets one.
+/// What asks a tracked value, each time, and records calls and answers. A run gets one.
 #[derive(Drop)]
 pub struct Recorder<'a, T: Track> {
     pub(crate) alloc: Global,
@@ -312,7 +312,7 @@ fn run_kept<M: Run<T>, H: Hold<M>, T: Track, S: Sink<Call = T::Call, Answer = T:
     pending.end(cache, sink, ran)
 }
 
-/// Calls a memoized function without needs, outside of any run. A hit of an entry of age 0 clones only the output.
+/// Calls a memoized function without needs, outside of any run. A hit of an entry of age 0 clones no path.
 pub fn memoized<M: Run<T, Needs = ()>, H: Hold<M>, T: Track>(
     alloc: Global,
     cache: &mut H,

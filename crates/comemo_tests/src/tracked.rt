@@ -1,4 +1,4 @@
-//! A memoized function that asks through a view which keeps the answers, and a value that counts how often it is asked.
+//! A memoized function that asks through a `Tracked`, and a value that counts how often it is asked.
 ghost use Rattle.std.specs.Prelude.{◌≡◌, IfOk, false, refl};
 ghost use Rattle.std.proofs.Common.{rules};
 
@@ -57,7 +57,7 @@ impl Track for Counting {
     }
 }
 
-/// The location of a context, through a cache, by a view that keeps its answers.
+/// The location of a context, through a cache, by a view that keeps answers.
 pub fn known_location(
     alloc: Global,
     cache: &mut CacheData<LocationOf>,
@@ -135,8 +135,8 @@ fn sends_what_it_knows(alloc: Global) -> bool {
     is_given && is_known && is_sent && is_held && holds && value.asked() == 1
 }
 
-/// Whether a fork of a view knows no answer that the view knows, nor the view one that its fork knows, and the plain
-/// view asks each time.
+/// Whether a fork of a view knows no answer that the view knows, nor the view one that its fork knows, and a `View` asks
+/// each time.
 fn forks_know_nothing(alloc: Global) -> bool {
     let value = Counting::new(3, 5, false);
     let mut view = value.track(alloc);

@@ -95,7 +95,7 @@ fn printed(alloc: Global) -> Result<String, AllocError> {
 fn views_print_no_value(rt: HostRuntime) {
     let is_so = match printed(rt.alloc()) {
         Ok(text) => text.as_str()
-            == "Tracked(..)   |   Tracked(..)|Tracked(..)   |Tracked(..)   |  TrackedMut(..)|TrackedMut(..)",
+            == "View(..)      |      View(..)|Tracked(..)   |Tracked(..)   |  TrackedMut(..)|TrackedMut(..)",
         Err(_) => false,
     };
     assert!(rt; is_so);

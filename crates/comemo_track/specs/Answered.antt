@@ -1,4 +1,4 @@
--- The state of a view that caches answers, and that these are the value's.
+-- The state of a `Tracked`, which keeps answers, and that these are the value's.
 use Rattle.std.specs.Prelude.{◌≡◌, Bool, false, List, ◌∷◌, Option, None, IsTrue, Some, refl}
 use Rattle.std.specs.Map.{lookup}
 use Rattle.std.specs.Coded.{Coded, code_by, coded×, coded_list}

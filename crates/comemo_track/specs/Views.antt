@@ -26,7 +26,11 @@ module _ {T S : Type 0} where
 abbrev pub place_of : {T : Type 0} → TrackedMut T → MutBor T
 place_of view = view.value
 
--- what a reading view prints, with no option at the hole
+-- what a view that asks each time prints, with no option at the hole
+abbrev pub view_text : List ℕ
+view_text = codes "View(..)"
+
+-- what the other reading views print
 abbrev pub tracked_text : List ℕ
 tracked_text = codes "Tracked(..)"
 

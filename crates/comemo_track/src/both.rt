@@ -6,7 +6,7 @@ use crate::multi::{MultiAnswer, MultiCall};
 use crate::track::{Track, View};
 use std::alloc::{AllocError, Global};
 
-/// Views joined: two tracked values as one, which is tracked itself, so that a run can get both by one view.
+/// Two tracked values as one, which is tracked itself, so that a run can get both: a `View` of each.
 ///
 /// Each call and its answer belong to one part, as with `Multi`. For more than two values write a struct with its own
 /// calls and `Track`: the checker doesn't cover runs of functions whose parts are joined values themselves.

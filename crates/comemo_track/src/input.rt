@@ -181,8 +181,8 @@ impl<'a, 'b, K: Clone + Eq + Hash, T: Track> Input for KeyedMut<'a, 'b, K, T> {
     }
 }
 
-/// A view: an input without a key, whose calls and answers are the view's. Passed by `&mut`, it can be used again after
-/// a look-up.
+/// A `View`: an input without a key, whose calls and answers are the view's. Passed by `&mut`, it can be used again
+/// after a look-up.
 impl<'a, T: Track> Input for View<'a, T> {
     type Call = T::Call;
 
@@ -221,7 +221,7 @@ impl<'a, T: Track> Input for View<'a, T> {
     }
 }
 
-/// A reference to a view: an input like the view, for a place to which the view can't be moved.
+/// A reference to a `View`: an input like the view, for a place to which the view can't be moved.
 ///
 /// A proof that passes a reference to such a reference knows nothing of the view afterwards; one that lends the view
 /// does.

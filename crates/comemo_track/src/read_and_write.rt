@@ -6,7 +6,7 @@ use crate::multi::{MultiAnswer, MultiCall};
 use crate::track::{Track, View};
 use std::alloc::AllocError;
 
-/// Two tracked values as one: a view of the first, and a second that is borrowed to be read and written.
+/// Two tracked values as one: a `View` of the first, and a second that is borrowed to be read and written.
 ///
 /// Each call belongs to one part, as with `BothMut`. The first value may be borrowed elsewhere too.
 #[derive(Drop)]

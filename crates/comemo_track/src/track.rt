@@ -363,7 +363,7 @@ pub trait Track {
         Err(AllocError)
     }
 
-    /// A view of the value that keeps the answers it gets. Does not allocate.
+    /// A view of the value that keeps the answers it gets, for `begin` and `memoize`. Does not allocate.
     final fn track(&self, alloc: Global) -> Tracked<'_, Self>
     where
         Self: Sized,
@@ -373,7 +373,7 @@ pub trait Track {
         Tracked::new(alloc, self)
     }
 
-    /// A view of the value that asks it each time.
+    /// A view of the value that asks it each time, for all else.
     final fn view(&self, alloc: Global) -> View<'_, Self>
     where
         Self: Sized,
@@ -383,7 +383,7 @@ pub trait Track {
         View { value: self }
     }
 
-    /// A view of the value that sends its reads to a sink, which it borrows.
+    /// A view of the value that sends its reads to a sink, which it borrows. It keeps no answers.
     final fn track_with<'a, S: Sink<Call = Self::Call, Answer = Self::Answer>>(
         &'a self,
         alloc: Global,
@@ -463,8 +463,8 @@ impl Track for () {
     }
 }
 
-/// A read-only view of a tracked value, which is asked each time. Contracts see it as the value. It doesn't lend the
-/// value.
+/// A read-only view of a tracked value, which is asked each time; a `Tracked` keeps answers. Contracts see it as the
+/// value. It doesn't lend the value.
 #[derive(Drop)]
 pub struct View<'a, T> {
     pub(crate) value: &'a T,
@@ -517,18 +517,18 @@ impl<'a, T: Track> View<'a, T> {
     }
 }
 
-/// Prints `Tracked(..)`, whatever the value is.
+/// Prints `View(..)`, whatever the value is.
 impl<'a, T> Debug for View<'a, T> {
-    ghost use Rattle.comemo_track.specs.Views.{tracked_text};
+    ghost use Rattle.comemo_track.specs.Views.{view_text};
 
-    ghost debug_output = { λ _. Some tracked_text };
+    ghost debug_output = { λ _. Some view_text };
 
     fn fmt<W: fmt::Write>(&self, f: &mut fmt::Formatter<W>) -> fmt::Result {
-        f.pad("Tracked(..)")
+        f.pad("View(..)")
     }
 }
 
-/// A read-only view with the sink that its reads are sent to. Contracts see `value_of` and `sink_of`.
+/// A `View` with the sink that its reads are sent to. Contracts see `value_of` and `sink_of`.
 ///
 /// It lends neither; the sink is its caller's again when the view is gone.
 #[derive(Drop)]
@@ -553,13 +553,13 @@ impl<'a, T: Track, S: Sink<Call = T::Call, Answer = T::Answer>> TrackedWith<'a, 
     }
 }
 
-/// Prints as the view without a sink.
+/// Prints `Tracked(..)`, whatever the value is.
 impl<'a, T, S> Debug for TrackedWith<'a, T, S> {
     ghost use Rattle.comemo_track.specs.Views.{tracked_text};
 
     ghost debug_output = { λ _. Some tracked_text };
 
     fn fmt<W: fmt::Write>(&self, f: &mut fmt::Formatter<W>) -> fmt::Result {
-        Debug::fmt(&View { value: self.value }, f)
+        f.pad("Tracked(..)")
     }
 }

@@ -160,8 +160,8 @@ impl<'a, T: Track> Tracked<'a, T> {
     }
 }
 
-/// A view: an input without a key, whose calls and answers are the value's. A look-up asks the value only what
-/// the view doesn't know yet. Passed by `&mut`, the view can be used again after the look-up.
+/// A `Tracked`: an input without a key, whose calls and answers are the value's. A look-up asks the value only what the
+/// view doesn't know yet. Passed by `&mut`, the view can be used again after the look-up.
 impl<'a, T: Track> Input for Tracked<'a, T> {
     type Call = T::Call;
 
@@ -214,7 +214,7 @@ fn call_behind<I: Input>(input: &mut &mut I, call: &I::Call) -> Result<I::Answer
     (**input).call(call)
 }
 
-/// A reference to a view: an input like the view, for a place to which the view can't be moved.
+/// A reference to a `Tracked`: an input like the view, for a place to which the view can't be moved.
 ///
 /// A proof that passes a reference to such a reference knows nothing of the view afterwards; one that lends the view
 /// does.
@@ -258,7 +258,7 @@ impl<'a, T: Track> Input for &mut Tracked<'a, T> {
     }
 }
 
-/// Prints `Tracked(..)`, as a `View` does.
+/// Prints `Tracked(..)`, whatever the value is.
 impl<'a, T: Track> Debug for Tracked<'a, T> {
     ghost use Rattle.std.specs.Prelude.{Some};
     ghost use Rattle.comemo_track.specs.Views.{tracked_text};
@@ -266,6 +266,6 @@ impl<'a, T: Track> Debug for Tracked<'a, T> {
     ghost debug_output = { λ _. Some tracked_text };
 
     fn fmt<W: fmt::Write>(&self, f: &mut fmt::Formatter<W>) -> fmt::Result {
-        Debug::fmt(&View { value: self.value }, f)
+        f.pad("Tracked(..)")
     }
 }

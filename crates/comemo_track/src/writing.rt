@@ -9,8 +9,8 @@ use std::alloc::{AllocError, Global};
 use std::fmt;
 use std::fmt::Debug;
 
-/// A view of a tracked value that reads and writes. Contracts see the borrowed value as `place_of`. It doesn't lend the
-/// value.
+/// A view of a tracked value that reads and writes, and keeps no answers. Contracts see the borrowed value as
+/// `place_of`. It doesn't lend the value.
 #[derive(Drop)]
 pub struct TrackedMut<'a, T> {
     pub(crate) value: &'a mut T,
@@ -70,7 +70,7 @@ impl<'a, T: Track> TrackedMut<'a, T> {
         self.value.ask(call)
     }
 
-    /// Turns this view into a read-only one, which knows nothing yet.
+    /// Turns this view into a `Tracked`, which knows nothing yet.
     pub fn downgrade(this: Self, alloc: Global) -> Tracked<'a, T>
         ensures value { result.value ≡ (place_of this.entry).now }
         ensures none { result.known ≡ [] }
@@ -79,7 +79,7 @@ impl<'a, T: Track> TrackedMut<'a, T> {
         Tracked::new(alloc, value)
     }
 
-    /// A read-only view that borrows this one, and knows nothing yet.
+    /// A `Tracked` that borrows this view, and knows nothing yet.
     pub fn reborrow<'b>(this: &'b Self, alloc: Global) -> Tracked<'b, T>
         ensures value { result.value ≡ (place_of this.now).now }
         ensures none { result.known ≡ [] }

@@ -2,7 +2,7 @@
 ghost use Rattle.std.specs.Prelude.{◌≢◌, ⊤};
 ghost use Rattle.std.proofs.Common.{rules};
 
-use crate::gate::{Gate, Meeting, TURNS};
+use crate::workers::gate::{Gate, Meeting, TURNS};
 use comemo::internal::Keyed;
 use comemo::{Begun, Cache, Fault, Function, Hold, How, Reply, Top, Track, begin};
 use comemo_samples::{Context, ContextCall};

@@ -1,7 +1,7 @@
 //! Doubles of numbers, in a cache that threads share.
 ghost use Rattle.std.specs.Prelude.{◌≡◌, ◌+◌, ◌%◌, ◌^◌, IfOk, IfSome};
 
-use crate::gate::{Gate, Meeting, Open, TURNS};
+use crate::workers::gate::{Gate, Meeting, Open, TURNS};
 use comemo::internal::{Evict, Keyed};
 use comemo::{Begun, Fault, Hold, How, Reply, Top, Track, begin};
 use comemo_guide::double::Double;

@@ -9,7 +9,7 @@ use Rattle.comemo.proofs.Holding.{some_held}
 use Rattle.comemo_samples.specs.declared.contexts.ContextCall.{ContextCall}
 use Rattle.comemo_samples.specs.declared.contexts.ContextCall.TheVariants.{Location, Styles}
 use Rattle.comemo_samples.specs.contracts.contexts.ContextCallPartialEq.TheImpl as call
-use Rattle.bench_workers.proofs.orders.whole_by.Goals as goal
+use Rattle.bench_rows.proofs.workers.orders.whole_by.Goals as goal
 
 -- of two different calls each is one
 each : (one other c : ContextCall) → one ≢ other → IsTrue (call.ghosts.eq other c) ⊎ IsTrue (call.ghosts.eq one c) ⊎ ⊥

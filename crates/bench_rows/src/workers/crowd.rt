@@ -1,7 +1,7 @@
 //! Many workers and one cache.
 
-use crate::doubling::doubled;
-use crate::gate::Open;
+use crate::workers::doubling::doubled;
+use crate::workers::gate::Open;
 use comemo::Cache;
 use comemo_guide::double::Double;
 use std::alloc::{AllocError, Global};
