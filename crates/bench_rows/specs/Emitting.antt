@@ -4,8 +4,8 @@ use Rattle.std.proofs.Common.{◌∙◌, refl, sym, ap}
 use Rattle.std.specs.Global.{Global}
 use Rattle.comemo.specs.Meaning.{SameWrites}
 use Rattle.comemo.specs.Cache.{FunctionLaws}
-use Rattle.comemo_samples.specs.declared.emitter.EmitterCall.{EmitterCall}
-use Rattle.comemo_samples.specs.Writers.{emitted}
+use Rattle.comemo_examples.specs.declared.emitter.EmitterCall.{EmitterCall}
+use Rattle.comemo_examples.specs.Writers.{emitted}
 
 -- these writes emit a text, and then `1`
 abbrev pub EmitsWithOne : String Global → List EmitterCall → Type 0

@@ -2,7 +2,7 @@
 
 use crate::broken::Broken;
 use comemo::{CacheData, How, memoized};
-use comemo_guide::chains::{Chain, IsInChain};
+use comemo_examples::chains::{Chain, IsInChain};
 use std::alloc::Global;
 
 /// Whether the call says that a chain has a number or not, and came about like this.

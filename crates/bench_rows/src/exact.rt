@@ -5,7 +5,7 @@ use crate::calls::{call, gives};
 use calc_core::commands::{Answer, Command};
 use calc_core::sessions::session;
 use comemo::{CacheData, How};
-use comemo_guide::numbers::{DoubleFlat, Flat};
+use comemo_examples::numbers::{DoubleFlat, Flat};
 use std::alloc::{AllocError, Global};
 
 /// Whether keys with one hash are kept apart.

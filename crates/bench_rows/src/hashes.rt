@@ -3,7 +3,7 @@
 use crate::broken::Broken;
 use comemo::internal::{SipHasher13, hash_any};
 use comemo::{Prehashed, Track, hash};
-use comemo_samples::Town;
+use comemo_examples::Town;
 use std::alloc::{AllocError, Global};
 use std::hash::Hasher;
 

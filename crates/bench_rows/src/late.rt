@@ -2,8 +2,8 @@
 
 use crate::broken::Broken;
 use comemo::{BothMut, Cache, CacheData, Fault, Hold, How, Top, memoized_mut, memoized_mut_with};
-use comemo_guide::late::{AddsAndGets, Bump, Readback, Twice};
-use comemo_samples::Counter;
+use comemo_examples::Counter;
+use comemo_examples::late::{AddsAndGets, Bump, Readback, Twice};
 use std::alloc::Global;
 use std::sync::Wait;
 

@@ -4,8 +4,8 @@ use crate::broken::Broken;
 use crate::calls::{call, gives};
 use crate::fibonacci::{Fibonacci, numbered};
 use comemo::{CacheData, Constraint, How, Top, memoized_with};
-use comemo_guide::double::Double;
-use comemo_guide::numbers::{Identity, Sum};
+use comemo_examples::double::Double;
+use comemo_examples::numbers::{Identity, Sum};
 use std::alloc::Global;
 
 /// Whether a number is doubled once.

@@ -4,7 +4,7 @@ use crate::broken::Broken;
 use crate::steps::{Numbered, read, write};
 use crate::tally::Tally;
 use comemo::{Constraint, Sink, Track};
-use comemo_samples::{Context, ContextCall};
+use comemo_examples::{Context, ContextCall};
 use std::alloc::Global;
 
 /// Which of two reads and a write a recording took.

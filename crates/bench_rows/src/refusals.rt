@@ -11,7 +11,7 @@ use comemo::{
     Begun, CacheData, Constraint, Fault, Function, How, RecorderMut, Reply, RunMut, Track, begin,
     memoized_mut_with,
 };
-use comemo_samples::NotebookCall;
+use comemo_examples::NotebookCall;
 use std::alloc::{AllocError, Global};
 use std::marker::Model;
 
@@ -36,7 +36,7 @@ impl Track for Book {
     type Answer = u64;
 
     ghost use Rattle.std.specs.Prelude.{◌++◌};
-    ghost use Rattle.comemo_samples.specs.Notebooks.{noted};
+    ghost use Rattle.comemo_examples.specs.Notebooks.{noted};
 
     ghost answers = { λ _ _. 7 };
 
@@ -81,7 +81,7 @@ impl Function for NotesThree {
 
     type Out = u64;
 
-    ghost use Rattle.comemo_samples.specs.declared.notebook.NotebookCall.TheVariants.{Note};
+    ghost use Rattle.comemo_examples.specs.declared.notebook.NotebookCall.TheVariants.{Note};
 
     ghost means = { λ n _ out. out ≡ n };
 

@@ -2,9 +2,9 @@
 
 use crate::broken::Broken;
 use comemo::internal::InsertError;
-use comemo_samples::letters::Letter::{self, A, B, C};
-use comemo_samples::letters::{Letters, insert};
-use comemo_samples::places::{PlaceCall, Places, steps_below};
+use comemo_examples::letters::Letter::{self, A, B, C};
+use comemo_examples::letters::{Letters, insert};
+use comemo_examples::places::{PlaceCall, Places, steps_below};
 use comemo_tree::{Settled, TreeReply};
 use std::alloc::{AllocError, Global};
 

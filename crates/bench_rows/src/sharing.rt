@@ -7,7 +7,7 @@ use crate::workers::{
 };
 use comemo::internal::Evict;
 use comemo::{Cache, Function};
-use comemo_guide::double::Double;
+use comemo_examples::double::Double;
 use std::alloc::Global;
 use std::rt::Clock;
 use std::sync::Wait;

@@ -3,11 +3,11 @@
 use crate::broken::Broken;
 use crate::calls::{call, gives, gives_text};
 use comemo::{CacheData, How, Top, memoized_with};
-use comemo_guide::greetings::{Greeting, SaysHello, World};
-use comemo_guide::kinds::{IsLong, Selfie, Text};
-use comemo_guide::loader::{Contents, Library, Loader};
-use comemo_guide::numbers::SumBelow;
-use comemo_guide::texts::Same;
+use comemo_examples::greetings::{Greeting, SaysHello, World};
+use comemo_examples::kinds::{IsLong, Selfie, Text};
+use comemo_examples::loader::{Contents, Library, Loader};
+use comemo_examples::numbers::SumBelow;
+use comemo_examples::texts::Same;
 use std::alloc::{AllocError, Global};
 
 /// Whether a text's call returns it, and came about like this.

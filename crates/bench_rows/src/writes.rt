@@ -7,7 +7,7 @@ use crate::ages::aged;
 use crate::broken::Broken;
 use crate::tally::Tally;
 use comemo::{CacheData, Constraint, Fault, Function, How, RecorderMut, RunMut, memoized_mut_with};
-use comemo_samples::{Counter, CounterCall, Emitter, EmitterCall};
+use comemo_examples::{Counter, CounterCall, Emitter, EmitterCall};
 use std::alloc::Global;
 
 /// Emits a text, and then `1`.
@@ -211,7 +211,7 @@ impl Function for AddsThree {
 
     type Out = ();
 
-    ghost use Rattle.comemo_samples.specs.declared.counter.CounterCall.TheVariants.{Add};
+    ghost use Rattle.comemo_examples.specs.declared.counter.CounterCall.TheVariants.{Add};
 
     ghost means = { λ _ _ _. ⊤ };
 
@@ -245,7 +245,7 @@ impl Function for AddsByAnother {
 
     type Out = ();
 
-    ghost use Rattle.comemo_samples.specs.declared.counter.CounterCall.TheVariants.{Add};
+    ghost use Rattle.comemo_examples.specs.declared.counter.CounterCall.TheVariants.{Add};
 
     ghost means = { λ _ _ _. ⊤ };
 

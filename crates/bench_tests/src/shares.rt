@@ -1,8 +1,8 @@
 //! A hit of a share of a cache sends its reads to the sink as reads, and its writes as writes.
 
 use comemo::{BothMut, Cache, Constraint, Hold, How, MultiAnswer, MultiCall, memoized_mut_with};
-use comemo_guide::tally::Tally;
-use comemo_samples::{Counter, CounterCall, Town, TownCall};
+use comemo_examples::tally::Tally;
+use comemo_examples::{Counter, CounterCall, Town, TownCall};
 use std::alloc::Global;
 
 /// Whether a tally of 21 degrees ends as `how`, reads them alone, and adds them to a counter once.

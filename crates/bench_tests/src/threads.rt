@@ -8,10 +8,10 @@ use bench_rows::workers::{
 use comemo::internal::evictors::evict;
 use comemo::internal::{Evict, Evictor, Hashed, register_evictor};
 use comemo::{Cache, CacheData, Function, Hold, How, memoized};
-use comemo_guide::double::Double;
-use comemo_guide::shared::warmths;
-use comemo_guide::warmth::Warmth;
-use comemo_samples::Town;
+use comemo_examples::Town;
+use comemo_examples::double::Double;
+use comemo_examples::shared::warmths;
+use comemo_examples::warmth::Warmth;
 use std::alloc::{AllocError, Global};
 use std::sync::{Arc, Mutex, RwLock, Wait};
 use std::test::Fail;

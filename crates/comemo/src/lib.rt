@@ -6,7 +6,7 @@
 //!
 //! ```rust
 //! use comemo::{CacheData, How, memoized};
-//! use comemo_samples::Town;
+//! use comemo_examples::Town;
 //! use std::test::Fail;
 //!
 //! fn a_town_that_grows_is_as_warm(rt: HostRuntime) -> Result<(), Fail> {
@@ -27,7 +27,7 @@
 //! }
 //! ```
 //!
-//! `Town` is in the crate `comemo_samples`. These lines run as a test in the crate `comemo_tests`, in
+//! `Town` is in the crate `comemo_examples`. These lines run as a test in the crate `comemo_tests`, in
 //! `src/examples.rt`, where `Warmth` is too. `docs/GUIDE.md` explains how to write such a function.
 #![tactic(auto)]
 

@@ -7,7 +7,7 @@ ghost use Rattle.comemo.specs.Function.{WritesNone};
 use comemo::{
     CacheData, Constraint, Fault, Function, How, Recorder, Reply, Run, Top, Track, memoized_with,
 };
-use comemo_samples::{Context, ContextCall};
+use comemo_examples::{Context, ContextCall};
 use std::alloc::Global;
 
 /// The location of a context.
@@ -22,7 +22,7 @@ impl Function for Location {
 
     type Out = u64;
 
-    ghost use Rattle.comemo_samples.specs.declared.contexts.ContextCall.TheVariants.{Location};
+    ghost use Rattle.comemo_examples.specs.declared.contexts.ContextCall.TheVariants.{Location};
 
     ghost means = { λ _ m output. output ≡ m Location };
 

@@ -3,7 +3,7 @@ ghost use Rattle.std.specs.Prelude.{◌≡◌, IfOk, ◌+◌, ◌%◌, ◌^◌, 
 ghost use Rattle.std.proofs.Common.{rules};
 
 use comemo::{CacheData, Constraint, Fault, Function, How, Reply, Top, Track, View, memoize};
-use comemo_samples::{Context, ContextCall};
+use comemo_examples::{Context, ContextCall};
 use std::alloc::Global;
 
 /// The sum of a context's location and its styles, which wraps at 64 bits.
@@ -18,7 +18,7 @@ impl Function for SumOf {
 
     type Out = u64;
 
-    ghost use Rattle.comemo_samples.specs.declared.contexts.ContextCall.TheVariants.{Location, Styles};
+    ghost use Rattle.comemo_examples.specs.declared.contexts.ContextCall.TheVariants.{Location, Styles};
 
     ghost means = { λ _ m out. out ≡ (m Location + m Styles) % 2 ^ 64 };
 

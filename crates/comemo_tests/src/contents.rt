@@ -3,7 +3,7 @@ ghost use Rattle.std.specs.Prelude.{◌≡◌};
 ghost use Rattle.std.proofs.Common.{rules};
 
 use comemo::{Cache, CacheData, Contents, Fault, Function, Hold, Recorder, Run, memoized};
-use comemo_samples::{Town, TownCall};
+use comemo_examples::{Town, TownCall};
 use std::alloc::Global;
 use std::test::Fail;
 
@@ -19,7 +19,7 @@ impl Function for WarmthFor {
 
     type Out = u64;
 
-    ghost use Rattle.comemo_samples.specs.declared.town.TownCall.TheVariants.{Degrees};
+    ghost use Rattle.comemo_examples.specs.declared.town.TownCall.TheVariants.{Degrees};
 
     ghost means = { λ _ m out. out ≡ m Degrees };
 

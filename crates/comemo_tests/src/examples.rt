@@ -3,7 +3,7 @@ ghost use Rattle.std.specs.Prelude.{◌≡◌};
 ghost use Rattle.std.proofs.Common.{rules};
 
 use comemo::{CacheData, Constraint, Fault, Function, How, Recorder, Run, Track, memoized};
-use comemo_samples::{Town, TownCall};
+use comemo_examples::{Town, TownCall};
 use std::test::Fail;
 
 #[test]
@@ -36,7 +36,7 @@ impl Function for Warmth {
 
     type Out = u64;
 
-    ghost use Rattle.comemo_samples.specs.declared.town.TownCall.TheVariants.{Degrees};
+    ghost use Rattle.comemo_examples.specs.declared.town.TownCall.TheVariants.{Degrees};
 
     ghost means = { λ _ m out. out ≡ m Degrees };
 

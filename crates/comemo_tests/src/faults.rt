@@ -8,7 +8,7 @@ use comemo::{
     Both, CacheData, Constraint, Fault, Function, MultiAnswer, MultiCall, Recorder, Run, Sink, Top,
     Track, View, memoize, memoized_with,
 };
-use comemo_samples::{Context, ContextCall};
+use comemo_examples::{Context, ContextCall};
 use std::alloc::Global;
 
 /// A function whose runs all end out of memory.

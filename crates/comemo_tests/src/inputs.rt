@@ -5,7 +5,7 @@ ghost use Rattle.comemo_tests.specs.Broken.{IsBroken};
 
 use comemo::internal::Breaking;
 use comemo::{Begun, CacheData, Fault, Function, How, Reply, Sink, Top, Track, View, begin};
-use comemo_samples::{Context, ContextCall};
+use comemo_examples::{Context, ContextCall};
 use std::alloc::Global;
 
 /// The location of a context.
@@ -20,7 +20,7 @@ impl Function for LocationOf {
 
     type Out = u64;
 
-    ghost use Rattle.comemo_samples.specs.declared.contexts.ContextCall.TheVariants.{Location};
+    ghost use Rattle.comemo_examples.specs.declared.contexts.ContextCall.TheVariants.{Location};
 
     ghost means = { λ _ m out. out ≡ m Location };
 

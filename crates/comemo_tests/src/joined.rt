@@ -8,7 +8,7 @@ use comemo::internal::{First, Hashed, Input, Multi, Second};
 use comemo::{
     Begun, CacheData, Fault, Function, How, MultiAnswer, MultiCall, Reply, Top, Track, View, begin,
 };
-use comemo_samples::{Context, ContextCall};
+use comemo_examples::{Context, ContextCall};
 use std::alloc::Global;
 
 /// Whether a context holds a number.
@@ -23,7 +23,7 @@ impl Function for ContainsNumber {
 
     type Out = bool;
 
-    ghost use Rattle.comemo_samples.specs.declared.contexts.ContextCall.TheVariants.{Location, Styles};
+    ghost use Rattle.comemo_examples.specs.declared.contexts.ContextCall.TheVariants.{Location, Styles};
 
     ghost means = { λ key answers out. OnParts answers
         (λ _ m. out ≡ (nat_eq (m Location) key.0 || nat_eq (m Styles) key.0)) };

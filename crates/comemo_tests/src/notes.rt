@@ -4,7 +4,7 @@ ghost use Rattle.std.proofs.Common.{rules};
 ghost use Rattle.comemo.specs.MeaningLaws.{exact_laws};
 
 use comemo::{Fault, Function, RecorderMut, RunMut};
-use comemo_samples::{CounterCall, Notebook, NotebookCall};
+use comemo_examples::{CounterCall, Notebook, NotebookCall};
 
 /// Notes a number, the owner's number, and the first number again. Returns the owner's number.
 pub struct NotesThree;
@@ -18,7 +18,7 @@ impl Function for NotesThree {
 
     type Out = u64;
 
-    ghost use Rattle.comemo_samples.specs.declared.notebook.NotebookCall.TheVariants.{Owner, Note};
+    ghost use Rattle.comemo_examples.specs.declared.notebook.NotebookCall.TheVariants.{Owner, Note};
 
     ghost means = { λ _ m out. out ≡ m Owner };
 
@@ -55,7 +55,7 @@ impl Function for AddsThree {
 
     type Out = ();
 
-    ghost use Rattle.comemo_samples.specs.declared.counter.CounterCall.TheVariants.{Add};
+    ghost use Rattle.comemo_examples.specs.declared.counter.CounterCall.TheVariants.{Add};
 
     ghost means = { λ _ _ _. ⊤ };
 

@@ -3,7 +3,7 @@ ghost use Rattle.std.proofs.Common.{rules};
 
 use comemo::internal::{Keyed, Pending};
 use comemo::{Begun, CacheData, Constraint, Fault, Function, How, Sink, Track, begin};
-use comemo_samples::{Context, ContextCall};
+use comemo_examples::{Context, ContextCall};
 use std::alloc::{AllocError, Global};
 
 /// A function of which any output is right, so that its runs may ask anything.

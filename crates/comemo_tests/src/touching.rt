@@ -3,7 +3,7 @@
 ghost use Rattle.comemo_tests.specs.Touching.{TouchesAlike, TouchedAlike};
 
 use comemo::Call;
-use comemo_samples::{CounterCall, EmitterCall, NotebookCall};
+use comemo_examples::{CounterCall, EmitterCall, NotebookCall};
 
 /// If equal writes touch equal reads, then of two recordings that took equal calls in the same order both are late, or
 /// neither is.

@@ -6,7 +6,7 @@ use crate::inputs::LocationOf;
 use comemo::{
     Begun, CacheData, Call, Constraint, Fault, How, Reply, Sink, Top, Track, Tracked, begin,
 };
-use comemo_samples::{Context, ContextCall};
+use comemo_examples::{Context, ContextCall};
 use std::alloc::{AllocError, Global};
 use std::hash::Hash;
 use std::sync::atomic::{AtomicU64, Ordering};
@@ -40,7 +40,7 @@ impl Track for Counting {
 
     type Answer = u64;
 
-    ghost use Rattle.comemo_samples.specs.Contexts.{field};
+    ghost use Rattle.comemo_examples.specs.Contexts.{field};
 
     ghost answers = { λ s call. field s.context.location s.context.styles call };
 

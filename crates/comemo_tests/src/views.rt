@@ -3,7 +3,7 @@
 
 use crate::tracked::Counting;
 use comemo::{Constraint, Sink, Top, Track};
-use comemo_samples::{Context, ContextCall, Counter};
+use comemo_examples::{Context, ContextCall, Counter};
 use std::alloc::{AllocError, Global};
 
 /// A recording of reads of a context.

@@ -6,7 +6,7 @@ use comemo::{
     Begun, BothMut, CacheData, Constraint, Fault, How, MultiAnswer, MultiCall, RecorderMut, Sink,
     Top, Track, memoize, memoized_mut_with,
 };
-use comemo_samples::{Counter, CounterCall, Notebook, NotebookCall, Town, TownCall};
+use comemo_examples::{Counter, CounterCall, Notebook, NotebookCall, Town, TownCall};
 use std::alloc::Global;
 use std::test::Fail;
 

@@ -5,7 +5,7 @@
 //! after a change that no call saw:
 //!
 //! ```rust
-//! use comemo_samples::{Town, TownCall};
+//! use comemo_examples::{Town, TownCall};
 //! use comemo_track::{Constraint, Track};
 //! use std::test::Fail;
 //!
@@ -27,7 +27,7 @@
 //! }
 //! ```
 //!
-//! `Town` is of the crate `comemo_samples`. These lines run as a test in the crate `comemo_tests`, in
+//! `Town` is of the crate `comemo_examples`. These lines run as a test in the crate `comemo_tests`, in
 //! `src/examples.rt`, through the crate `comemo`, which has all that this one has.
 #![tactic(auto)]
 

@@ -1,6 +1,6 @@
 //! The orders of a run.
 use comemo_base::InsertError;
-use comemo_samples::letters::{Letters, insert, run_of};
+use comemo_examples::letters::{Letters, insert, run_of};
 use comemo_tree::Settled;
 use std::alloc::Global;
 

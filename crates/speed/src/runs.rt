@@ -8,7 +8,7 @@ use crate::sums::{SumKey, SumOfCells, sum};
 use crate::texts::{text_by_kept_number, text_by_number, text_itself};
 use crate::workload::Workload;
 use comemo::{CacheData, Fault};
-use comemo_samples::Cells;
+use comemo_examples::Cells;
 use std::alloc::Global;
 use std::rt::Clock;
 use std::sync::Wait;

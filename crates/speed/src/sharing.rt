@@ -3,7 +3,7 @@
 use crate::stopwatch::{Seen, Stopwatch};
 use crate::sums::{SumKey, SumOfCells, sum};
 use comemo::{Cache, Fault};
-use comemo_samples::Cells;
+use comemo_examples::Cells;
 use std::alloc::Global;
 use std::rt::Clock;
 use std::sync::Wait;

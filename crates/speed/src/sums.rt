@@ -3,7 +3,7 @@ ghost use Rattle.std.specs.Prelude.{⊤};
 ghost use Rattle.std.proofs.Common.{rules};
 
 use comemo::{Fault, Function, Hold, Recorder, Run, memoized};
-use comemo_samples::{Cells, Get};
+use comemo_examples::{Cells, Get};
 use std::alloc::Global;
 
 /// What a sum starts with, and how many cells it adds.

@@ -2,4 +2,6 @@
 #![tactic(auto)]
 
 pub mod coat;
+#[cfg(test)]
+mod coats;
 pub mod weather;

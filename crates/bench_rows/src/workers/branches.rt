@@ -1,7 +1,7 @@
 //! Branches of one run, each in a thread with its own recording and view.
 
 use comemo::{Constraint, Fault, Track, View};
-use comemo_samples::{Cells, Get};
+use comemo_examples::{Cells, Get};
 use std::alloc::{AllocError, Global};
 use std::thread::{Threads, join};
 

@@ -3,7 +3,7 @@
 use crate::workers::doubling::doubled;
 use crate::workers::gate::Open;
 use comemo::Cache;
-use comemo_guide::double::Double;
+use comemo_examples::double::Double;
 use std::alloc::{AllocError, Global};
 use std::sync::Wait;
 use std::thread::{Threads, join, map_indices};

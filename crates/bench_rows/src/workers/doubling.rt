@@ -4,7 +4,7 @@ ghost use Rattle.std.specs.Prelude.{◌≡◌, ◌+◌, ◌%◌, ◌^◌, IfOk, 
 use crate::workers::gate::{Gate, Meeting, Open, TURNS};
 use comemo::internal::{Evict, Keyed};
 use comemo::{Begun, Fault, Hold, How, Reply, Top, Track, begin};
-use comemo_guide::double::Double;
+use comemo_examples::double::Double;
 use std::alloc::Global;
 use std::rt::Clock;
 use std::thread::{Threads, join};

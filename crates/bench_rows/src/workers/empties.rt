@@ -5,7 +5,7 @@ ghost use Rattle.std.proofs.Common.{rules};
 use crate::workers::gate::{Gate, Meeting, TURNS};
 use comemo::internal::Keyed;
 use comemo::{Begun, Cache, Fault, Function, Hold, How, Reply, Top, Track, begin};
-use comemo_samples::{Context, ContextCall};
+use comemo_examples::{Context, ContextCall};
 use std::alloc::Global;
 use std::rt::Clock;
 use std::sync::Wait;

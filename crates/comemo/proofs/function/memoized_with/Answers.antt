@@ -1,13 +1,13 @@
 use Rattle.comemo.proofs.function.memoized_with.Goals as goal
 
 pub returns-clause-right : goal.returns-clause-right
-returns-clause-right g c = rw c.track.ensures at c.memoized_view.ensures.right
+returns-clause-right g c = rw c.view.ensures at c.memoized_view.ensures.right
 
 pub returns-clause-reply : goal.returns-clause-reply
-returns-clause-reply g c = rw c.track.ensures at c.memoized_view.ensures.reply
+returns-clause-reply g c = rw c.view.ensures at c.memoized_view.ensures.reply
 
 pub returns-clause-fault : goal.returns-clause-fault
-returns-clause-fault g c = rw c.track.ensures at c.memoized_view.ensures.fault
+returns-clause-fault g c = rw c.view.ensures at c.memoized_view.ensures.fault
 
 pub returns-clause-err : goal.returns-clause-err
-returns-clause-err g c = rw c.track.ensures at c.memoized_view.ensures.err
+returns-clause-err g c = rw c.view.ensures at c.memoized_view.ensures.err

@@ -1,6 +1,6 @@
 use Rattle.std.proofs.Common.{rules, refl, ap, ◌∙◌, ◌++◌, []}
 use Rattle.comemo.proofs.JoinedHits.{joined_hit}
-use Rattle.comemo_samples.specs.declared.contexts.ContextCall.TheVariants.{Location, Styles}
+use Rattle.comemo_examples.specs.declared.contexts.ContextCall.TheVariants.{Location, Styles}
 use Rattle.comemo_tests.proofs.Contains.{is_first, is_second}
 use Rattle.comemo_tests.proofs.joined.contains.Goals as goal
 

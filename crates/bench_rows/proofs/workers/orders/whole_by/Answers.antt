@@ -6,9 +6,9 @@ use Rattle.comemo.specs.Sending.{Asks}
 use Rattle.comemo.specs.Runs.{IsRun}
 use Rattle.comemo.proofs.NamedRuns.{AsksLike, nothing_asked, asked_then, settled_run}
 use Rattle.comemo.proofs.Holding.{some_held}
-use Rattle.comemo_samples.specs.declared.contexts.ContextCall.{ContextCall}
-use Rattle.comemo_samples.specs.declared.contexts.ContextCall.TheVariants.{Location, Styles}
-use Rattle.comemo_samples.specs.contracts.contexts.ContextCallPartialEq.TheImpl as call
+use Rattle.comemo_examples.specs.declared.contexts.ContextCall.{ContextCall}
+use Rattle.comemo_examples.specs.declared.contexts.ContextCall.TheVariants.{Location, Styles}
+use Rattle.comemo_examples.specs.contracts.contexts.ContextCallPartialEq.TheImpl as call
 use Rattle.bench_rows.proofs.workers.orders.whole_by.Goals as goal
 
 -- of two different calls each is one

@@ -1,0 +1,134 @@
+//! A tracked text with two kinds of questions, of which one has an argument, and a function for each.
+ghost use Rattle.std.specs.Prelude.{◌≡◌, false, nat_lt, refl, string_bytes};
+ghost use Rattle.std.proofs.Common.{rules};
+ghost use Rattle.comemo_examples.specs.Kinds.{text_in, length_in};
+ghost use Rattle.comemo_examples.specs.declared.kinds.TextCall.TheVariants.{Itself, LengthPlus};
+
+use comemo::{Call, Fault, Function, Recorder, Run, Track};
+use std::alloc::AllocError;
+
+/// What can be asked of a text.
+#[derive(Clone, Copy, Drop, Debug, PartialEq, Eq, Hash)]
+pub enum TextCall {
+    /// The text itself.
+    Itself,
+    /// The sum of its length in bytes and a number, which wraps at 64 bits.
+    LengthPlus(u64),
+}
+
+impl Call for TextCall {
+    ghost is_write = { λ _. false };
+
+    ghost touches = { λ _ _. false };
+
+    ghost same_kind = { λ x y h. refl };
+
+    ghost clones = { λ x y h. Prim.search rules };
+
+    fn is_mutable(&self) -> bool {
+        false
+    }
+
+    fn touches(&self, _read: &TextCall) -> bool {
+        false
+    }
+}
+
+/// What a text answers: one variant for each kind of question.
+#[derive(Clone, Drop, Debug, PartialEq, Eq, PartialOrd, Ord)]
+pub enum TextAnswer {
+    /// The text itself: the answer to `TextCall::Itself`.
+    Text(String),
+    /// The sum of the length in bytes and the number: the answer to `TextCall::LengthPlus`.
+    Length(u64),
+}
+
+/// A text. The answer to `TextCall::Itself` is a copy, and fails if out of memory.
+#[derive(Drop)]
+pub struct Text {
+    /// The text.
+    pub text: String,
+}
+
+impl Track for Text {
+    type Call = TextCall;
+
+    type Answer = TextAnswer;
+
+    ghost use Rattle.comemo_examples.specs.Kinds.{text_answer};
+    ghost use Rattle.comemo_examples.specs.KindLaws.{answers_alike, answer_clones};
+
+    ghost answers = { λ s call. text_answer s.text call };
+
+    ghost alike = { λ s. answers_alike s.text };
+
+    ghost clones = { answer_clones };
+
+    fn ask(&self, call: &TextCall) -> Result<TextAnswer, AllocError> {
+        match call {
+            TextCall::Itself => Ok(TextAnswer::Text(self.text.clone()?)),
+            TextCall::LengthPlus(n) => {
+                let length = self.text.len() as u64;
+                Ok(TextAnswer::Length(length.wrapping_add(*n)))
+            }
+        }
+    }
+}
+
+/// A text itself. Asks for the text, so another text is another answer.
+pub struct Selfie;
+
+impl Function for Selfie {
+    type Key = ();
+
+    type Call = TextCall;
+
+    type Answer = TextAnswer;
+
+    type Out = String;
+
+    ghost means = { λ _ m out. string_bytes out ≡ text_in (m Itself) };
+
+    ghost laws = { Prim.search rules };
+}
+
+impl Run<Text> for Selfie {
+    type Needs = ();
+
+    fn run(_key: &(), text: &mut Recorder<'_, Text>, _needs: &mut ()) -> Result<String, Fault> {
+        // The answer to this question is a text, so the other branch does not occur.
+        let TextAnswer::Text(itself) = text.ask(TextCall::Itself)? else {
+            unreachable!();
+        };
+        Ok(itself)
+    }
+}
+
+/// Whether a text is long: whether its length in bytes plus 5 exceeds 10. Asks for that sum alone.
+pub struct IsLong;
+
+impl Function for IsLong {
+    type Key = ();
+
+    type Call = TextCall;
+
+    type Answer = TextAnswer;
+
+    type Out = bool;
+
+    ghost means = { λ _ m out. out ≡ nat_lt 10 (length_in (m (LengthPlus 5))) };
+
+    ghost laws = { Prim.search rules };
+}
+
+impl Run<Text> for IsLong {
+    type Needs = ();
+
+    fn run(_key: &(), text: &mut Recorder<'_, Text>, _needs: &mut ()) -> Result<bool, Fault> {
+        // The answer to this question is a length, so the other branch does not occur.
+        let TextAnswer::Length(length) = text.ask(TextCall::LengthPlus(5))? else {
+            unreachable!();
+        };
+        Ok(length > 10)
+    }
+}

@@ -1,0 +1,154 @@
+//! Functions that read a counter and write to it. A run that reads what it wrote is late.
+ghost use Rattle.std.specs.Prelude.{◌≡◌, [], ◌∷◌, ⊤};
+ghost use Rattle.std.proofs.Common.{rules};
+ghost use Rattle.comemo.specs.MeaningLaws.{exact_laws};
+
+use crate::{Counter, CounterCall};
+use comemo::{BothMut, Fault, Function, Hold, MultiAnswer, MultiCall, RecorderMut, RunMut};
+use std::marker::PhantomData;
+
+/// Returns a counter's number, and then adds to it.
+pub struct Bump;
+
+impl Function for Bump {
+    type Key = u64;
+
+    type Call = CounterCall;
+
+    type Answer = u64;
+
+    type Out = u64;
+
+    ghost use Rattle.comemo_examples.specs.declared.counter.CounterCall.TheVariants.{Get, Add};
+
+    ghost means = { λ _ m out. out ≡ m Get };
+
+    ghost writes = { λ k _ _ W. W ≡ Add k ∷ [] };
+
+    ghost laws = { exact_laws (Prim.search rules) };
+}
+
+impl RunMut<Counter> for Bump {
+    type Needs = ();
+
+    fn run(
+        k: &u64,
+        counter: &mut RecorderMut<'_, '_, Counter>,
+        _needs: &mut (),
+    ) -> Result<u64, Fault> {
+        let number = counter.ask(CounterCall::Get)?;
+        counter.write(CounterCall::Add(*k))?;
+        Ok(number)
+    }
+}
+
+/// Adds to a counter, and then returns its number.
+pub struct Readback;
+
+impl Function for Readback {
+    type Key = u64;
+
+    type Call = CounterCall;
+
+    type Answer = u64;
+
+    type Out = u64;
+
+    ghost use Rattle.comemo_examples.specs.declared.counter.CounterCall.TheVariants.{Add};
+
+    ghost means = { λ _ _ _. ⊤ };
+
+    ghost writes = { λ k _ _ W. W ≡ Add k ∷ [] };
+
+    ghost laws = { exact_laws (Prim.search rules) };
+}
+
+impl RunMut<Counter> for Readback {
+    type Needs = ();
+
+    fn run(
+        k: &u64,
+        counter: &mut RecorderMut<'_, '_, Counter>,
+        _needs: &mut (),
+    ) -> Result<u64, Fault> {
+        counter.write(CounterCall::Add(*k))?;
+        let number = counter.ask(CounterCall::Get)?;
+        Ok(number)
+    }
+}
+
+/// Calls `Bump` twice, through a cache `H`. Returns the sum of both outputs.
+pub struct Twice<H> {
+    held: PhantomData<H>,
+}
+
+impl<H: Hold<Bump>> Function for Twice<H> {
+    type Key = u64;
+
+    type Call = CounterCall;
+
+    type Answer = u64;
+
+    type Out = u64;
+
+    ghost use Rattle.comemo_examples.specs.declared.counter.CounterCall.TheVariants.{Add};
+
+    ghost means = { λ _ _ _. ⊤ };
+
+    ghost writes = { λ k _ _ W. W ≡ Add k ∷ Add k ∷ [] };
+
+    ghost laws = { exact_laws (Prim.search rules) };
+}
+
+impl<H: Hold<Bump>> RunMut<Counter> for Twice<H> {
+    type Needs = H;
+
+    fn run(
+        k: &u64,
+        counter: &mut RecorderMut<'_, '_, Counter>,
+        kept: &mut H,
+    ) -> Result<u64, Fault> {
+        let first = counter.call_mut(kept, &mut (), *k)?;
+        let second = counter.call_mut(kept, &mut (), *k)?;
+        Ok(first.wrapping_add(second))
+    }
+}
+
+/// Adds 1 to the first of two counters. Returns the number of the second.
+pub struct AddsAndGets;
+
+impl Function for AddsAndGets {
+    type Call = MultiCall<CounterCall, CounterCall>;
+
+    type Key = ();
+
+    type Answer = MultiAnswer<u64, u64>;
+
+    type Out = u64;
+
+    ghost use Rattle.comemo.specs.Multi.{first_call, second_call, second_answer};
+    ghost use Rattle.comemo_examples.specs.declared.counter.CounterCall.TheVariants.{Get, Add};
+
+    ghost means = { λ _ m out. m (second_call Get) ≡ second_answer out };
+
+    ghost writes = { λ _ _ _ W. W ≡ first_call (Add 1) ∷ [] };
+
+    ghost laws = { exact_laws (Prim.search rules) };
+}
+
+impl<'a> RunMut<BothMut<'a, Counter, Counter>> for AddsAndGets {
+    type Needs = ();
+
+    fn run(
+        _key: &(),
+        both: &mut RecorderMut<'_, '_, BothMut<'a, Counter, Counter>>,
+        _needs: &mut (),
+    ) -> Result<u64, Fault> {
+        both.write(MultiCall::A(CounterCall::Add(1)))?;
+        match both.ask(MultiCall::B(CounterCall::Get))? {
+            // This does not occur: a question to the second counter has an answer of the second.
+            MultiAnswer::A(_) => Ok(0),
+            MultiAnswer::B(number) => Ok(number),
+        }
+    }
+}

@@ -1,0 +1,105 @@
+//! Why a call is a hit or a run.
+
+use comemo::{Cache, CacheData, Explanation, Hold, Top, explain, memoized_with};
+use comemo_examples::named::Sum;
+use comemo_examples::{Context, ContextCall};
+use std::alloc::Global;
+
+/// A shortened explanation.
+#[derive(Drop)]
+enum Said<'a> {
+    Hit,
+    NeverKept,
+    /// These answers still hold, and this call now has another one.
+    Changed(&'a [(ContextCall, u64)], ContextCall, u64),
+}
+
+/// Whether a call at a context has this explanation.
+fn says<H: Hold<Sum>>(
+    alloc: Global,
+    cache: &mut H,
+    (location, styles): (u64, u64),
+    wanted: &Said<'_>,
+) -> bool {
+    let context = Context { location, styles };
+    match (explain(alloc, cache, &(), &context), wanted) {
+        (Ok(Explanation::Hit), Said::Hit) => true,
+        (Ok(Explanation::NeverKept), Said::NeverKept) => true,
+        (
+            Ok(
+                Explanation::Changed {
+                    asked,
+                    call,
+                    answer,
+                },
+            ),
+            Said::Changed(pairs, next, now),
+        ) => asked.as_slice() == *pairs && call == *next && answer == *now,
+        _ => false,
+    }
+}
+
+/// Whether a call returns this sum of a context, whose location is asked first.
+fn sums<H: Hold<Sum>>(
+    alloc: Global,
+    cache: &mut H,
+    (location, styles): (u64, u64),
+    sum: u64,
+) -> bool {
+    let context = Context { location, styles };
+    let mut first = ContextCall::Location;
+    match memoized_with(
+        alloc,
+        cache,
+        &mut first,
+        (),
+        &context,
+        &mut Top::new(),
+        true,
+    ) {
+        Ok(reply) => reply.output == sum,
+        Err(_) => false,
+    }
+}
+
+/// Whether calls are explained correctly, before and after a run of (1, 2) and one of (1, 5), through any holder.
+fn is_explained<H: Hold<Sum>>(alloc: Global, cache: &mut H) -> bool {
+    let location = ContextCall::Location;
+    let styles = ContextCall::Styles;
+    says(alloc, cache, (1, 2), &Said::NeverKept)
+        && sums(alloc, cache, (1, 2), 3)
+        && says(alloc, cache, (1, 2), &Said::Hit)
+        && says(alloc, cache, (4, 2), &Said::Changed(&[], location, 4))
+        && says(
+            alloc,
+            cache,
+            (1, 5),
+            &Said::Changed(&[(location, 1)], styles, 5),
+        )
+        && sums(alloc, cache, (1, 5), 6)
+        && says(alloc, cache, (1, 5), &Said::Hit)
+        && says(
+            alloc,
+            cache,
+            (1, 6),
+            &Said::Changed(&[(location, 1)], styles, 6),
+        )
+}
+
+#[test]
+fn an_owned_cache_says_why(rt: HostRuntime) {
+    let alloc = rt.alloc();
+    let mut cache: CacheData<Sum> = CacheData::new(alloc);
+    assert!(rt; is_explained(alloc, &mut cache));
+    assert_eq!(rt; cache.len(), 2);
+    cache.evict(0);
+    assert!(rt; says(alloc, &mut cache, (1, 2), &Said::NeverKept));
+}
+
+#[test]
+fn a_shared_cache_says_why(rt: HostRuntime) {
+    let alloc = rt.alloc();
+    let cache: Cache<Sum> = Cache::new(alloc);
+    assert!(rt; is_explained(alloc, &mut cache.hold(&rt)));
+    assert!(rt; says(alloc, &mut cache.hold(&rt), (1, 2), &Said::Hit));
+}

@@ -1,5 +1,0 @@
-//! The coat at work.
-#![tactic(auto)]
-
-#[cfg(test)]
-mod coats;
