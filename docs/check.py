@@ -8,7 +8,8 @@
 - docs/ARCHITECTURE.md names each crate of crates.txt, and no crate or module names in its code what the table of layers there forbids.
 - Each module of a crate has a comment at its head.
 - Each crates/NAME/must-fail/README.md lists the edits of its folder, all and no others.
-- No crate but those named `*_tests` has a test, not even in a comment: `rt` would prove it twice.
+- No crate but those named `*_tests`, and the small `weather`, has a test, not even in a comment: `rt` would prove it
+  twice.
 - Each line of code that README.md, docs/GUIDE.md and docs/BY_HAND.md quote stands in a file of crates/, laid out so or otherwise, and each
   file that docs/START.md shows is shown whole.
 - The `old:` text of each edit stands exactly once in its file, as the earlier pairs of that edit leave it.
@@ -236,7 +237,7 @@ def check_tests():
     """`rt` takes a crate for one of tests at the first test attribute that it reads, also in a comment."""
     for file in sorted(ROOT.glob("crates/*/src/**/*.rt")):
         crate = file.relative_to(ROOT / "crates").parts[0]
-        if not crate.endswith("_tests") and re.search(r"#\s*\[[^]]*\btest\b", read(file)):
+        if crate != "weather" and not crate.endswith("_tests") and re.search(r"#\s*\[[^]]*\btest\b", read(file)):
             say(name_of(file), "has a test attribute, and is not of a crate of tests")
 
 
