@@ -71,6 +71,7 @@ fn are_of_one_value(alloc: Global) -> bool {
     drop(reading);
     let mut reading = TrackedMut::downgrade(view, alloc);
     let owner_too = reading.ask(NotebookCall::Owner, &mut Top::new()) == Ok(7);
+    drop(reading);
     first && second && owner && owner_too && book.lines() == [5, 6].as_slice()
 }
 
