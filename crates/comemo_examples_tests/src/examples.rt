@@ -1,4 +1,5 @@
-//! The example at the head of the crate `comemo_examples`. That of `comemo_examples` is among the calls of `guide`.
+//! The second example at the head of the crate `comemo_examples`. The first is among the calls of `guide`.
+
 use comemo::Track;
 use comemo_examples::{Cells, Get, Town, TownCall};
 use std::alloc::Global;
@@ -20,7 +21,7 @@ fn are_answered(alloc: Global) -> bool {
 }
 
 #[test]
-fn of_comemo_samples(rt: HostRuntime) {
+fn cells_and_a_town_answer(rt: HostRuntime) {
     let is_so = are_answered(rt.alloc());
     assert!(rt; is_so);
 }

@@ -1,4 +1,4 @@
-//! Tests of the functions of the guide.
+//! Tests of the examples: values, and functions of them.
 #![tactic(auto)]
 
 #[cfg(test)]
