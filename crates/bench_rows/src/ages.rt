@@ -19,8 +19,6 @@ impl Function for Null {
 
     type Call = ();
 
-    type Answer = ();
-
     type Out = u64;
 
     ghost means = { λ _ _ out. out ≡ 0 };
@@ -28,9 +26,7 @@ impl Function for Null {
     ghost laws = { Prim.search rules };
 }
 
-impl Run<()> for Null {
-    type Needs = ();
-
+impl Run<(), ()> for Null {
     fn run(_key: &(), _of: &mut Recorder<'_, ()>, _needs: &mut ()) -> Result<u64, Fault> {
         Ok(0)
     }

@@ -15,8 +15,6 @@ impl Function for Fibonacci {
 
     type Key = u64;
 
-    type Answer = ();
-
     type Out = u64;
 
     ghost means = { λ n _ out. out ≡ fib n % 2 ^ 64 };
@@ -32,7 +30,7 @@ fn from_before(
     alloc: Global,
     cache: &mut CacheData<Fibonacci>,
     place: u64,
-    recording: &mut Constraint<(), ()>,
+    recording: &mut Constraint<()>,
 ) -> Result<u64, Fault>
     ensures { IfOk result (λ number. number ≡ fib place % 2 ^ 64) }
 {
@@ -50,7 +48,7 @@ pub fn numbered(
     alloc: Global,
     cache: &mut CacheData<Fibonacci>,
     place: u64,
-    sink: &mut Constraint<(), ()>,
+    sink: &mut Constraint<()>,
 ) -> Result<Reply<u64>, Fault>
     ensures { IfOk result (λ reply. reply.output ≡ fib place % 2 ^ 64) }
 {

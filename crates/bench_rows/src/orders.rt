@@ -14,8 +14,6 @@ impl Function for AnyText {
 
     type Key = ();
 
-    type Answer = PlaceAnswer;
-
     type Out = String;
 
     ghost means = { λ _ _ _. Unit {0} };
@@ -30,7 +28,7 @@ fn said_after(
     alloc: Global,
     place: &Place,
     reads: &[PlaceCall],
-    recording: &mut Constraint<PlaceCall, PlaceAnswer>,
+    recording: &mut Constraint<PlaceCall>,
 ) -> Result<String, AllocError> {
     let mut view = place.view(alloc);
     let mut location = None;

@@ -17,6 +17,8 @@ pub(crate) enum PlaceCall {
 }
 
 impl Call for PlaceCall {
+    type Answer = PlaceAnswer;
+
     ghost is_write = { λ _. false };
 
     ghost touches = { λ _ _. false };
@@ -24,6 +26,8 @@ impl Call for PlaceCall {
     ghost same_kind = { λ x y h. refl };
 
     ghost clones = { λ x y h. Prim.search rules };
+
+    ghost answer_clones = { λ x y h. Prim.search rules };
 
     fn is_mutable(&self) -> bool {
         false
@@ -70,15 +74,11 @@ impl Place {
 impl Track for Place {
     type Call = PlaceCall;
 
-    type Answer = PlaceAnswer;
-
     ghost use Rattle.bench_rows.specs.PlaceAnswers.{place_answer};
 
     ghost answers = { λ s call. place_answer s.location s.styles call };
 
     ghost alike = { λ s x y h. Prim.search rules };
-
-    ghost clones = { λ x y h. Prim.search rules };
 
     fn ask(&self, call: &PlaceCall) -> Result<PlaceAnswer, AllocError> {
         self.asked.set(self.asked.get().wrapping_add(1));

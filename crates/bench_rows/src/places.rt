@@ -16,8 +16,6 @@ impl Function for AnySaid {
 
     type Key = ();
 
-    type Answer = PlaceAnswer;
-
     type Out = String;
 
     ghost means = { λ _ _ _. Unit {0} };
@@ -31,7 +29,7 @@ impl Function for AnySaid {
 fn said_of(
     alloc: Global,
     place: &Place,
-    recording: &mut Constraint<PlaceCall, PlaceAnswer>,
+    recording: &mut Constraint<PlaceCall>,
 ) -> Result<String, AllocError> {
     let mut view = place.view(alloc);
     let PlaceAnswer::At(location) = view.ask(PlaceCall::Location, recording)? else {
@@ -47,7 +45,7 @@ fn said_of(
 }
 
 /// Calls the function of a place, and returns how many calls its look-up asked.
-pub(crate) fn contextual<S: Sink<Call = PlaceCall, Answer = PlaceAnswer>>(
+pub(crate) fn contextual<S: Sink<Call = PlaceCall>>(
     alloc: Global,
     cache: &mut CacheData<AnySaid>,
     place: &Place,
@@ -82,7 +80,7 @@ pub(crate) fn expected_at(alloc: Global, location: u64) -> Result<String, AllocE
 }
 
 /// The length of a recording that is a prefix of what a run at a location asks; `None` if it isn't.
-pub(crate) fn recorded(sink: Constraint<PlaceCall, PlaceAnswer>, location: u64) -> Option<u64> {
+pub(crate) fn recorded(sink: Constraint<PlaceCall>, location: u64) -> Option<u64> {
     let (mut reads, writes) = sink.into_parts();
     if !writes.is_empty() {
         return None;
@@ -118,7 +116,7 @@ struct Places {
 impl Places {
     /// Calls the function at a location, checks the result but for its sink, and returns it. A failing call doesn't
     /// change any entry's age.
-    fn visit<S: Sink<Call = PlaceCall, Answer = PlaceAnswer>>(
+    fn visit<S: Sink<Call = PlaceCall>>(
         &mut self,
         alloc: Global,
         location: u64,

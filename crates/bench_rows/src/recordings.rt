@@ -17,7 +17,7 @@ struct Taken {
 
 /// Records two reads with their answers, and perhaps a write. Returns which of them the recording took.
 fn record(
-    recording: &mut Constraint<Numbered, u64>,
+    recording: &mut Constraint<Numbered>,
     tally: &mut Tally,
     first: (u8, u64),
     second: (u8, u64),
@@ -88,7 +88,7 @@ fn recordings_hold_where_answers_are_the_same(alloc: Global, tally: &mut Tally) 
     }
     tally.hold(location.validate(&here) == Ok(true));
     tally.hold(location.validate(&there) == Ok(asked.is_err()));
-    let nothing: Constraint<ContextCall, u64> = Constraint::new(alloc);
+    let nothing: Constraint<ContextCall> = Constraint::new(alloc);
     tally.hold(nothing.validate(&here) == Ok(true));
     tally.hold(nothing.validate(&there) == Ok(true));
 }

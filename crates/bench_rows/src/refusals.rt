@@ -33,8 +33,6 @@ impl Model for Book {
 impl Track for Book {
     type Call = NotebookCall;
 
-    type Answer = u64;
-
     ghost use Rattle.std.specs.Prelude.{◌++◌};
     ghost use Rattle.comemo_examples.specs.Notebooks.{noted};
 
@@ -43,8 +41,6 @@ impl Track for Book {
     ghost wrote = { λ s call t. t ≡ s ++ noted call };
 
     ghost alike = { λ s x y h. Prim.search rules };
-
-    ghost clones = { λ x y h. Prim.search rules };
 
     fn ask(&self, _call: &NotebookCall) -> Result<u64, AllocError> {
         Ok(7)
@@ -77,8 +73,6 @@ impl Function for NotesThree {
 
     type Call = NotebookCall;
 
-    type Answer = u64;
-
     type Out = u64;
 
     ghost use Rattle.comemo_examples.specs.declared.notebook.NotebookCall.TheVariants.{Note};
@@ -90,9 +84,7 @@ impl Function for NotesThree {
     ghost laws = { exact_laws (Prim.search rules) };
 }
 
-impl RunMut<Book> for NotesThree {
-    type Needs = ();
-
+impl RunMut<Book, ()> for NotesThree {
     fn run(n: &u64, book: &mut RecorderMut<'_, '_, Book>, _needs: &mut ()) -> Result<u64, Fault> {
         book.write(NotebookCall::Note(1))?;
         book.write(NotebookCall::Note(2))?;
@@ -102,7 +94,7 @@ impl RunMut<Book> for NotesThree {
 }
 
 /// The length of a recording that is a prefix of the notes 1, 2 and 3; `None` if it isn't, or has reads.
-fn sent(sink: Constraint<NotebookCall, u64>) -> Option<usize> {
+fn sent(sink: Constraint<NotebookCall>) -> Option<usize> {
     let (mut reads, writes) = sink.into_parts();
     let notes = [1, 2, 3].map(|number| NotebookCall::Note(number));
     if reads.next().is_none() && notes.as_slice().starts_with(writes.as_slice()) {
@@ -199,7 +191,7 @@ fn call_within(
     outer: &mut CacheData<AnySaid>,
     inner: &mut CacheData<AnySaid>,
     place: &Place,
-    sink: &mut Constraint<PlaceCall, PlaceAnswer>,
+    sink: &mut Constraint<PlaceCall>,
 ) -> (Result<Reply<String>, Fault>, bool) {
     match begin(alloc, outer, &mut place.view(alloc), sink, true) {
         Ok(Begun::Hit(output)) => {

@@ -17,6 +17,8 @@ pub struct Numbered {
 }
 
 impl Call for Numbered {
+    type Answer = u64;
+
     ghost is_write = { λ call. call.writes };
 
     ghost touches = { λ _ _. false };
@@ -24,6 +26,8 @@ impl Call for Numbered {
     ghost same_kind = { λ x y h. Prim.search rules };
 
     ghost clones = { λ x y h. Prim.search rules };
+
+    ghost answer_clones = { λ x y h. Prim.search rules };
 
     fn is_mutable(&self) -> bool {
         self.writes
@@ -57,8 +61,6 @@ impl Function for Anything {
     type Call = Numbered;
 
     type Key = u8;
-
-    type Answer = u8;
 
     type Out = u32;
 

@@ -40,15 +40,11 @@ impl Watched {
 impl Track for Watched {
     type Call = PlaceCall;
 
-    type Answer = PlaceAnswer;
-
     ghost use Rattle.bench_rows.specs.PlaceAnswers.{place_answer};
 
     ghost answers = { λ s call. place_answer s.location s.styles call };
 
     ghost alike = { λ s x y h. Prim.search rules };
-
-    ghost clones = { λ x y h. Prim.search rules };
 
     fn ask(&self, call: &PlaceCall) -> Result<PlaceAnswer, AllocError> {
         match call {
@@ -68,7 +64,7 @@ impl Track for Watched {
 fn said_of(
     alloc: Global,
     view: &mut Tracked<'_, Watched>,
-    recording: &mut Constraint<PlaceCall, PlaceAnswer>,
+    recording: &mut Constraint<PlaceCall>,
 ) -> Result<String, AllocError> {
     let PlaceAnswer::At(location) = view.ask(PlaceCall::Location, recording)? else {
         return Err(AllocError);

@@ -18,8 +18,6 @@ impl Function for Dump {
 
     type Call = EmitterCall;
 
-    type Answer = ();
-
     type Out = ();
 
     ghost use Rattle.bench_rows.specs.Emitting.{EmitsWithOne, emitting_laws};
@@ -29,12 +27,10 @@ impl Function for Dump {
     ghost writes = { λ text _ _ W. EmitsWithOne text W };
 
     ghost laws = { writing_laws (emitting_laws (λ x y h. Prim.search rules)
-        (λ x y h. Prim.search rules) (λ x y h. Prim.search rules) (λ x y h. Prim.search rules)) };
+        (λ x y h. Prim.search rules) (λ x y h. Prim.search rules)) };
 }
 
-impl RunMut<Emitter> for Dump {
-    type Needs = Global;
-
+impl RunMut<Emitter, Global> for Dump {
     fn run(
         text: &String,
         emitter: &mut RecorderMut<'_, '_, Emitter>,
@@ -58,7 +54,7 @@ fn grown_by(text: &str, before: usize, parts: &[u8]) -> Option<usize> {
 }
 
 /// The length of a recording that is a prefix of these parts, one byte each; `None` if it isn't, or has reads.
-fn recorded(sink: Constraint<EmitterCall, ()>, parts: &[u8]) -> Option<usize> {
+fn recorded(sink: Constraint<EmitterCall>, parts: &[u8]) -> Option<usize> {
     let (mut reads, writes) = sink.into_parts();
     if reads.next().is_some() || writes.len() > parts.len() {
         return None;
@@ -207,8 +203,6 @@ impl Function for AddsThree {
 
     type Call = CounterCall;
 
-    type Answer = u64;
-
     type Out = ();
 
     ghost use Rattle.comemo_examples.specs.declared.counter.CounterCall.TheVariants.{Add};
@@ -220,9 +214,7 @@ impl Function for AddsThree {
     ghost laws = { exact_laws (Prim.search rules) };
 }
 
-impl RunMut<Counter> for AddsThree {
-    type Needs = ();
-
+impl RunMut<Counter, ()> for AddsThree {
     fn run(
         _key: &(),
         counter: &mut RecorderMut<'_, '_, Counter>,
@@ -241,8 +233,6 @@ impl Function for AddsByAnother {
 
     type Call = CounterCall;
 
-    type Answer = u64;
-
     type Out = ();
 
     ghost use Rattle.comemo_examples.specs.declared.counter.CounterCall.TheVariants.{Add};
@@ -254,9 +244,7 @@ impl Function for AddsByAnother {
     ghost laws = { exact_laws (Prim.search rules) };
 }
 
-impl RunMut<Counter> for AddsByAnother {
-    type Needs = CacheData<AddsThree>;
-
+impl RunMut<Counter, CacheData<AddsThree>> for AddsByAnother {
     fn run(
         _number: &u64,
         counter: &mut RecorderMut<'_, '_, Counter>,
@@ -268,7 +256,7 @@ impl RunMut<Counter> for AddsByAnother {
 }
 
 /// Whether a recording has the one write that adds 3 or, if it may lack that, nothing.
-fn has_added(sink: Constraint<CounterCall, u64>, is_sure: bool) -> bool {
+fn has_added(sink: Constraint<CounterCall>, is_sure: bool) -> bool {
     let (mut reads, writes) = sink.into_parts();
     let has_one = writes.as_slice() == [CounterCall::Add(3)].as_slice();
     reads.next().is_none() && (has_one || !is_sure && writes.is_empty())

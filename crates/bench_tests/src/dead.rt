@@ -33,7 +33,7 @@ pub struct Dead<'a, M: Function, R: Wait> {
 impl<M: Function, R: Wait> Hold<M> for Dead<'_, M, R> {
     ghost entries = { λ _. None };
 
-    fn look<In: Input<Call = M::Call, Key = M::Key, Answer = M::Answer>>(
+    fn look<In: Input<Call = M::Call, Key = M::Key>>(
         &mut self,
         key: &M::Key,
         input: &mut In,
@@ -45,7 +45,7 @@ impl<M: Function, R: Wait> Hold<M> for Dead<'_, M, R> {
         self.held.look(key, input)
     }
 
-    fn peek<In: Input<Call = M::Call, Key = M::Key, Answer = M::Answer>>(
+    fn peek<In: Input<Call = M::Call, Key = M::Key>>(
         &mut self,
         key: &M::Key,
         input: &mut In,
@@ -57,12 +57,12 @@ impl<M: Function, R: Wait> Hold<M> for Dead<'_, M, R> {
         self.held.peek(key, input)
     }
 
-    fn explain<In: Input<Call = M::Call, Key = M::Key, Answer = M::Answer>>(
+    fn explain<In: Input<Call = M::Call, Key = M::Key>>(
         &mut self,
         alloc: Global,
         key: &M::Key,
         input: &mut In,
-    ) -> Result<Explanation<M::Call, M::Answer>, AllocError> {
+    ) -> Result<Explanation<M::Call, AnswerOf<M::Call>>, AllocError> {
         if self.dead == Step::Look {
             let fresh: CacheData<M> = CacheData::new(self.alloc);
             return fresh.explain(alloc, key, input);
@@ -70,7 +70,7 @@ impl<M: Function, R: Wait> Hold<M> for Dead<'_, M, R> {
         self.held.explain(alloc, key, input)
     }
 
-    fn touch(&mut self, key: &M::Key, answers: &[M::Answer]) {
+    fn touch(&mut self, key: &M::Key, answers: &[AnswerOf<M::Call>]) {
         if self.dead == Step::Touch {
             let mut fresh: CacheData<M> = CacheData::new(self.alloc);
             fresh.touch(key, answers);
@@ -79,7 +79,7 @@ impl<M: Function, R: Wait> Hold<M> for Dead<'_, M, R> {
         self.held.touch(key, answers);
     }
 
-    fn store<Q: Reads<Call = M::Call, Answer = M::Answer>>(
+    fn store<Q: Reads<Call = M::Call>>(
         &mut self,
         key: M::Key,
         reads: Q,
@@ -91,16 +91,16 @@ impl<M: Function, R: Wait> Hold<M> for Dead<'_, M, R> {
         requires stands { Stands ⟦<M as Meant>⟧.meaning
             (run key (Q.pairs reads) output writes.items) }
         requires settled { IsNamedRun ⟦<M as Meant>⟧.meaning key (Q.pairs reads) }
-        ensures stored { let none : Option (Entries M.Key M.Call M.Answer M.Out) = None in
+        ensures stored { let none : Option (Entries M.Key M.Call M.Call.Answer M.Out) = None in
             OnOk result (Leads none none (λ es es'.
             Stores (exactly ⟦<M as Meant>⟧.meaning) es
             (run key (Q.pairs reads) output writes.items) es')) }
-        ensures reason { let none : Option (Entries M.Key M.Call M.Answer M.Out) = None in
+        ensures reason { let none : Option (Entries M.Key M.Call M.Call.Answer M.Out) = None in
             IfErr result (λ error. Held none (λ es.
-            IsReason M.Call.eq M.Answer.eq (under M.Key.eq es key) (Q.pairs reads) error)) }
+            IsReason M.Call.eq M.Call.Answer.eq (under M.Key.eq es key) (Q.pairs reads) error)) }
         ensures named { IfErr result (λ error. error ≡ MissingCall
             → ¬ IsNamed ⟦<M as Meant>⟧.meaning) }
-        ensures err { let none : Option (Entries M.Key M.Call M.Answer M.Out) = None in
+        ensures err { let none : Option (Entries M.Key M.Call M.Call.Answer M.Out) = None in
             OnErr result (Stays none none) }
     {
         if self.dead == Step::Store {

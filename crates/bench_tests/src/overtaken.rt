@@ -26,7 +26,7 @@ pub struct Overtaken<'a, M: Function, R: Wait> {
 impl<M: Function, R: Wait> Hold<M> for Overtaken<'_, M, R> {
     ghost entries = { λ _. None };
 
-    fn look<In: Input<Call = M::Call, Key = M::Key, Answer = M::Answer>>(
+    fn look<In: Input<Call = M::Call, Key = M::Key>>(
         &mut self,
         key: &M::Key,
         input: &mut In,
@@ -36,7 +36,7 @@ impl<M: Function, R: Wait> Hold<M> for Overtaken<'_, M, R> {
         found
     }
 
-    fn peek<In: Input<Call = M::Call, Key = M::Key, Answer = M::Answer>>(
+    fn peek<In: Input<Call = M::Call, Key = M::Key>>(
         &mut self,
         key: &M::Key,
         input: &mut In,
@@ -46,22 +46,22 @@ impl<M: Function, R: Wait> Hold<M> for Overtaken<'_, M, R> {
         peeked
     }
 
-    fn explain<In: Input<Call = M::Call, Key = M::Key, Answer = M::Answer>>(
+    fn explain<In: Input<Call = M::Call, Key = M::Key>>(
         &mut self,
         alloc: Global,
         key: &M::Key,
         input: &mut In,
-    ) -> Result<Explanation<M::Call, M::Answer>, AllocError> {
+    ) -> Result<Explanation<M::Call, AnswerOf<M::Call>>, AllocError> {
         let said = self.held.explain(alloc, key, input);
         self.cache.evict(self.rt, self.max_age);
         said
     }
 
-    fn touch(&mut self, key: &M::Key, answers: &[M::Answer]) {
+    fn touch(&mut self, key: &M::Key, answers: &[AnswerOf<M::Call>]) {
         self.held.touch(key, answers);
     }
 
-    fn store<Q: Reads<Call = M::Call, Answer = M::Answer>>(
+    fn store<Q: Reads<Call = M::Call>>(
         &mut self,
         key: M::Key,
         reads: Q,
@@ -73,16 +73,16 @@ impl<M: Function, R: Wait> Hold<M> for Overtaken<'_, M, R> {
         requires stands { Stands ⟦<M as Meant>⟧.meaning
             (run key (Q.pairs reads) output writes.items) }
         requires settled { IsNamedRun ⟦<M as Meant>⟧.meaning key (Q.pairs reads) }
-        ensures stored { let none : Option (Entries M.Key M.Call M.Answer M.Out) = None in
+        ensures stored { let none : Option (Entries M.Key M.Call M.Call.Answer M.Out) = None in
             OnOk result (Leads none none (λ es es'.
             Stores (exactly ⟦<M as Meant>⟧.meaning) es
             (run key (Q.pairs reads) output writes.items) es')) }
-        ensures reason { let none : Option (Entries M.Key M.Call M.Answer M.Out) = None in
+        ensures reason { let none : Option (Entries M.Key M.Call M.Call.Answer M.Out) = None in
             IfErr result (λ error. Held none (λ es.
-            IsReason M.Call.eq M.Answer.eq (under M.Key.eq es key) (Q.pairs reads) error)) }
+            IsReason M.Call.eq M.Call.Answer.eq (under M.Key.eq es key) (Q.pairs reads) error)) }
         ensures named { IfErr result (λ error. error ≡ MissingCall
             → ¬ IsNamed ⟦<M as Meant>⟧.meaning) }
-        ensures err { let none : Option (Entries M.Key M.Call M.Answer M.Out) = None in
+        ensures err { let none : Option (Entries M.Key M.Call M.Call.Answer M.Out) = None in
             OnErr result (Stays none none) }
     {
         self.held.store(key, reads, output, writes)

@@ -58,8 +58,6 @@ impl Function for Eval {
 
     type Key = (Text, ());
 
-    type Answer = MultiAnswer<(), Text>;
-
     type Out = Outcome;
 
     ghost means = { λ key m outcome. Comes m key.0 outcome };
@@ -71,7 +69,6 @@ impl Function for Eval {
       keys = λ j k m output writes r e h. (h.0, Prim.search (rules, h.1));
       writes = λ key m output V W r same h. (none_alike _ V W same h.0, h.1);
       key_clones = Prim.search rules;
-      answer_clones = Prim.search rules;
     } };
 }
 
@@ -85,7 +82,7 @@ pub enum EvalFault {
 }
 
 /// Begins a script: returns its outcome on a hit, or a run.
-fn begin_script<S: Sink<Call = JoinedCall, Answer = JoinedAnswer>>(
+fn begin_script<S: Sink<Call = JoinedCall>>(
     alloc: Global,
     cache: &mut CacheData<Eval>,
     files: &View<'_, Files>,
@@ -162,7 +159,7 @@ fn evaluate_part(
     files: &View<'_, Files>,
     part: Part<'_>,
     limit: u64,
-    recording: &mut Constraint<JoinedCall, JoinedAnswer>,
+    recording: &mut Constraint<JoinedCall>,
 ) -> Result<Outcome, EvalFault>
     requires { FilesFit files.now recording.now }
     ensures low { IfOk result (λ outcome. outcome.height ≤ limit) }
@@ -208,7 +205,7 @@ fn run_script(
     files: &View<'_, Files>,
     script: &Text,
     limit: u64,
-    recording: &mut Constraint<JoinedCall, JoinedAnswer>,
+    recording: &mut Constraint<JoinedCall>,
 ) -> Result<Outcome, EvalFault>
     requires room { 0 < limit }
     requires fits { FilesFit files.now recording.now }
@@ -247,7 +244,7 @@ fn evaluate_within(
     files: &View<'_, Files>,
     script: &Text,
     limit: u64,
-    recording: &mut Constraint<JoinedCall, JoinedAnswer>,
+    recording: &mut Constraint<JoinedCall>,
 ) -> Result<Reply<Outcome>, EvalFault>
     ensures outcome { IfOk result (λ reply. ComesTo (answers_of files.now) script.now reply.output
         × (reply.output.height ≤ limit)) }
@@ -264,7 +261,7 @@ fn evaluate_within(
 }
 
 /// `evaluate` for a text.
-fn evaluate_text<S: Sink<Call = JoinedCall, Answer = JoinedAnswer>>(
+fn evaluate_text<S: Sink<Call = JoinedCall>>(
     alloc: Global,
     cache: &mut CacheData<Eval>,
     files: &View<'_, Files>,
@@ -292,7 +289,7 @@ fn evaluate_text<S: Sink<Call = JoinedCall, Answer = JoinedAnswer>>(
 ///
 /// Each script that a run calls is memoized too. `TooDeep` means that the script is higher than the limit or never
 /// ends, on a hit as on a run. What was cached on the way stays after a fault.
-pub fn evaluate<S: Sink<Call = JoinedCall, Answer = JoinedAnswer>>(
+pub fn evaluate<S: Sink<Call = JoinedCall>>(
     alloc: Global,
     cache: &mut CacheData<Eval>,
     files: &View<'_, Files>,

@@ -47,6 +47,8 @@ pub type JoinedCall = MultiCall<(), FileCall>;
 pub type JoinedAnswer = MultiAnswer<(), Text>;
 
 impl Call for FileCall {
+    type Answer = Text;
+
     ghost is_write = { λ _. false };
 
     ghost touches = { λ _ _. false };
@@ -54,6 +56,8 @@ impl Call for FileCall {
     ghost same_kind = { λ x y h. refl };
 
     ghost clones = { λ x y h. Prim.search rules };
+
+    ghost answer_clones = { λ x y h. Prim.search rules };
 
     fn is_mutable(&self) -> bool {
         false
@@ -114,7 +118,7 @@ impl Files {
     /// Reads the file at a path through a view, and records the read in a sink for a key joined with the files.
     ///
     /// Fails if copying the path or the sink does; the sink is then unchanged.
-    pub fn read<S: Sink<Call = JoinedCall, Answer = JoinedAnswer>>(
+    pub fn read<S: Sink<Call = JoinedCall>>(
         alloc: Global,
         view: &View<'_, Files>,
         path: &str,
@@ -133,15 +137,11 @@ impl Files {
 impl Track for Files {
     type Call = FileCall;
 
-    type Answer = Text;
-
     ghost use Rattle.calc_core.specs.Files.{answers_of};
 
     ghost answers = { answers_of };
 
     ghost alike = { λ s x y h. Prim.search rules };
-
-    ghost clones = { λ x y h. Prim.search rules };
 
     fn ask(&self, call: &FileCall) -> Result<Text, AllocError> {
         match call {

@@ -22,11 +22,8 @@ pub trait Record {
     /// What a run can ask.
     type Call: Call;
 
-    /// The answer to a read: one type for all calls.
-    type Answer: Clone + Ord;
-
     // what it holds
-    ghost recorded: { Self → Recording Self.Call Self.Answer };
+    ghost recorded: { Self → Recording Self.Call Self.Call.Answer };
 
     /// An empty recording: complete, and not late. Does not allocate.
     fn empty(alloc: Global) -> Self
@@ -36,14 +33,12 @@ pub trait Record {
         ensures early { (recorded result).late ≡ false };
 
     /// The recording itself.
-    fn into_constraint(self) -> Constraint<Self::Call, Self::Answer>
+    fn into_constraint(self) -> Constraint<Self::Call>
         ensures { result ≡ recorded self };
 }
 
-impl<C: Call, R: Clone + Ord> Record for Constraint<C, R> {
+impl<C: Call> Record for Constraint<C> {
     type Call = C;
-
-    type Answer = R;
 
     ghost recorded = { λ s. s };
 
@@ -51,7 +46,7 @@ impl<C: Call, R: Clone + Ord> Record for Constraint<C, R> {
         Constraint::new(alloc)
     }
 
-    fn into_constraint(self) -> Constraint<C, R> {
+    fn into_constraint(self) -> Constraint<C> {
         self
     }
 }
@@ -61,9 +56,9 @@ impl<C: Call, R: Clone + Ord> Record for Constraint<C, R> {
 pub trait Does<H, In, S, P>: Function
 where
     H: Hold<Self>,
-    In: Input<Call = Self::Call, Key = Self::Key, Answer = Self::Answer>,
-    S: Sink<Call = Self::Call, Answer = Self::Answer>,
-    P: Record<Call = Self::Call, Answer = Self::Answer>,
+    In: Input<Call = Self::Call, Key = Self::Key>,
+    S: Sink<Call = Self::Call>,
+    P: Record<Call = Self::Call>,
 {
     ghost use Rattle.comemo.specs.Closure.{Deed};
     ghost use Rattle.comemo.specs.declared.pending.Fault.{Fault};
@@ -92,23 +87,23 @@ where
 impl<M: Function, H, In, S, P> Does<H, In, S, P> for M
 where
     H: Hold<M>,
-    In: Input<Call = M::Call, Key = M::Key, Answer = M::Answer>,
-    S: Sink<Call = M::Call, Answer = M::Answer>,
-    P: Record<Call = M::Call, Answer = M::Answer>,
+    In: Input<Call = M::Call, Key = M::Key>,
+    S: Sink<Call = M::Call>,
+    P: Record<Call = M::Call>,
 {
     ghost calls = { λ pre h input enabled. (i : MutBor In) (p : MutBor P)
         → Held (H.entries h) (λ es. Starts ⟦<M as Meant>⟧.meaning es
         (⟦<In as Invoked>⟧.invoked input enabled) In.did P.recorded input i p)
         → pre i p };
 
-    ghost right = { λ post h input enabled. (output : M.Out) (t : Recording M.Call M.Answer)
+    ghost right = { λ post h input enabled. (output : M.Out) (t : Recording M.Call M.Call.Answer)
         → Held (H.entries h) (λ es. Ran ⟦<M as Meant>⟧.meaning es
         (⟦<In as Invoked>⟧.invoked input enabled)
         In.did P.recorded post input (Ok output) t)
         → t.complete ≡ true → t.late ≡ false
         → Stands ⟦<M as Meant>⟧.meaning (run (In.key_of input) t.pairs output t.writes) };
 
-    ghost named = { λ post h input enabled. (output : M.Out) (t : Recording M.Call M.Answer)
+    ghost named = { λ post h input enabled. (output : M.Out) (t : Recording M.Call M.Call.Answer)
         → Held (H.entries h) (λ es. Ran ⟦<M as Meant>⟧.meaning es
         (⟦<In as Invoked>⟧.invoked input enabled)
         In.did P.recorded post input (Ok output) t)
@@ -146,9 +141,9 @@ pub fn memoize<M: Function, H: Hold<M>, In, S, P, F>(
     func: F,
 ) -> Result<Reply<M::Out>, Fault>
 where
-    In: Input<Call = M::Call, Key = M::Key, Answer = M::Answer>,
-    S: Sink<Call = M::Call, Answer = M::Answer>,
-    P: Record<Call = M::Call, Answer = M::Answer>,
+    In: Input<Call = M::Call, Key = M::Key>,
+    S: Sink<Call = M::Call>,
+    P: Record<Call = M::Call>,
     F: FnOnce(&mut In, &mut P) -> Result<M::Out, Fault>,
     requires callable { ⟦<M as Does<H, In, S, P>>⟧.calls (F.pre func) cache.now input.now enabled }
     requires right { ⟦<M as Does<H, In, S, P>>⟧.right (F.post func) cache.now input.now enabled }

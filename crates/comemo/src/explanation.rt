@@ -10,24 +10,24 @@ use comemo_cache::cache::{Function, Meant};
 use comemo_cache::explain::Explanation;
 use comemo_cache::hold::Hold;
 use comemo_track::input::Keyed;
-use comemo_track::track::Track;
+use comemo_track::track::{AnswerOf, Track};
 use std::alloc::{AllocError, Global};
 
 /// Returns why a call with these arguments is a hit or a run, without running anything. Nothing changes. Fails if an
 /// answer or a clone fails to allocate.
-pub fn explain<M: Function<Call = T::Call, Answer = T::Answer>, H: Hold<M>, T: Track>(
+pub fn explain<M: Function<Call = T::Call>, H: Hold<M>, T: Track>(
     alloc: Global,
     cache: &mut H,
     key: &M::Key,
     of: &T,
-) -> Result<Explanation<T::Call, T::Answer>, AllocError>
+) -> Result<Explanation<T::Call, AnswerOf<T::Call>>, AllocError>
     ensures explains { IfOk result (λ said. Held (H.entries cache.old) (λ es.
         Explains ⟦<M as Meant>⟧.meaning es (invocation key.now (T.answers of.now) true) said)) }
     ensures stays { Stays (H.entries cache.old) (H.entries cache.new) }
     ensures err { OnErr result (Held (H.entries cache.old) (λ es.
-        (asked : List (T.Call × T.Answer)) × (next : T.Call)
-        × Agrees T.Answer.eq (T.answers of.now) asked
-        × IsRefused T.Call.eq T.Answer.eq (under M.Key.eq es key.now) asked next)) }
+        (asked : List (T.Call × T.Call.Answer)) × (next : T.Call)
+        × Agrees T.Call.Answer.eq (T.answers of.now) asked
+        × IsRefused T.Call.eq T.Call.Answer.eq (under M.Key.eq es key.now) asked next)) }
 {
     let mut input = Keyed {
         key,

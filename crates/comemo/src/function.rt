@@ -14,7 +14,7 @@ use comemo_cache::cache::{Function, Meant};
 use comemo_cache::hold::Hold;
 use comemo_track::constraint::Constraint;
 use comemo_track::input::Keyed;
-use comemo_track::track::{Breaking, Call, Sink, Top, Track, View};
+use comemo_track::track::{AnswerOf, Breaking, Call, Sink, Top, Track, View};
 use std::alloc::Global;
 use std::marker::Model;
 
@@ -22,23 +22,23 @@ use std::marker::Model;
 /// implement.
 pub trait Told: Track {
     // the recording is complete and not late, and the answers agree with it
-    ghost fits: { Recording Self.Call Self.Answer → (Self.Call → Self.Answer) → Type 0 };
+    ghost fits: { Recording Self.Call Self.Call.Answer → (Self.Call → Self.Call.Answer) → Type 0 };
 
     // the second's recording is the first's after it took these pairs and these writes
-    ghost took: { Recorded Self Self.Call Self.Answer → Recorded Self Self.Call Self.Answer
-        → List (Self.Call × Self.Answer) → List Self.Call → Type 0 };
+    ghost took: { Recorded Self Self.Call Self.Call.Answer → Recorded Self Self.Call Self.Call.Answer
+        → List (Self.Call × Self.Call.Answer) → List Self.Call → Type 0 };
 
     // it is the first's after it took a prefix of pairs that the value's answers agree with, and became incomplete
-    ghost broke_off: { Recorded Self Self.Call Self.Answer → Recorded Self Self.Call Self.Answer
+    ghost broke_off: { Recorded Self Self.Call Self.Call.Answer → Recorded Self Self.Call Self.Call.Answer
         → Type 0 };
 }
 
 impl<T: Track> Told for T {
-    ghost fits = { Fits T.Call.eq T.Answer.eq };
+    ghost fits = { Fits T.Call.eq T.Call.Answer.eq };
 
     ghost took = { λ s t. Took T.Call.eq T.Call.touches s.recording t.recording };
 
-    ghost broke_off = { λ s t. BrokeOff T.Answer.eq (T.answers s.value)
+    ghost broke_off = { λ s t. BrokeOff T.Call.Answer.eq (T.answers s.value)
         (BreaksOff (Took T.Call.eq T.Call.touches) Spoiled s.recording t.recording) };
 }
 
@@ -46,12 +46,10 @@ impl<T: Track> Told for T {
 ///
 /// The value may borrow: several values as one, by `Both` or a struct of the user's. The meaning names no value, so the
 /// cache outlives it. A function that calls itself has no `Run`.
-pub trait Run<T: Track>: Function<Call = T::Call, Answer = T::Answer> {
-    /// What a run needs besides its arguments: the caches of the functions that it calls, or `()`.
-    ///
-    /// They can't hold the function's own cache, which the checker refuses.
-    type Needs;
-
+///
+/// `N` is what a run needs besides its arguments: the caches of the functions that it calls, or `()`. They can't hold
+/// the function's own cache, which the checker refuses.
+pub trait Run<T: Track, N>: Function<Call = T::Call> {
     /// Does the function, and asks the value through the recorder.
     ///
     /// The output must be right for all answers that agree with the recording. `Incomplete` may be returned only if the
@@ -59,12 +57,12 @@ pub trait Run<T: Track>: Function<Call = T::Call, Answer = T::Answer> {
     fn run(
         key: &Self::Key,
         of: &mut Recorder<'_, T>,
-        needs: &mut Self::Needs,
+        needs: &mut N,
     ) -> Result<Self::Out, Fault>
         ensures same { of.new.value ≡ of.old.value }
-        ensures right { IfOk result (λ output. (m : T.Call → T.Answer)
+        ensures right { IfOk result (λ output. (m : T.Call → T.Call.Answer)
             → ⟦<T as Told>⟧.fits of.new.recording m → Self.means key.now m output) }
-        ensures settled { SettlesRun Self.Key.eq T.Call.eq T.Answer.eq Self.naming key.now
+        ensures settled { SettlesRun Self.Key.eq T.Call.eq T.Call.Answer.eq Self.naming key.now
             of.old.recording of.new.recording result }
         ensures fault { IfErr result
             (λ fault. fault ≡ Fault.Incomplete → of.new.recording.complete ≡ false) };
@@ -75,19 +73,19 @@ pub trait Run<T: Track>: Function<Call = T::Call, Answer = T::Answer> {
 pub struct Recorder<'a, T: Track> {
     pub(crate) alloc: Global,
     pub(crate) view: View<'a, T>,
-    pub(crate) recording: Constraint<T::Call, T::Answer>,
+    pub(crate) recording: Constraint<T::Call>,
 }
 
 impl<'a, T: Track> Model for Recorder<'a, T> {
     ghost use Rattle.comemo.specs.Function.{Recorded, recorded_code, IsRecorded};
 
-    ghost Value = { Recorded T T.Call T.Answer };
+    ghost Value = { Recorded T T.Call T.Call.Answer };
 
-    ghost coded = { recorded_code T.code T.Call.code T.Answer.code };
+    ghost coded = { recorded_code T.code T.Call.code T.Call.Answer.code };
 
     ghost view = { λ s. record { value = s.view; recording = s.recording } };
 
-    ghost invariant = { λ s. IsRecorded T.Answer.eq (T.answers s.view) s.recording };
+    ghost invariant = { λ s. IsRecorded T.Call.Answer.eq (T.answers s.view) s.recording };
 }
 
 impl<'a, T: Track> Recorder<'a, T> {
@@ -107,12 +105,12 @@ impl<'a, T: Track> Recorder<'a, T> {
     }
 
     /// Asks the value a read, and records it with its answer. The value is asked even if the read is recorded already.
-    pub fn ask(&mut self, call: T::Call) -> Result<T::Answer, Fault>
+    pub fn ask(&mut self, call: T::Call) -> Result<AnswerOf<T::Call>, Fault>
         requires { T.Call.is_write call ≡ false }
         ensures tells { Tells ⟦<T as Told>⟧.fits self.old self.new result
-            (λ answer m. IsTrue (T.Answer.eq (m call) answer)) }
+            (λ answer m. IsTrue (T.Call.Answer.eq (m call) answer)) }
         ensures asks { IfOk result
-            (λ answer. Asks T.Answer.eq (T.answers self.old.value) call answer
+            (λ answer. Asks T.Call.Answer.eq (T.answers self.old.value) call answer
             (⟦<T as Told>⟧.took self.old self.new)) }
         ensures err { IfErr result (λ fault. (fault ≡ Fault.Memory)
             × ⟦<T as Told>⟧.took self.old self.new [] []) }
@@ -122,10 +120,10 @@ impl<'a, T: Track> Recorder<'a, T> {
 
     /// Calls another memoized function of the same value, as `memoized_with`, with the recording as its sink. After a
     /// fault the run can't be finished.
-    pub fn call<G: Run<T>, H: Hold<G>>(
+    pub fn call<G: Run<T, N>, H: Hold<G>, N>(
         &mut self,
         cache: &mut H,
-        needs: &mut G::Needs,
+        needs: &mut N,
         key: G::Key,
     ) -> Result<G::Out, Fault>
         requires { WritesNone G.writes }
@@ -143,10 +141,10 @@ impl<'a, T: Track> Recorder<'a, T> {
     }
 
     /// As `call`, with the reply. With `enabled` false it neither looks up nor stores.
-    pub fn call_reply<G: Run<T>, H: Hold<G>>(
+    pub fn call_reply<G: Run<T, N>, H: Hold<G>, N>(
         &mut self,
         cache: &mut H,
-        needs: &mut G::Needs,
+        needs: &mut N,
         key: G::Key,
         enabled: bool,
     ) -> Result<Reply<G::Out>, Fault>
@@ -175,11 +173,11 @@ impl<'a, T: Track> Recorder<'a, T> {
 
 /// How a call goes that takes a holder and a sink from these to those, for contracts, as
 /// `⟦<M as Answering<H, T, S>>⟧.replies`. There is nothing to implement.
-pub trait Answering<H, T, S>: Function<Call = T::Call, Answer = T::Answer>
+pub trait Answering<H, T, S>: Function<Call = T::Call>
 where
     H: Hold<Self>,
     T: Track,
-    S: Sink<Call = T::Call, Answer = T::Answer>,
+    S: Sink<Call = T::Call>,
 {
     ghost use Rattle.comemo.specs.declared.pending.Fault.{Fault};
     ghost use Rattle.comemo.specs.declared.pending.Reply.{Reply};
@@ -191,11 +189,11 @@ where
     ghost fails: { Bool → Self.Key → T → H → S → S → Fault → Type 0 };
 }
 
-impl<M: Function<Call = T::Call, Answer = T::Answer>, H, T, S> Answering<H, T, S> for M
+impl<M: Function<Call = T::Call>, H, T, S> Answering<H, T, S> for M
 where
     H: Hold<M>,
     T: Track,
-    S: Sink<Call = T::Call, Answer = T::Answer>,
+    S: Sink<Call = T::Call>,
 {
     ghost use Rattle.comemo.specs.declared.pending.Fault.TheVariants.{Memory};
 
@@ -211,17 +209,17 @@ where
 ///
 /// The sink takes what was asked: it is the recording of the outer run, or `Top`. With `enabled` false there is no
 /// look-up, and nothing is stored.
-pub fn memoized_with<M: Run<T>, H: Hold<M>, T: Track, S>(
+pub fn memoized_with<M: Run<T, N>, H: Hold<M>, N, T: Track, S>(
     alloc: Global,
     cache: &mut H,
-    needs: &mut M::Needs,
+    needs: &mut N,
     key: M::Key,
     of: &T,
     sink: &mut S,
     enabled: bool,
 ) -> Result<Reply<M::Out>, Fault>
 where
-    S: Sink<Call = T::Call, Answer = T::Answer>,
+    S: Sink<Call = T::Call>,
     requires { WritesNone M.writes }
     ensures right { IfOk result (λ reply. M.means key (T.answers of.now) reply.output) }
     ensures reply { IfOk result (⟦<M as Answering<H, T, S>>⟧.replies
@@ -229,24 +227,24 @@ where
     ensures fault { IfErr result (⟦<M as Answering<H, T, S>>⟧.fails
         enabled key of.now cache.old sink.old sink.new) }
     ensures err { OnErr result (Stays (H.entries cache.old) (H.entries cache.new)
-        × BrokeOff T.Answer.eq (T.answers of.now)
+        × BrokeOff T.Call.Answer.eq (T.answers of.now)
         (⟦<S as Breaking>⟧.breaks_off sink.old sink.new)) }
 {
     memoized_view(alloc, cache, needs, key, &of.view(alloc), sink, enabled)
 }
 
 /// As `memoized_with`, for a view of the value.
-pub(crate) fn memoized_view<M: Run<T>, H: Hold<M>, T: Track, S>(
+pub(crate) fn memoized_view<M: Run<T, N>, H: Hold<M>, N, T: Track, S>(
     alloc: Global,
     cache: &mut H,
-    needs: &mut M::Needs,
+    needs: &mut N,
     key: M::Key,
     of: &View<'_, T>,
     sink: &mut S,
     enabled: bool,
 ) -> Result<Reply<M::Out>, Fault>
 where
-    S: Sink<Call = T::Call, Answer = T::Answer>,
+    S: Sink<Call = T::Call>,
     requires { WritesNone M.writes }
     ensures right { IfOk result (λ reply. M.means key (T.answers of.now) reply.output) }
     ensures reply { IfOk result (⟦<M as Answering<H, T, S>>⟧.replies
@@ -254,7 +252,7 @@ where
     ensures fault { IfErr result (⟦<M as Answering<H, T, S>>⟧.fails
         enabled key of.now cache.old sink.old sink.new) }
     ensures err { OnErr result (Stays (H.entries cache.old) (H.entries cache.new)
-        × BrokeOff T.Answer.eq (T.answers of.now)
+        × BrokeOff T.Call.Answer.eq (T.answers of.now)
         (⟦<S as Breaking>⟧.breaks_off sink.old sink.new)) }
 {
     let mut input = Keyed {
@@ -276,10 +274,10 @@ where
 
 /// Runs a function under the cache's clone of the key. Not inlined, so that a hit makes no room for a run.
 #[inline(never)]
-fn run_kept<M: Run<T>, H: Hold<M>, T: Track, S: Sink<Call = T::Call, Answer = T::Answer>>(
+fn run_kept<M: Run<T, N>, H: Hold<M>, N, T: Track, S: Sink<Call = T::Call>>(
     alloc: Global,
     cache: &mut H,
-    needs: &mut M::Needs,
+    needs: &mut N,
     key: M::Key,
     of: &View<'_, T>,
     sink: &mut S,
@@ -293,7 +291,7 @@ fn run_kept<M: Run<T>, H: Hold<M>, T: Track, S: Sink<Call = T::Call, Answer = T:
     ensures fault { IfErr result
         (λ fault. (fault ≡ Fault.Memory) ⊎ S.spoils sink.old sink.new) }
     ensures err { OnErr result (Stays (H.entries cache.old) (H.entries cache.new)
-        × BrokeOff T.Answer.eq (T.answers of.now)
+        × BrokeOff T.Call.Answer.eq (T.answers of.now)
         (⟦<S as Breaking>⟧.breaks_off sink.old sink.new)) }
 {
     let mut recorder = Recorder::new(alloc, of.fork(alloc));
@@ -313,7 +311,7 @@ fn run_kept<M: Run<T>, H: Hold<M>, T: Track, S: Sink<Call = T::Call, Answer = T:
 }
 
 /// Calls a memoized function without needs, outside of any run. A hit of an entry of age 0 clones no path.
-pub fn memoized<M: Run<T, Needs = ()>, H: Hold<M>, T: Track>(
+pub fn memoized<M: Run<T, ()>, H: Hold<M>, T: Track>(
     alloc: Global,
     cache: &mut H,
     key: M::Key,

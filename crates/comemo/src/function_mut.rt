@@ -21,7 +21,7 @@ use comemo_cache::cache::{Function, Meant};
 use comemo_cache::hold::Hold;
 use comemo_track::constraint::Constraint;
 use comemo_track::input::KeyedMut;
-use comemo_track::track::{Breaking, Call, Sink, Top, Track, Written};
+use comemo_track::track::{AnswerOf, Breaking, Call, Sink, Top, Track, Written};
 use std::alloc::Global;
 
 /// What a recorder that writes knows of its recording, for contracts, as `⟦<T as ToldMut>⟧.agrees`. There is nothing to
@@ -29,22 +29,22 @@ use std::alloc::Global;
 pub trait ToldMut: Track {
     // while the recording is complete, its writes led from some value to the present one, and while it isn't late, the
     // answers of the former agree with its reads
-    ghost agrees: { Lent Self Self.Call Self.Answer → Type 0 };
+    ghost agrees: { Lent Self Self.Call Self.Call.Answer → Type 0 };
 
     // what became of what a recorder was lent
-    ghost goes: { Lent Self Self.Call Self.Answer → Lent Self Self.Call Self.Answer → Type 0 };
+    ghost goes: { Lent Self Self.Call Self.Call.Answer → Lent Self Self.Call Self.Call.Answer → Type 0 };
 
     // the second recording is the first after it took these pairs and these writes
-    ghost took: { Recording Self.Call Self.Answer → Recording Self.Call Self.Answer
-        → List (Self.Call × Self.Answer) → List Self.Call → Type 0 };
+    ghost took: { Recording Self.Call Self.Call.Answer → Recording Self.Call Self.Call.Answer
+        → List (Self.Call × Self.Call.Answer) → List Self.Call → Type 0 };
 }
 
 impl<T: Track> ToldMut for T {
-    ghost agrees = { HasBegun (Done T.wrote T.Call.is_write T.Call.touches T.Answer.eq T.answers)
-        T.Answer.eq T.answers };
+    ghost agrees = { HasBegun (Done T.wrote T.Call.is_write T.Call.touches T.Call.Answer.eq T.answers)
+        T.Call.Answer.eq T.answers };
 
-    ghost goes = { Goes (Done T.wrote T.Call.is_write T.Call.touches T.Answer.eq T.answers)
-        T.Call.touches T.Answer.eq T.answers };
+    ghost goes = { Goes (Done T.wrote T.Call.is_write T.Call.touches T.Call.Answer.eq T.answers)
+        T.Call.touches T.Call.Answer.eq T.answers };
 
     ghost took = { Took T.Call.eq T.Call.touches };
 }
@@ -58,65 +58,60 @@ pub trait Records {
     /// What it is asked, and what is written to it.
     type Call: Call;
 
-    /// The answer to a read: one type for all calls.
-    type Answer: Clone + Ord;
-
     ghost use Rattle.comemo.specs.declared.pending.Fault.{Fault};
 
     // its value
     ghost value: { Self → MutBor Self.Of };
 
     // its value's answers
-    ghost answers: { Self → Self.Call → Self.Answer };
+    ghost answers: { Self → Self.Call → Self.Call.Answer };
 
     // its recording
-    ghost recording: { Self → Recording Self.Call Self.Answer };
+    ghost recording: { Self → Recording Self.Call Self.Call.Answer };
 
     // while its recording is complete, it agrees with what the value was, as `ToldMut::agrees` says
     ghost agrees: { Self → Type 0 };
 
     // its recording took these pairs and these writes
-    ghost took: { Self → Self → List (Self.Call × Self.Answer) → List Self.Call → Type 0 };
+    ghost took: { Self → Self → List (Self.Call × Self.Call.Answer) → List Self.Call → Type 0 };
 
     // these writes were done on its value
     ghost did: { Self → Self → List Self.Call → Type 0 };
 
     // both, and its recording is then late if this says so
     ghost sent: { Bool → Self → Self
-        → List (Self.Call × Self.Answer) → List Self.Call → Type 0 };
+        → List (Self.Call × Self.Call.Answer) → List Self.Call → Type 0 };
 
     // its recording took a prefix of these pairs, and became incomplete
-    ghost breaks_off: { Self → Self → List (Self.Call × Self.Answer) → Type 0 };
+    ghost breaks_off: { Self → Self → List (Self.Call × Self.Call.Answer) → Type 0 };
 
     // it took a prefix of pairs that the value's answers agree with, and became incomplete
     ghost broke_off: { Self → Self → Type 0 };
 
     // it took these pairs and these writes, and became incomplete
     ghost spoiled_after: { Self → Self
-        → List (Self.Call × Self.Answer) → List Self.Call → Type 0 };
+        → List (Self.Call × Self.Call.Answer) → List Self.Call → Type 0 };
 
     // a run was begun from this state, by a recorder whose recording was set aside
-    ghost within: { Lent Self.Of Self.Call Self.Answer → Self
-        → Recording Self.Call Self.Answer → Type 0 };
+    ghost within: { Lent Self.Of Self.Call Self.Call.Answer → Self
+        → Recording Self.Call Self.Call.Answer → Type 0 };
 
     // wherever such a run was begun, this holds
-    ghost began: { Self → Recording Self.Call Self.Answer
-        → (Lent Self.Of Self.Call Self.Answer → Type 0) → Type 0 };
+    ghost began: { Self → Recording Self.Call Self.Call.Answer
+        → (Lent Self.Of Self.Call Self.Call.Answer → Type 0) → Type 0 };
 
     // wherever such a run was begun, what its recorder is at last agrees
-    ghost agrees_after: { Self → Recording Self.Call Self.Answer → Self → Type 0 };
+    ghost agrees_after: { Self → Recording Self.Call Self.Call.Answer → Self → Type 0 };
 
     // what a run learns from a question, a write or a call, which had this result
     ghost tells: { {X : Type 0} → Self → Self → Result X Fault
-        → (X → (Self.Call → Self.Answer) → Type 0) → Type 0 };
+        → (X → (Self.Call → Self.Call.Answer) → Type 0) → Type 0 };
 }
 
 impl<'a, 'b, T: Track> Records for RecorderMut<'a, 'b, T> {
     type Of = T;
 
     type Call = T::Call;
-
-    type Answer = T::Answer;
 
     ghost value = { λ s. s.value };
 
@@ -136,21 +131,21 @@ impl<'a, 'b, T: Track> Records for RecorderMut<'a, 'b, T> {
     ghost breaks_off = { λ s t. BreaksOff ⟦<T as ToldMut>⟧.took Spoiled
         s.recording.now t.recording.now };
 
-    ghost broke_off = { λ s t. BrokeOff T.Answer.eq (T.answers s.value.now)
+    ghost broke_off = { λ s t. BrokeOff T.Call.Answer.eq (T.answers s.value.now)
         (BreaksOff ⟦<T as ToldMut>⟧.took Spoiled s.recording.now t.recording.now) };
 
     ghost spoiled_after = { λ s t. SpoiledAfter ⟦<T as ToldMut>⟧.took Spoiled
         s.recording.now t.recording.now };
 
-    ghost within = { λ s t around. Within ⟦<T as Written>⟧.did T.Call.touches T.Answer.eq
+    ghost within = { λ s t around. Within ⟦<T as Written>⟧.did T.Call.touches T.Call.Answer.eq
         T.answers s (lent t.value t.recording) around };
 
-    ghost began = { λ t around P. (s : Lent T T.Call T.Answer)
-        → Within ⟦<T as Written>⟧.did T.Call.touches T.Answer.eq T.answers
+    ghost began = { λ t around P. (s : Lent T T.Call T.Call.Answer)
+        → Within ⟦<T as Written>⟧.did T.Call.touches T.Call.Answer.eq T.answers
         s (lent t.value t.recording) around → P s };
 
-    ghost agrees_after = { λ s around t. (w : Lent T T.Call T.Answer)
-        → Within ⟦<T as Written>⟧.did T.Call.touches T.Answer.eq T.answers
+    ghost agrees_after = { λ s around t. (w : Lent T T.Call T.Call.Answer)
+        → Within ⟦<T as Written>⟧.did T.Call.touches T.Call.Answer.eq T.answers
         w (lent s.value s.recording) around
         → ⟦<T as ToldMut>⟧.agrees (lent t.value t.recording) };
 
@@ -167,22 +162,17 @@ pub trait Writes {
     /// What it is asked, and what is written to it.
     type Call: Call;
 
-    /// The answer to a read: one type for all calls.
-    type Answer: Clone + Ord;
-
     ghost use Rattle.comemo.specs.declared.pending.Fault.{Fault};
 
     // of all that fits the recording, and of the writes that were recorded since
-    ghost tells: { {X : Type 0} → Lent Self.Of Self.Call Self.Answer → Self → Result X Fault
-        → (X → (Self.Call → Self.Answer) → List Self.Call → Type 0) → Type 0 };
+    ghost tells: { {X : Type 0} → Lent Self.Of Self.Call Self.Call.Answer → Self → Result X Fault
+        → (X → (Self.Call → Self.Call.Answer) → List Self.Call → Type 0) → Type 0 };
 }
 
 impl<'a, 'b, T: Track> Writes for RecorderMut<'a, 'b, T> {
     type Of = T;
 
     type Call = T::Call;
-
-    type Answer = T::Answer;
 
     ghost tells = { λ s t r P. TellsWrites ⟦<T as ToldMut>⟧.goes ⟦<T as Told>⟧.fits
         s (lent t.value t.recording) r P };
@@ -197,7 +187,7 @@ pub struct RecorderMut<'a, 'b, T: Track> {
     /// What is asked and written.
     pub value: &'a mut T,
     /// What it was asked, and what was written to it.
-    pub recording: &'b mut Constraint<T::Call, T::Answer>,
+    pub recording: &'b mut Constraint<T::Call>,
 }
 
 impl<'a, 'b, T: Track> RecorderMut<'a, 'b, T> {
@@ -205,7 +195,7 @@ impl<'a, 'b, T: Track> RecorderMut<'a, 'b, T> {
     pub fn new(
         alloc: Global,
         value: &'a mut T,
-        recording: &'b mut Constraint<T::Call, T::Answer>,
+        recording: &'b mut Constraint<T::Call>,
     ) -> Self
         ensures value { result.value.now ≡ value.old }
         ensures same_value { result.value.ghost_name ≡ value.entry.ghost_name }
@@ -220,14 +210,14 @@ impl<'a, 'b, T: Track> RecorderMut<'a, 'b, T> {
     }
 
     /// Asks the value a read, and records the call with its answer, as `Recorder::ask`.
-    pub fn ask(&mut self, call: T::Call) -> Result<T::Answer, Fault>
+    pub fn ask(&mut self, call: T::Call) -> Result<AnswerOf<T::Call>, Fault>
         requires agrees { ⟦<Self as Records>⟧.agrees self.old }
         requires read { T.Call.is_write call ≡ false }
         ensures agrees { ⟦<Self as Records>⟧.agrees self.new }
         ensures tells { ⟦<Self as Records>⟧.tells self.old self.new result
-            (λ answer m. IsTrue (T.Answer.eq (m call) answer)) }
+            (λ answer m. IsTrue (T.Call.Answer.eq (m call) answer)) }
         ensures asks { IfOk result
-            (λ answer. Asks T.Answer.eq (T.answers self.old.value.now) call answer
+            (λ answer. Asks T.Call.Answer.eq (T.answers self.old.value.now) call answer
             (⟦<Self as Records>⟧.took self.old self.new)) }
         ensures writes { self.new.recording.now.writes ≡ self.old.recording.now.writes }
         ensures value { self.new.value ≡ self.old.value }
@@ -259,10 +249,10 @@ impl<'a, 'b, T: Track> RecorderMut<'a, 'b, T> {
 
     /// Calls another memoized function of the same value, which only reads, and records what it asked, as
     /// `Recorder::call`.
-    pub fn call<G: Run<T>, H: Hold<G>>(
+    pub fn call<G: Run<T, N>, H: Hold<G>, N>(
         &mut self,
         cache: &mut H,
-        needs: &mut G::Needs,
+        needs: &mut N,
         key: G::Key,
     ) -> Result<G::Out, Fault>
         requires reads { WritesNone G.writes }
@@ -290,10 +280,10 @@ impl<'a, 'b, T: Track> RecorderMut<'a, 'b, T> {
 
     /// Calls another memoized function of the same value, as `memoized_mut_with`, with the recording as its sink. After
     /// a fault the run can't be finished.
-    pub fn call_mut<G: RunMut<T>, H: Hold<G>>(
+    pub fn call_mut<G: RunMut<T, N>, H: Hold<G>, N>(
         &mut self,
         cache: &mut H,
-        needs: &mut G::Needs,
+        needs: &mut N,
         key: G::Key,
     ) -> Result<G::Out, Fault>
         requires agrees { ⟦<Self as Records>⟧.agrees self.old }
@@ -302,11 +292,11 @@ impl<'a, 'b, T: Track> RecorderMut<'a, 'b, T> {
             (lent self.old.value self.old.recording) self.new result
             (λ output m writes. IsRight G.means G.writes key m output writes) }
         ensures reply { IfOk result (λ output. (reply : Reply G.Out) × (reply.output ≡ output)
-            × ⟦<G as AnsweringMut<H, T, Constraint<T::Call, T::Answer>>>⟧.replies true key
+            × ⟦<G as AnsweringMut<H, T, Constraint<T::Call>>>⟧.replies true key
             self.old.value.now self.new.value.now cache.old cache.new
             self.old.recording.now self.new.recording.now reply) }
         ensures err { OnErr result
-            (⟦<G as AnsweringMut<H, T, Constraint<T::Call, T::Answer>>>⟧.breaks true key
+            (⟦<G as AnsweringMut<H, T, Constraint<T::Call>>>⟧.breaks true key
             self.old.value.now self.new.value.now cache.old cache.new
             self.old.recording.now self.new.recording.now) }
     {
@@ -327,11 +317,9 @@ impl<'a, 'b, T: Track> RecorderMut<'a, 'b, T> {
 
 /// How a function that also writes is done, on a tracked value. Its `writes` states which writes are right.
 ///
-/// The value may borrow: several values as one, by `BothMut` or `ReadAndWrite`, or the user's own type.
-pub trait RunMut<T: Track>: Function<Call = T::Call, Answer = T::Answer> {
-    /// What a run needs besides its arguments: the caches of the functions that it calls, or `()`.
-    type Needs;
-
+/// The value may borrow: several values as one, by `BothMut` or `ReadAndWrite`, or the user's own type. `N` is what a run
+/// needs, as with `Run`.
+pub trait RunMut<T: Track, N>: Function<Call = T::Call> {
     /// Does the function, and asks the value and writes to it through the recorder.
     ///
     /// Output and writes must be right for all answers that agree with the recording. `Incomplete` may be returned only
@@ -339,40 +327,40 @@ pub trait RunMut<T: Track>: Function<Call = T::Call, Answer = T::Answer> {
     fn run(
         key: &Self::Key,
         of: &mut RecorderMut<'_, '_, T>,
-        needs: &mut Self::Needs,
+        needs: &mut N,
     ) -> Result<Self::Out, Fault>
         requires begins { of.now.recording.now.writes ≡ [] }
         requires agrees { ⟦<T as ToldMut>⟧.agrees (lent of.now.value of.now.recording) }
         ensures agrees { ⟦<T as ToldMut>⟧.agrees (lent of.new.value of.new.recording) }
         ensures goes { ⟦<T as ToldMut>⟧.goes
             (lent of.old.value of.old.recording) (lent of.new.value of.new.recording) }
-        ensures right { IfOk result (λ output. (m : T.Call → T.Answer)
+        ensures right { IfOk result (λ output. (m : T.Call → T.Call.Answer)
             → ⟦<T as Told>⟧.fits of.new.recording.now m
             → IsRight Self.means Self.writes key.now m output of.new.recording.now.writes) }
-        ensures settled { SettlesRun Self.Key.eq T.Call.eq T.Answer.eq Self.naming key.now
+        ensures settled { SettlesRun Self.Key.eq T.Call.eq T.Call.Answer.eq Self.naming key.now
             of.old.recording.now of.new.recording.now result }
         ensures fault { IfErr result
             (λ fault. fault ≡ Fault.Incomplete → of.new.recording.now.complete ≡ false) };
 }
 
 /// Runs a function on a value. Returns the run's result, and its recording.
-fn run_recorded<M: RunMut<T>, T: Track>(
+fn run_recorded<M: RunMut<T, N>, T: Track, N>(
     alloc: Global,
     key: &M::Key,
     of: &mut T,
-    needs: &mut M::Needs,
-) -> (Result<M::Out, Fault>, Constraint<T::Call, T::Answer>)
-    ensures right { IfOk result.0 (λ output. (m : T.Call → T.Answer)
+    needs: &mut N,
+) -> (Result<M::Out, Fault>, Constraint<T::Call>)
+    ensures right { IfOk result.0 (λ output. (m : T.Call → T.Call.Answer)
         → ⟦<T as Told>⟧.fits result.1 m
         → IsRight M.means M.writes key.now m output result.1.writes) }
-    ensures settled { SettlesAs M.Key.eq T.Call.eq T.Answer.eq M.naming key.now
+    ensures settled { SettlesAs M.Key.eq T.Call.eq T.Call.Answer.eq M.naming key.now
         result.1 result.0 }
     ensures fault { IfErr result.0
         (λ fault. fault ≡ Fault.Incomplete → result.1.complete ≡ false) }
     ensures done { result.1.complete ≡ true
         → ⟦<T as Written>⟧.did of.old of.new result.1.writes }
     ensures agrees { result.1.complete ≡ true → result.1.late ≡ false
-        → Agrees T.Answer.eq (T.answers of.old) result.1.pairs }
+        → Agrees T.Call.Answer.eq (T.answers of.old) result.1.pairs }
     ensures early { NoneTouches T.Call.touches → result.1.complete ≡ true
         → result.1.late ≡ false }
     ensures reached { Reaches ⟦<T as Written>⟧.did of.old of.new }
@@ -389,11 +377,11 @@ fn run_recorded<M: RunMut<T>, T: Track>(
 
 /// How a call of a function that writes goes, from these states to those, for contracts, as
 /// `⟦<M as AnsweringMut<H, T, S>>⟧.replies`. There is nothing to implement.
-pub trait AnsweringMut<H, T, S>: Function<Call = T::Call, Answer = T::Answer>
+pub trait AnsweringMut<H, T, S>: Function<Call = T::Call>
 where
     H: Hold<Self>,
     T: Track,
-    S: Sink<Call = T::Call, Answer = T::Answer>,
+    S: Sink<Call = T::Call>,
 {
     ghost use Rattle.comemo.specs.declared.pending.Fault.{Fault};
     ghost use Rattle.comemo.specs.declared.pending.Reply.{Reply};
@@ -408,11 +396,11 @@ where
     ghost breaks: { Bool → Self.Key → T → T → H → H → S → S → Type 0 };
 }
 
-impl<M: Function<Call = T::Call, Answer = T::Answer>, H, T, S> AnsweringMut<H, T, S> for M
+impl<M: Function<Call = T::Call>, H, T, S> AnsweringMut<H, T, S> for M
 where
     H: Hold<M>,
     T: Track,
-    S: Sink<Call = T::Call, Answer = T::Answer>,
+    S: Sink<Call = T::Call>,
 {
     ghost replies = { λ enabled key v w h h' s t reply. HeldReplyMut ⟦<M as Meant>⟧.meaning
         T.Call.touches (invocation key (T.answers v) enabled) (H.entries h)
@@ -432,17 +420,17 @@ where
 
 /// Calls a memoized function that writes: does the writes of an entry that agrees and returns its output, or runs the
 /// function and stores the run. Sink and `enabled` are as in `memoized_with`.
-pub fn memoized_mut_with<M: RunMut<T>, H: Hold<M>, T: Track, S>(
+pub fn memoized_mut_with<M: RunMut<T, N>, H: Hold<M>, N, T: Track, S>(
     alloc: Global,
     cache: &mut H,
-    needs: &mut M::Needs,
+    needs: &mut N,
     key: M::Key,
     of: &mut T,
     sink: &mut S,
     enabled: bool,
 ) -> Result<Reply<M::Out>, Fault>
 where
-    S: Sink<Call = T::Call, Answer = T::Answer>,
+    S: Sink<Call = T::Call>,
     ensures right { IfOk result (λ reply. (reply.how ≡ How.Late → ⊥)
         → (writes : List T.Call)
         × IsRight M.means M.writes key (T.answers of.old) reply.output writes
@@ -479,7 +467,7 @@ where
 }
 
 /// Calls a memoized function that writes and has no needs, outside of any run.
-pub fn memoized_mut<M: RunMut<T, Needs = ()>, H: Hold<M>, T: Track>(
+pub fn memoized_mut<M: RunMut<T, ()>, H: Hold<M>, T: Track>(
     alloc: Global,
     cache: &mut H,
     key: M::Key,

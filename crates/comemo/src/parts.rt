@@ -14,21 +14,20 @@ use comemo_cache::hold::Hold;
 use comemo_track::both::Both;
 use comemo_track::mapped::{CallMap, MappedSink};
 use comemo_track::multi::{First, MultiAnswer, MultiCall, Second};
-use comemo_track::track::{Track, View};
+use comemo_track::track::{AnswerOf, Track, View};
 
 impl<'a, T: Track> Recorder<'a, T> {
     /// As `call`, for a function of a part of the value: what it asked is recorded, renamed by a map.
-    fn call_through<A: Track, G: Run<A>, H: Hold<G>, P>(
+    fn call_through<A: Track, G: Run<A, N>, H: Hold<G>, N, P>(
         &mut self,
         cache: &mut H,
-        needs: &mut G::Needs,
+        needs: &mut N,
         key: G::Key,
         of: &View<'_, A>,
         map: P,
     ) -> Result<G::Out, Fault>
     where
-        P: CallMap<From = A::Call, FromAnswer = A::Answer, To = T::Call, ToAnswer = T::Answer>
-            + Drop,
+        P: CallMap<From = A::Call, To = T::Call> + Drop,
         requires reads { WritesNone G.writes }
         requires through { (c : A.Call)
             → T.answers self.old.value (P.maps map c) ≡ P.maps_answer map (A.answers of.now c) }
@@ -57,13 +56,13 @@ impl<'a, 'b, A: Track, B: Track> Recorder<'a, Both<'b, A, B>> {
     ghost use Rattle.comemo_track.specs.declared.multi.MultiAnswer.{MultiAnswer};
 
     /// Asks the first value a read, and records it, as `ask`.
-    pub fn ask_first(&mut self, call: A::Call) -> Result<A::Answer, Fault>
+    pub fn ask_first(&mut self, call: A::Call) -> Result<AnswerOf<A::Call>, Fault>
         requires { A.Call.is_write call ≡ false }
         ensures tells { Tells ⟦<Both<'b, A, B> as Told>⟧.fits self.old self.new result
             (λ answer m. OnPart first_call first_answer m
-            (λ part. IsTrue (A.Answer.eq (part call) answer))) }
+            (λ part. IsTrue (A.Call.Answer.eq (part call) answer))) }
         ensures asks { IfOk result
-            (λ answer. Asks A.Answer.eq (A.answers self.old.value.first) call answer
+            (λ answer. Asks A.Call.Answer.eq (A.answers self.old.value.first) call answer
             (Through first_call first_answer
             (⟦<Both<'b, A, B> as Told>⟧.took self.old self.new))) }
         ensures err { IfErr result (λ fault. (fault ≡ Fault.Memory)
@@ -77,13 +76,13 @@ impl<'a, 'b, A: Track, B: Track> Recorder<'a, Both<'b, A, B>> {
     }
 
     /// Asks the second value a read, and records it, as `ask`.
-    pub fn ask_second(&mut self, call: B::Call) -> Result<B::Answer, Fault>
+    pub fn ask_second(&mut self, call: B::Call) -> Result<AnswerOf<B::Call>, Fault>
         requires { B.Call.is_write call ≡ false }
         ensures tells { Tells ⟦<Both<'b, A, B> as Told>⟧.fits self.old self.new result
             (λ answer m. OnPart second_call second_answer m
-            (λ part. IsTrue (B.Answer.eq (part call) answer))) }
+            (λ part. IsTrue (B.Call.Answer.eq (part call) answer))) }
         ensures asks { IfOk result
-            (λ answer. Asks B.Answer.eq (B.answers self.old.value.second) call answer
+            (λ answer. Asks B.Call.Answer.eq (B.answers self.old.value.second) call answer
             (Through second_call second_answer
             (⟦<Both<'b, A, B> as Told>⟧.took self.old self.new))) }
         ensures err { IfErr result (λ fault. (fault ≡ Fault.Memory)
@@ -97,10 +96,10 @@ impl<'a, 'b, A: Track, B: Track> Recorder<'a, Both<'b, A, B>> {
     }
 
     /// Calls a memoized function of the first value, and records what it asked, as `call`.
-    pub fn call_first<G: Run<A>, H: Hold<G>>(
+    pub fn call_first<G: Run<A, N>, H: Hold<G>, N>(
         &mut self,
         cache: &mut H,
-        needs: &mut G::Needs,
+        needs: &mut N,
         key: G::Key,
     ) -> Result<G::Out, Fault>
         requires { WritesNone G.writes }
@@ -120,10 +119,10 @@ impl<'a, 'b, A: Track, B: Track> Recorder<'a, Both<'b, A, B>> {
     }
 
     /// Calls a memoized function of the second value, and records what it asked, as `call`.
-    pub fn call_second<G: Run<B>, H: Hold<G>>(
+    pub fn call_second<G: Run<B, N>, H: Hold<G>, N>(
         &mut self,
         cache: &mut H,
-        needs: &mut G::Needs,
+        needs: &mut N,
         key: G::Key,
     ) -> Result<G::Out, Fault>
         requires { WritesNone G.writes }

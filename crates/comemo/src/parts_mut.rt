@@ -16,22 +16,22 @@ use comemo_cache::hold::Hold;
 use comemo_track::mapped::MappedSink;
 use comemo_track::multi::{First, Second};
 use comemo_track::read_and_write::ReadAndWrite;
-use comemo_track::track::Track;
+use comemo_track::track::{AnswerOf, Track};
 
 /// The calls of each part, and the writes of the second part. Each call is recorded as a call of the whole.
 impl<'a, 'b, 'c, A: Track, B: Track> RecorderMut<'a, 'b, ReadAndWrite<'c, A, B>> {
     ghost use Rattle.comemo_track.specs.Multi.{first_call, second_call, first_answer, second_answer};
 
     /// Asks the first value a read, and records it, as `RecorderMut::ask`.
-    pub fn ask_first(&mut self, call: A::Call) -> Result<A::Answer, Fault>
+    pub fn ask_first(&mut self, call: A::Call) -> Result<AnswerOf<A::Call>, Fault>
         requires agrees { ⟦<Self as Records>⟧.agrees self.old }
         requires read { A.Call.is_write call ≡ false }
         ensures agrees { ⟦<Self as Records>⟧.agrees self.new }
         ensures tells { ⟦<Self as Records>⟧.tells self.old self.new result
             (λ answer m. OnPart first_call first_answer m
-            (λ part. IsTrue (A.Answer.eq (part call) answer))) }
+            (λ part. IsTrue (A.Call.Answer.eq (part call) answer))) }
         ensures asks { IfOk result
-            (λ answer. Asks A.Answer.eq (A.answers self.old.value.now.first) call answer
+            (λ answer. Asks A.Call.Answer.eq (A.answers self.old.value.now.first) call answer
             (Through first_call first_answer (⟦<Self as Records>⟧.took self.old self.new))) }
         ensures writes { self.new.recording.now.writes ≡ self.old.recording.now.writes }
         ensures value { self.new.value ≡ self.old.value }
@@ -43,15 +43,15 @@ impl<'a, 'b, 'c, A: Track, B: Track> RecorderMut<'a, 'b, ReadAndWrite<'c, A, B>>
     }
 
     /// Asks the second value a read, and records it, as `RecorderMut::ask`.
-    pub fn ask_second(&mut self, call: B::Call) -> Result<B::Answer, Fault>
+    pub fn ask_second(&mut self, call: B::Call) -> Result<AnswerOf<B::Call>, Fault>
         requires agrees { ⟦<Self as Records>⟧.agrees self.old }
         requires read { B.Call.is_write call ≡ false }
         ensures agrees { ⟦<Self as Records>⟧.agrees self.new }
         ensures tells { ⟦<Self as Records>⟧.tells self.old self.new result
             (λ answer m. OnPart second_call second_answer m
-            (λ part. IsTrue (B.Answer.eq (part call) answer))) }
+            (λ part. IsTrue (B.Call.Answer.eq (part call) answer))) }
         ensures asks { IfOk result
-            (λ answer. Asks B.Answer.eq (B.answers self.old.value.now.second.now) call answer
+            (λ answer. Asks B.Call.Answer.eq (B.answers self.old.value.now.second.now) call answer
             (Through second_call second_answer (⟦<Self as Records>⟧.took self.old self.new))) }
         ensures writes { self.new.recording.now.writes ≡ self.old.recording.now.writes }
         ensures value { self.new.value ≡ self.old.value }
@@ -87,10 +87,10 @@ impl<'a, 'b, 'c, A: Track, B: Track> RecorderMut<'a, 'b, ReadAndWrite<'c, A, B>>
     }
 
     /// Calls a memoized function of the first value, which only reads, and records its calls, as `RecorderMut::call`.
-    pub fn call_first<G: Run<A>, H: Hold<G>>(
+    pub fn call_first<G: Run<A, N>, H: Hold<G>, N>(
         &mut self,
         cache: &mut H,
-        needs: &mut G::Needs,
+        needs: &mut N,
         key: G::Key,
     ) -> Result<G::Out, Fault>
         requires reads { WritesNone G.writes }
@@ -120,10 +120,10 @@ impl<'a, 'b, 'c, A: Track, B: Track> RecorderMut<'a, 'b, ReadAndWrite<'c, A, B>>
 
     /// Calls a memoized function of the second value, which may write, and records its calls and writes, as
     /// `RecorderMut::call_mut`.
-    pub fn call_mut_second<G: RunMut<B>, H: Hold<G>>(
+    pub fn call_mut_second<G: RunMut<B, N>, H: Hold<G>, N>(
         &mut self,
         cache: &mut H,
-        needs: &mut G::Needs,
+        needs: &mut N,
         key: G::Key,
     ) -> Result<G::Out, Fault>
         requires agrees { ⟦<Self as Records>⟧.agrees self.old }

@@ -17,7 +17,7 @@ use comemo_cache::cache::{Found, Function, Meant, Peeked};
 use comemo_cache::hold::Hold;
 use comemo_track::constraint::Constraint;
 use comemo_track::input::Input;
-use comemo_track::track::{Breaking, Call, Sink};
+use comemo_track::track::{AnswerOf, Breaking, Call, Sink};
 use std::alloc::{AllocError, Global};
 use std::marker::Model;
 
@@ -89,7 +89,7 @@ pub enum Begun<Out, Run> {
 
 /// A call at an input, as one value, for contracts: `⟦<In as Invoked>⟧.invoked`. There is nothing to implement.
 pub trait Invoked: Input {
-    ghost invoked: { Self → Bool → Invocation Self.Key Self.Call Self.Answer };
+    ghost invoked: { Self → Bool → Invocation Self.Key Self.Call Self.Call.Answer };
 }
 
 impl<In: Input> Invoked for In {
@@ -101,8 +101,8 @@ impl<In: Input> Invoked for In {
 pub trait Calling<H, In, S>: Function
 where
     H: Hold<Self>,
-    In: Input<Call = Self::Call, Key = Self::Key, Answer = Self::Answer>,
-    S: Sink<Call = Self::Call, Answer = Self::Answer>,
+    In: Input<Call = Self::Call, Key = Self::Key>,
+    S: Sink<Call = Self::Call>,
 {
     ghost use Rattle.comemo.specs.declared.pending.Fault.{Fault};
 
@@ -122,8 +122,8 @@ where
 impl<M: Function, H, In, S> Calling<H, In, S> for M
 where
     H: Hold<M>,
-    In: Input<Call = M::Call, Key = M::Key, Answer = M::Answer>,
-    S: Sink<Call = M::Call, Answer = M::Answer>,
+    In: Input<Call = M::Call, Key = M::Key>,
+    S: Sink<Call = M::Call>,
 {
     ghost hits = { λ enabled h h' i j s t output. BeganByHit ⟦<M as Meant>⟧.meaning
         (⟦<In as Invoked>⟧.invoked i enabled) (H.entries h) (In.did i j) (S.took s t)
@@ -149,15 +149,15 @@ pub struct Pending<M: Function> {
     pub(crate) alloc: Global,
     pub(crate) key: M::Key,
     pub(crate) enabled: bool,
-    pub(crate) recording: Constraint<M::Call, M::Answer>,
+    pub(crate) recording: Constraint<M::Call>,
 }
 
 impl<M: Function> Model for Pending<M> {
     ghost use Rattle.comemo.specs.Begin.{PendingRun, run_code};
 
-    ghost Value = { PendingRun M.Key M.Call M.Answer };
+    ghost Value = { PendingRun M.Key M.Call M.Call.Answer };
 
-    ghost coded = { run_code M.Key.code M.Call.code M.Answer.code };
+    ghost coded = { run_code M.Key.code M.Call.code M.Call.Answer.code };
 
     ghost view = { λ s. record { key = s.key; enabled = s.enabled; recording = s.recording } };
 }
@@ -168,8 +168,8 @@ impl<M: Function> Pending<M> {
     ghost use Rattle.comemo_track.specs.contracts.constraint.Constraint.{the_row as recording_row};
 
     /// The run's recording: the sink of what the run asks.
-    pub fn recording(&mut self) -> &mut Constraint<M::Call, M::Answer>
-        ensures* writes_back { sem 𝓛 (Lends (the_row M.row M.Call.row M.Key.row M.Answer.row M.Out.row M.Function.own M.Call.Call.own M.Call.Clone.own M.Call.PartialEq.own M.Call.Hash.own M.Key.Clone.own M.Key.PartialEq.own M.Key.Hash.own M.Answer.Clone.own M.Answer.Ord.own M.Answer.PartialEq.own M.Answer.PartialOrd.own M.Out.Clone.own) (recording_row M.Call.row M.Answer.row M.Call.Call.own M.Call.Clone.own M.Call.PartialEq.own M.Call.Hash.own) self.entry result (λ w. record self.old { recording = w })) }
+    pub fn recording(&mut self) -> &mut Constraint<M::Call>
+        ensures* writes_back { sem 𝓛 (Lends (the_row M.row M.Call.row M.Key.row M.Call.Answer.row M.Out.row M.Function.own M.Call.Call.own M.Call.Clone.own M.Call.PartialEq.own M.Call.Hash.own M.Key.Clone.own M.Key.PartialEq.own M.Key.Hash.own M.Call.Answer.Clone.own M.Call.Answer.Ord.own M.Call.Answer.PartialEq.own M.Call.Answer.PartialOrd.own M.Out.Clone.own) (recording_row M.Call.row M.Call.Answer.row M.Call.Call.own M.Call.Clone.own M.Call.PartialEq.own M.Call.Hash.own) self.entry result (λ w. record self.old { recording = w })) }
         ensures value { result.now ≡ self.old.recording }
     {
         &mut self.recording
@@ -179,7 +179,7 @@ impl<M: Function> Pending<M> {
     ///
     /// Unless the recording is late, output and writes must be right for all answers that agree with its reads. The
     /// recording is cloned, unless the sink ignores it or `enabled` was false.
-    pub fn finish<H: Hold<M>, S: Sink<Call = M::Call, Answer = M::Answer>>(
+    pub fn finish<H: Hold<M>, S: Sink<Call = M::Call>>(
         self,
         cache: &mut H,
         sink: &mut S,
@@ -229,7 +229,7 @@ impl<M: Function> Pending<M> {
     }
 
     /// Ends the run by its result: as `finish` with an output, as `give_up` with a fault, which is returned.
-    pub fn end<H: Hold<M>, S: Sink<Call = M::Call, Answer = M::Answer>>(
+    pub fn end<H: Hold<M>, S: Sink<Call = M::Call>>(
         self,
         cache: &mut H,
         sink: &mut S,
@@ -264,7 +264,7 @@ impl<M: Function> Pending<M> {
     }
 
     /// Gives the run up: nothing is stored, and the sink is incomplete. Does not allocate.
-    pub fn give_up<S: Sink<Call = M::Call, Answer = M::Answer>>(self, sink: &mut S)
+    pub fn give_up<S: Sink<Call = M::Call>>(self, sink: &mut S)
         ensures { S.spoils sink.old sink.new }
     {
         let Pending {
@@ -280,7 +280,7 @@ impl<M: Function> Pending<M> {
 }
 
 /// Sends reads with their answers to a sink.
-fn give_pairs<S: Sink>(pairs: Vec<(S::Call, S::Answer)>, sink: &mut S) -> Result<(), Fault>
+fn give_pairs<S: Sink>(pairs: Vec<(S::Call, AnswerOf<S::Call>)>, sink: &mut S) -> Result<(), Fault>
     requires { All (λ p. S.Call.is_write p.0 ≡ false) pairs.items }
     ensures ok { OnOk result (S.took sink.old sink.new pairs.items []) }
     ensures fault { IfErr result (λ fault. fault ≡ Fault.Memory) }
@@ -296,12 +296,11 @@ fn give_pairs<S: Sink>(pairs: Vec<(S::Call, S::Answer)>, sink: &mut S) -> Result
 }
 
 /// Clones of the pairs of a sequence.
-fn copy_pairs<C: Call, R: Clone + Ord>(
+fn copy_pairs<C: Call>(
     alloc: Global,
-    reads: &CallSequence<C, R>,
-) -> Result<Vec<(C, R)>, AllocError>
-    requires { (x y : R) → R.is_clone x y → IsTrue (R.eq x y) }
-    ensures { IfOk result (λ pairs. IsSamePath C.eq R.eq pairs.items reads.now.pairs) }
+    reads: &CallSequence<C, C::Answer>,
+) -> Result<Vec<(C, C::Answer)>, AllocError>
+    ensures { IfOk result (λ pairs. IsSamePath C.eq C.Answer.eq pairs.items reads.now.pairs) }
 {
     let mut pairs = Vec::new(alloc);
     for slot in reads.slots() {
@@ -327,12 +326,12 @@ fn copy_writes<C: Call>(writes: &Vec<C>) -> Result<Vec<C>, AllocError>
 /// Clones of a run's pairs, output and writes: the sink and the caller get one of each, the store the other.
 fn copy_run<M: Function>(
     alloc: Global,
-    reads: &CallSequence<M::Call, M::Answer>,
+    reads: &CallSequence<M::Call, AnswerOf<M::Call>>,
     output: &M::Out,
     writes: &Vec<M::Call>,
-) -> Result<(Vec<(M::Call, M::Answer)>, M::Out, Vec<M::Call>), AllocError>
+) -> Result<(Vec<(M::Call, AnswerOf<M::Call>)>, M::Out, Vec<M::Call>), AllocError>
     ensures pairs { IfOk result
-        (λ copies. IsSamePath M.Call.eq M.Answer.eq copies.0.items reads.now.pairs) }
+        (λ copies. IsSamePath M.Call.eq M.Call.Answer.eq copies.0.items reads.now.pairs) }
     ensures output { IfOk result (λ copies. M.Out.is_clone output.now copies.1) }
     ensures same { IfOk result (λ copies. SameWrites M.Call.eq writes.now.items copies.2.items) }
     ensures written { All (λ c. M.Call.is_write c ≡ true) writes.now.items
@@ -366,7 +365,7 @@ fn give_writes<S: Sink>(writes: Vec<S::Call>, sink: &mut S) -> Result<(), Fault>
 
 /// Sends pairs and then writes to a sink.
 fn give_run<S: Sink>(
-    pairs: Vec<(S::Call, S::Answer)>,
+    pairs: Vec<(S::Call, AnswerOf<S::Call>)>,
     writes: Vec<S::Call>,
     sink: &mut S,
 ) -> Result<(), Fault>
@@ -382,7 +381,7 @@ fn give_run<S: Sink>(
 
 /// Sends a sequence of reads and then writes to a sink.
 fn give_recording<S: Sink>(
-    reads: CallSequence<S::Call, S::Answer>,
+    reads: CallSequence<S::Call, AnswerOf<S::Call>>,
     writes: Vec<S::Call>,
     sink: &mut S,
 ) -> Result<(), Fault>
@@ -398,7 +397,7 @@ fn give_recording<S: Sink>(
 
 /// Sends the pairs of a sequence of reads to a sink.
 fn give_reads<S: Sink>(
-    mut reads: CallSequence<S::Call, S::Answer>,
+    mut reads: CallSequence<S::Call, AnswerOf<S::Call>>,
     sink: &mut S,
 ) -> Result<(), Fault>
     requires { All (λ p. S.Call.is_write p.0 ≡ false) reads.pairs }
@@ -416,7 +415,7 @@ fn give_reads<S: Sink>(
 }
 
 /// Sends a late recording's reads and then its writes to a sink, and marks the sink as late.
-fn give_late<S: Sink>(recording: Constraint<S::Call, S::Answer>, sink: &mut S) -> Result<(), Fault>
+fn give_late<S: Sink>(recording: Constraint<S::Call>, sink: &mut S) -> Result<(), Fault>
     ensures ok { OnOk result (⟦<S as Breaking>⟧.took_as true
         sink.old sink.new recording.pairs recording.writes) }
     ensures fault { IfErr result (λ fault. fault ≡ Fault.Memory) }
@@ -432,7 +431,7 @@ fn give_late<S: Sink>(recording: Constraint<S::Call, S::Answer>, sink: &mut S) -
 fn keep<M: Function, H: Hold<M>>(
     cache: &mut H,
     key: M::Key,
-    reads: CallSequence<M::Call, M::Answer>,
+    reads: CallSequence<M::Call, AnswerOf<M::Call>>,
     output: M::Out,
     writes: Vec<M::Call>,
 ) -> How
@@ -458,7 +457,7 @@ fn keep<M: Function, H: Hold<M>>(
 fn keep_copy<M: Function, H: Hold<M>>(
     cache: &mut H,
     key: M::Key,
-    reads: CallSequence<M::Call, M::Answer>,
+    reads: CallSequence<M::Call, AnswerOf<M::Call>>,
     output: &M::Out,
     writes: Vec<M::Call>,
 ) -> How
@@ -481,12 +480,12 @@ fn keep_copy<M: Function, H: Hold<M>>(
 
 /// Sends a run to a sink, stores it, and returns what became of it. Clones pairs and writes only if the sink keeps
 /// them.
-fn end_run<M: Function, H: Hold<M>, S: Sink<Call = M::Call, Answer = M::Answer>>(
+fn end_run<M: Function, H: Hold<M>, S: Sink<Call = M::Call>>(
     alloc: Global,
     cache: &mut H,
     sink: &mut S,
     key: M::Key,
-    reads: CallSequence<M::Call, M::Answer>,
+    reads: CallSequence<M::Call, AnswerOf<M::Call>>,
     output: &M::Out,
     writes: Vec<M::Call>,
 ) -> Result<How, Fault>
@@ -519,7 +518,7 @@ fn end_run<M: Function, H: Hold<M>, S: Sink<Call = M::Call, Answer = M::Answer>>
 }
 
 /// Does the writes of a hit on its input, and sends each to a sink that has room for them.
-fn replay<In: Input, S: Sink<Call = In::Call, Answer = In::Answer>>(
+fn replay<In: Input, S: Sink<Call = In::Call>>(
     writes: Vec<In::Call>,
     input: &mut In,
     sink: &mut S,
@@ -548,12 +547,11 @@ fn replay<In: Input, S: Sink<Call = In::Call, Answer = In::Answer>>(
 }
 
 /// Clones of the answers of a path.
-fn answers_of<C: Call, R: Clone + Ord>(
+fn answers_of<C: Call>(
     alloc: Global,
-    pairs: &Vec<(C, R)>,
-) -> Result<Vec<R>, AllocError>
-    requires { (x y : R) → R.is_clone x y → IsTrue (R.eq x y) }
-    ensures { IfOk result (λ answers. HasAnswers R.eq pairs.now.items answers.items) }
+    pairs: &Vec<(C, C::Answer)>,
+) -> Result<Vec<C::Answer>, AllocError>
+    ensures { IfOk result (λ answers. HasAnswers C.Answer.eq pairs.now.items answers.items) }
 {
     let mut answers = Vec::with_capacity(alloc, pairs.len())?;
     for (_, answer) in pairs {
@@ -563,9 +561,9 @@ fn answers_of<C: Call, R: Clone + Ord>(
 }
 
 /// Clones of the answers of a path that was found, or none if its entry has age 0 and needn't be touched.
-fn answers_of_aged<M: Function>(found: &Found<M>) -> Result<Vec<M::Answer>, AllocError>
+fn answers_of_aged<M: Function>(found: &Found<M>) -> Result<Vec<AnswerOf<M::Call>>, AllocError>
     ensures { IfOk result (λ answers. (found.now.age ≡ 0 → ⊥)
-        → HasAnswers M.Answer.eq found.now.pairs.items answers.items) }
+        → HasAnswers M.Call.Answer.eq found.now.pairs.items answers.items) }
 {
     let alloc = *found.pairs.allocator();
     if found.age == 0 {
@@ -583,15 +581,15 @@ fn give_found<M: Function, H: Hold<M>, In, S>(
     sink: &mut S,
 ) -> Result<M::Out, Fault>
 where
-    In: Input<Call = M::Call, Key = M::Key, Answer = M::Answer>,
-    S: Sink<Call = M::Call, Answer = M::Answer>,
+    In: Input<Call = M::Call, Key = M::Key>,
+    S: Sink<Call = M::Call>,
     requires reads { All (λ p. M.Call.is_write p.0 ≡ false) found.pairs.items }
     requires written { All (λ c. M.Call.is_write c ≡ true) found.writes.items }
     ensures output { IfOk result (λ output. output ≡ found.output) }
     ensures done { OnOk result (In.did input.old input.new found.writes.items) }
     ensures sent { OnOk result (S.took sink.old sink.new found.pairs.items found.writes.items) }
     ensures touched { OnOk result (Leads (H.entries cache.old) (H.entries cache.new)
-        (TouchesFound M.Answer.eq M.Key.eq key.now found.pairs.items found.age)) }
+        (TouchesFound M.Call.Answer.eq M.Key.eq key.now found.pairs.items found.age)) }
     ensures err { IfErr result (λ fault. OnFault fault
         (Stays (H.entries cache.old) (H.entries cache.new) × In.did input.old input.new []
         × ⟦<S as Breaking>⟧.breaks_off sink.old sink.new found.pairs.items)
@@ -599,7 +597,7 @@ where
         × (found.writes.items ≡ prefix ++ next ∷ rest) × In.did input.old input.new prefix
         × ⟦<S as Breaking>⟧.spoiled_after sink.old sink.new found.pairs.items prefix
         × (M.Call.is_write next ≡ true) × Leads (H.entries cache.old) (H.entries cache.new)
-        (TouchesFound M.Answer.eq M.Key.eq key.now found.pairs.items found.age))) }
+        (TouchesFound M.Call.Answer.eq M.Key.eq key.now found.pairs.items found.age))) }
 {
     let Ok(answers) = answers_of_aged(&found) else {
         sink.spoil();
@@ -631,8 +629,8 @@ fn give_peeked<M: Function, In, S>(
     sink: &mut S,
 ) -> Result<M::Out, Fault>
 where
-    In: Input<Call = M::Call, Key = M::Key, Answer = M::Answer>,
-    S: Sink<Call = M::Call, Answer = M::Answer>,
+    In: Input<Call = M::Call, Key = M::Key>,
+    S: Sink<Call = M::Call>,
     requires { All (λ c. M.Call.is_write c ≡ true) peeked.writes.items }
     ensures output { IfOk result (λ output. output ≡ peeked.output) }
     ensures done { OnOk result (In.did input.old input.new peeked.writes.items) }
@@ -666,8 +664,8 @@ fn look_hit<M: Function, H: Hold<M>, In, S>(
     sink: &mut S,
 ) -> Result<Option<M::Out>, Fault>
 where
-    In: Input<Call = M::Call, Key = M::Key, Answer = M::Answer>,
-    S: Sink<Call = M::Call, Answer = M::Answer>,
+    In: Input<Call = M::Call, Key = M::Key>,
+    S: Sink<Call = M::Call>,
     requires { IsTrue (M.Key.eq (In.key_of input.now) key.now) }
     ensures hit { IfOk result (λ found. IfSome found (λ output. (s : In) → In.did s input.old []
         → ⟦<M as Calling<H, In, S>>⟧.hits
@@ -699,8 +697,8 @@ fn find_hit<M: Function, H: Hold<M>, In, S>(
     sink: &mut S,
 ) -> Result<Option<M::Out>, Fault>
 where
-    In: Input<Call = M::Call, Key = M::Key, Answer = M::Answer>,
-    S: Sink<Call = M::Call, Answer = M::Answer>,
+    In: Input<Call = M::Call, Key = M::Key>,
+    S: Sink<Call = M::Call>,
     requires { IsTrue (M.Key.eq (In.key_of input.now) key.now) }
     ensures hit { IfOk result (λ found. IfSome found (⟦<M as Calling<H, In, S>>⟧.hits
         true cache.old cache.new input.old input.new sink.old sink.new)) }
@@ -736,8 +734,8 @@ pub(crate) fn look_up<M: Function, H: Hold<M>, In, S>(
     enabled: bool,
 ) -> Result<Begun<M::Out, M::Key>, Fault>
 where
-    In: Input<Call = M::Call, Key = M::Key, Answer = M::Answer>,
-    S: Sink<Call = M::Call, Answer = M::Answer>,
+    In: Input<Call = M::Call, Key = M::Key>,
+    S: Sink<Call = M::Call>,
     ensures hit { IfOk result (λ b. OnBegun b (⟦<M as Calling<H, In, S>>⟧.hits
         enabled cache.old cache.new input.old input.new sink.old sink.new) (λ _. ⊤)) }
     ensures run { IfOk result (λ b. OnBegun b (λ _. ⊤) (⟦<M as Calling<H, In, S>>⟧.has_to_run
@@ -773,8 +771,8 @@ pub fn begin<M: Function, H: Hold<M>, In, S>(
     enabled: bool,
 ) -> Result<Begun<M::Out, Pending<M>>, Fault>
 where
-    In: Input<Call = M::Call, Key = M::Key, Answer = M::Answer>,
-    S: Sink<Call = M::Call, Answer = M::Answer>,
+    In: Input<Call = M::Call, Key = M::Key>,
+    S: Sink<Call = M::Call>,
     ensures hit { IfOk result (λ b. OnBegun b (λ output. BeganByHit ⟦<M as Meant>⟧.meaning
         (⟦<In as Invoked>⟧.invoked input.old enabled) (H.entries cache.old)
         (In.did input.old input.new) (S.took sink.old sink.new) output (H.entries cache.new))

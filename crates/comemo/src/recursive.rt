@@ -27,7 +27,7 @@ pub struct Inner<'a, K, T: Track> {
 impl<'a, T: Track> Recorder<'a, T> {
     /// Begins a nested call: returns the output of an entry that agrees, or a run with a recorder of its own. On a hit
     /// this recorder takes the entry's path.
-    pub fn begin<G: Function<Call = T::Call, Answer = T::Answer>, H: Hold<G>>(
+    pub fn begin<G: Function<Call = T::Call>, H: Hold<G>>(
         &mut self,
         cache: &mut H,
         key: &G::Key,
@@ -70,7 +70,7 @@ impl<'a, T: Track> Recorder<'a, T> {
     /// Finishes a nested run with its output, and stores it. This recorder takes what the run recorded.
     ///
     /// The output must be right for all answers that agree with the run's recording, which must be complete.
-    pub fn finish<G: Function<Call = T::Call, Answer = T::Answer>, H: Hold<G>>(
+    pub fn finish<G: Function<Call = T::Call>, H: Hold<G>>(
         &mut self,
         cache: &mut H,
         key: &G::Key,
@@ -81,7 +81,7 @@ impl<'a, T: Track> Recorder<'a, T> {
         requires own { IsTrue (G.Key.eq key.now inner.own) }
         requires value { inner.recorder.value ≡ self.now.value }
         requires complete { inner.recorder.recording.complete ≡ true }
-        requires right { (m : T.Call → T.Answer)
+        requires right { (m : T.Call → T.Call.Answer)
             → ⟦<T as Told>⟧.fits inner.recorder.recording m → G.means key.now m output }
         requires settled { IsNamedRun ⟦<G as Meant>⟧.meaning key.now
             inner.recorder.recording.pairs }
@@ -100,7 +100,7 @@ impl<'a, T: Track> Recorder<'a, T> {
     }
 
     /// As `finish`, with the reply: whether the run was stored, or why not.
-    pub fn finish_reply<G: Function<Call = T::Call, Answer = T::Answer>, H: Hold<G>>(
+    pub fn finish_reply<G: Function<Call = T::Call>, H: Hold<G>>(
         &mut self,
         cache: &mut H,
         key: &G::Key,
@@ -111,7 +111,7 @@ impl<'a, T: Track> Recorder<'a, T> {
         requires own { IsTrue (G.Key.eq key.now inner.own) }
         requires value { inner.recorder.value ≡ self.now.value }
         requires complete { inner.recorder.recording.complete ≡ true }
-        requires right { (m : T.Call → T.Answer)
+        requires right { (m : T.Call → T.Call.Answer)
             → ⟦<T as Told>⟧.fits inner.recorder.recording m → G.means key.now m output }
         requires settled { IsNamedRun ⟦<G as Meant>⟧.meaning key.now
             inner.recorder.recording.pairs }
@@ -143,10 +143,10 @@ impl<'a, T: Track> Recorder<'a, T> {
 
     /// As `call`, for a function that calls itself: `Incomplete` is returned as `Memory`, since the fault may end a run
     /// whose own recording is complete.
-    pub fn call_other<G: Run<T>, H: Hold<G>>(
+    pub fn call_other<G: Run<T, N>, H: Hold<G>, N>(
         &mut self,
         cache: &mut H,
-        needs: &mut G::Needs,
+        needs: &mut N,
         key: G::Key,
     ) -> Result<G::Out, Fault>
         requires { WritesNone G.writes }

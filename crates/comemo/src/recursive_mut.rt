@@ -28,7 +28,7 @@ pub struct InnerMut<K, T: Track> {
     /// A clone of the key, for the cache.
     pub own: K,
     /// The recording of the run around this one.
-    pub around: Constraint<T::Call, T::Answer>,
+    pub around: Constraint<T::Call>,
 }
 
 /// How a nested call of a function that writes goes, for contracts, as `⟦<G as Nesting<H, Self>>⟧.begins`. There is
@@ -36,7 +36,7 @@ pub struct InnerMut<K, T: Track> {
 pub trait Nesting<H, R>: Function
 where
     H: Hold<Self>,
-    R: Records<Call = Self::Call, Answer = Self::Answer>,
+    R: Records<Call = Self::Call>,
 {
     ghost use Rattle.comemo.specs.declared.pending.Fault.{Fault};
     ghost use Rattle.comemo.specs.declared.pending.How.{How};
@@ -57,17 +57,17 @@ where
     ghost named: { Self.Key → R → Type 0 };
 
     // the run under this key was finished with this output: the recording that was set aside took the recorder's own
-    ghost ends: { H → H → Self.Key → Recording Self.Call Self.Answer → R → R
+    ghost ends: { H → H → Self.Key → Recording Self.Call Self.Call.Answer → R → R
         → Self.Out → How → Type 0 };
 
     // it was not finished: that recording took a prefix of the recorder's own
-    ghost breaks: { H → H → Recording Self.Call Self.Answer → R → R → Type 0 };
+    ghost breaks: { H → H → Recording Self.Call Self.Call.Answer → R → R → Type 0 };
 }
 
 impl<M: Function, H, R> Nesting<H, R> for M
 where
     H: Hold<M>,
-    R: Records<Call = M::Call, Answer = M::Answer>,
+    R: Records<Call = M::Call>,
 {
     ghost use Rattle.comemo.specs.declared.pending.How.TheVariants.{Hit};
     ghost use Rattle.comemo.specs.declared.pending.Reply.{Reply};
@@ -86,8 +86,8 @@ where
         (Leads (H.entries h) (H.entries h') (λ es es'. WasStopped ⟦<M as Meant>⟧.meaning es
         (invocation key (R.answers s) true) (R.did s t) (R.spoiled_after s t) es')) };
 
-    ghost right = { λ key s output. (m : M.Call → M.Answer)
-        → Fits M.Call.eq M.Answer.eq (R.recording s) m
+    ghost right = { λ key s output. (m : M.Call → M.Call.Answer)
+        → Fits M.Call.eq M.Call.Answer.eq (R.recording s) m
         → IsRight M.means M.writes key m output (R.recording s).writes };
 
     ghost named = { λ key s. (R.recording s).complete ≡ true → (R.recording s).late ≡ false
@@ -112,7 +112,7 @@ impl<'a, 'b, T: Track> RecorderMut<'a, 'b, T> {
     ///
     /// On a hit this recorder takes the entry's path and writes. A run has an empty recording; that of this recorder is
     /// set aside until `finish`.
-    pub fn begin<G: Function<Call = T::Call, Answer = T::Answer>, H: Hold<G>>(
+    pub fn begin<G: Function<Call = T::Call>, H: Hold<G>>(
         &mut self,
         cache: &mut H,
         key: &G::Key,
@@ -152,7 +152,7 @@ impl<'a, 'b, T: Track> RecorderMut<'a, 'b, T> {
 
     /// Finishes a nested run by its result: stores its output, or returns its fault. The recording that was set aside
     /// is back, and takes the run's. Output and writes must be right as in `RunMut::run`.
-    pub fn finish<G: Function<Call = T::Call, Answer = T::Answer>, H: Hold<G>>(
+    pub fn finish<G: Function<Call = T::Call>, H: Hold<G>>(
         &mut self,
         cache: &mut H,
         key: &G::Key,
@@ -183,7 +183,7 @@ impl<'a, 'b, T: Track> RecorderMut<'a, 'b, T> {
     }
 
     /// As `finish`, with the reply: whether the run was stored, or why not.
-    pub fn finish_reply<G: Function<Call = T::Call, Answer = T::Answer>, H: Hold<G>>(
+    pub fn finish_reply<G: Function<Call = T::Call>, H: Hold<G>>(
         &mut self,
         cache: &mut H,
         key: &G::Key,

@@ -13,7 +13,7 @@ ghost use Rattle.comemo_cache.specs.Storing.{Stores};
 
 use comemo_base::{CallSequence, InsertError};
 use comemo_track::input::Input;
-use comemo_track::track::Call;
+use comemo_track::track::{AnswerOf, Call};
 use comemo_tree::CallTree;
 use std::alloc::{AllocError, Global};
 use std::hash::Hash;
@@ -30,36 +30,32 @@ pub trait Function {
     /// The untracked arguments, under which a call is cached.
     type Key: Clone + Eq + Hash;
 
-    /// The answer to a read: one type for all calls.
-    type Answer: Clone + Ord;
-
     /// The output.
     type Out: Clone;
 
     // at this key and these answers, this output is right
-    ghost means: { Self.Key → (Self.Call → Self.Answer) → Self.Out → Type 0 };
+    ghost means: { Self.Key → (Self.Call → Self.Call.Answer) → Self.Out → Type 0 };
 
     // and these writes: none, by default
-    ghost writes: { Self.Key → (Self.Call → Self.Answer) → Self.Out
+    ghost writes: { Self.Key → (Self.Call → Self.Call.Answer) → Self.Out
         → List Self.Call → Type 0 } = { λ _ _ _ W. W ≡ [] };
 
     // which calls are asked at a key and at answers, if the function names them; then each path in a cache is causal
     // and complete, and storing a run never fails with `MissingCall`
-    ghost naming: { Naming Self.Key Self.Call Self.Answer } = { unnamed };
+    ghost naming: { Naming Self.Key Self.Call Self.Call.Answer } = { unnamed };
 
-    // clones of keys and answers are equal; the meaning treats equal keys and equal writes alike, and an output like its
-    // clone
-    ghost laws: { FunctionLaws Self.Call.eq Self.Answer.eq Self.Key.eq
-        Self.Key.is_clone Self.Answer.is_clone Self.Out.is_clone (IsRight means writes) };
+    // clones of keys are equal; the meaning treats equal keys and equal writes alike, and an output like its clone
+    ghost laws: { FunctionLaws Self.Call.eq Self.Call.Answer.eq Self.Key.eq
+        Self.Key.is_clone Self.Out.is_clone (IsRight means writes) };
 }
 
 /// What a memoized function means, for contracts, as `⟦<M as Meant>⟧.right`. There is nothing to implement.
 pub trait Meant: Function {
     // which outputs and writes are right at a key and answers
-    ghost right: { Self.Key → (Self.Call → Self.Answer) → Self.Out → List Self.Call → Type 0 };
+    ghost right: { Self.Key → (Self.Call → Self.Call.Answer) → Self.Out → List Self.Call → Type 0 };
 
     // the same with the equalities by which it is told, as one value
-    ghost meaning: { Meaning Self.Key Self.Call Self.Answer Self.Out };
+    ghost meaning: { Meaning Self.Key Self.Call Self.Call.Answer Self.Out };
 }
 
 impl<M: Function> Meant for M {
@@ -67,7 +63,7 @@ impl<M: Function> Meant for M {
 
     ghost meaning = { record {
       same_call = M.Call.eq;
-      same_answer = M.Answer.eq;
+      same_answer = M.Call.Answer.eq;
       same_key = M.Key.eq;
       is_write = M.Call.is_write;
       is_clone = M.Out.is_clone;
@@ -101,7 +97,7 @@ impl<M: Function> Model for KeptRun<M> {
 /// equal prefix share its calls and answers. Only `evict` drops entries.
 #[derive(Drop)]
 pub struct CacheData<M: Function> {
-    pub(crate) tree: CallTree<M::Key, M::Call, M::Answer, KeptRun<M>>,
+    pub(crate) tree: CallTree<M::Key, M::Call, AnswerOf<M::Call>, KeptRun<M>>,
 }
 
 impl<M: Function> Model for CacheData<M> {
@@ -112,16 +108,16 @@ impl<M: Function> Model for CacheData<M> {
     ghost use Rattle.comemo_cache.specs.Cache.{Kept, kept_code, IsLegal};
     ghost use Rattle.comemo_cache.specs.Meaning.{IsRight};
 
-    ghost Value = { List (Stored M.Key M.Call M.Answer (Kept M.Out M.Call)) };
+    ghost Value = { List (Stored M.Key M.Call M.Call.Answer (Kept M.Out M.Call)) };
 
-    ghost coded = { coded_list (stored_code M.Key.code M.Call.code M.Answer.code
+    ghost coded = { coded_list (stored_code M.Key.code M.Call.code M.Call.Answer.code
         (kept_code M.Out.code M.Call.code)) };
 
     ghost view = { λ s. s.tree };
 
     ghost invariant = { λ s. All (IsLegal (record {
       same_call = M.Call.eq;
-      same_answer = M.Answer.eq;
+      same_answer = M.Call.Answer.eq;
       same_key = M.Key.eq;
       is_write = M.Call.is_write;
       is_clone = M.Out.is_clone;
@@ -134,7 +130,7 @@ impl<M: Function> Model for CacheData<M> {
 #[derive(Drop)]
 pub struct Found<M: Function> {
     /// The calls of the path, in order, with the answers of this look-up, which equal the stored ones.
-    pub pairs: Vec<(M::Call, M::Answer)>,
+    pub pairs: Vec<(M::Call, AnswerOf<M::Call>)>,
     /// The output.
     pub output: M::Out,
     /// The run's writes, in order.
@@ -156,34 +152,34 @@ pub struct Peeked<M: Function> {
 
 /// The entry under a key whose path agrees with an input's answers, and the path, its calls cloned.
 fn find_agreeing<'a, K: Clone + Eq + Hash, In: Input, T>(
-    tree: &'a CallTree<K, In::Call, In::Answer, T>,
+    tree: &'a CallTree<K, In::Call, AnswerOf<In::Call>, T>,
     key: &K,
     input: &mut In,
-) -> Result<Option<(Vec<(In::Call, In::Answer)>, &'a T)>, AllocError>
-    requires clones { (x y : In.Answer) → In.Answer.is_clone x y → IsTrue (In.Answer.eq x y) }
+) -> Result<Option<(Vec<(In::Call, AnswerOf<In::Call>)>, &'a T)>, AllocError>
     requires reads { All (λ e. All (λ p. In.Call.is_write p.0 ≡ false) e.path) tree.now }
     ensures same { In.did input.old input.new [] }
-    ensures found { IfOk result (λ found. FindsAgreeingPath In.Call.eq In.Answer.eq
+    ensures found { IfOk result (λ found. FindsAgreeingPath In.Call.eq In.Call.Answer.eq
         (under K.eq tree.now key.now) (In.answers input.old)
         (option_map (λ p. (p.0.items, p.1.now)) found)) }
-    ensures asked { IfOk result (λ found. (asked : List (In.Call × In.Answer))
-        × Agrees In.Answer.eq (In.answers input.old) asked
-        × IsAsked In.Call.eq In.Answer.eq (under K.eq tree.now key.now) asked
+    ensures asked { IfOk result (λ found. (asked : List (In.Call × In.Call.Answer))
+        × Agrees In.Call.Answer.eq (In.answers input.old) asked
+        × IsAsked In.Call.eq In.Call.Answer.eq (under K.eq tree.now key.now) asked
         (option_map (λ p. p.1.now) found)) }
-    ensures err { OnErr result (((asked : List (In.Call × In.Answer)) × (next : In.Call)
-        × Agrees In.Answer.eq (In.answers input.old) asked
-        × IsRefused In.Call.eq In.Answer.eq (under K.eq tree.now key.now) asked next)
-        ⊎ Any (λ e. Agrees In.Answer.eq (In.answers input.old) e.path)
+    ensures err { OnErr result (((asked : List (In.Call × In.Call.Answer)) × (next : In.Call)
+        × Agrees In.Call.Answer.eq (In.answers input.old) asked
+        × IsRefused In.Call.eq In.Call.Answer.eq (under K.eq tree.now key.now) asked next)
+        ⊎ Any (λ e. Agrees In.Call.Answer.eq (In.answers input.old) e.path)
         (under K.eq tree.now key.now)) }
 {
     // For the proof: at most one stored path agrees.
     tree.reveal_tree();
     tree.find(
         key,
-        &mut |call: &In::Call| -> Result<In::Answer, AllocError>
+        &mut |call: &In::Call| -> Result<AnswerOf<In::Call>, AllocError>
             requires { In.Call.is_write call.now ≡ false }
             ensures answer { IfOk result
-                (λ answer. IsTrue (In.Answer.eq (In.answers input.entry.now call.now) answer)) }
+                (λ answer. IsTrue
+                (In.Call.Answer.eq (In.answers input.entry.now call.now) answer)) }
             ensures same { In.did input.entry.now input.exit.now [] }
             ensures name { input.exit.ghost_name ≡ input.entry.ghost_name }
         { input.call(call) },
@@ -192,30 +188,31 @@ fn find_agreeing<'a, K: Clone + Eq + Hash, In: Input, T>(
 
 /// The value under a key whose path agrees with an input's answers. Does not allocate; fails only if the input does.
 fn get_agreeing<'a, K: Clone + Eq + Hash, In: Input, T>(
-    tree: &'a CallTree<K, In::Call, In::Answer, T>,
+    tree: &'a CallTree<K, In::Call, AnswerOf<In::Call>, T>,
     key: &K,
     input: &mut In,
 ) -> Result<Option<&'a T>, AllocError>
     requires reads { All (λ e. All (λ p. In.Call.is_write p.0 ≡ false) e.path) tree.now }
     ensures same { In.did input.old input.new [] }
-    ensures found { IfOk result (λ found. FindsAgreeing In.Call.eq In.Answer.eq
+    ensures found { IfOk result (λ found. FindsAgreeing In.Call.eq In.Call.Answer.eq
         (under K.eq tree.now key.now) (In.answers input.old) (option_copied found)) }
-    ensures asked { IfOk result (λ found. (asked : List (In.Call × In.Answer))
-        × Agrees In.Answer.eq (In.answers input.old) asked
-        × IsAsked In.Call.eq In.Answer.eq (under K.eq tree.now key.now) asked
+    ensures asked { IfOk result (λ found. (asked : List (In.Call × In.Call.Answer))
+        × Agrees In.Call.Answer.eq (In.answers input.old) asked
+        × IsAsked In.Call.eq In.Call.Answer.eq (under K.eq tree.now key.now) asked
         (option_copied found)) }
-    ensures err { OnErr result ((asked : List (In.Call × In.Answer)) × (next : In.Call)
-        × Agrees In.Answer.eq (In.answers input.old) asked
-        × IsRefused In.Call.eq In.Answer.eq (under K.eq tree.now key.now) asked next) }
+    ensures err { OnErr result ((asked : List (In.Call × In.Call.Answer)) × (next : In.Call)
+        × Agrees In.Call.Answer.eq (In.answers input.old) asked
+        × IsRefused In.Call.eq In.Call.Answer.eq (under K.eq tree.now key.now) asked next) }
 {
     // For the proof: at most one stored path agrees.
     tree.reveal_tree();
     tree.get(
         key,
-        &mut |read: &In::Call| -> Result<In::Answer, AllocError>
+        &mut |read: &In::Call| -> Result<AnswerOf<In::Call>, AllocError>
             requires { In.Call.is_write read.now ≡ false }
             ensures answer { IfOk result
-                (λ answer. IsTrue (In.Answer.eq (In.answers input.entry.now read.now) answer)) }
+                (λ answer. IsTrue
+                (In.Call.Answer.eq (In.answers input.entry.now read.now) answer)) }
             ensures same { In.did input.entry.now input.exit.now [] }
             ensures name { input.exit.ghost_name ≡ input.entry.ghost_name }
         { input.call(read) },
@@ -243,7 +240,7 @@ impl<M: Function> CacheData<M> {
     ///
     /// It asks the calls of one stored path, each once. Fails if an answer does or, once an entry is found, if a clone
     /// does.
-    pub fn look<In: Input<Call = M::Call, Key = M::Key, Answer = M::Answer>>(
+    pub fn look<In: Input<Call = M::Call, Key = M::Key>>(
         &self,
         key: &M::Key,
         input: &mut In,
@@ -255,7 +252,7 @@ impl<M: Function> CacheData<M> {
             (λ f. HasAged ⟦<M as Meant>⟧.meaning self.now
             (invocation key.now (In.answers input.old) true)
             (run key.now f.pairs.items f.output f.writes.items) f.age)) }
-        ensures asked { IfOk result (λ found. IfNone found ((asked : List (M.Call × M.Answer))
+        ensures asked { IfOk result (λ found. IfNone found ((asked : List (M.Call × M.Call.Answer))
             × IsMiss ⟦<M as Meant>⟧.meaning self.now
             (invocation key.now (In.answers input.old) true) asked)) }
         ensures stands { IfOk result (λ found. IfSome found (λ f. Stands ⟦<M as Meant>⟧.meaning
@@ -285,7 +282,7 @@ impl<M: Function> CacheData<M> {
     }
 
     /// As `look`, for a caller that doesn't need the path, which isn't cloned.
-    pub fn peek<In: Input<Call = M::Call, Key = M::Key, Answer = M::Answer>>(
+    pub fn peek<In: Input<Call = M::Call, Key = M::Key>>(
         &self,
         key: &M::Key,
         input: &mut In,
@@ -297,7 +294,7 @@ impl<M: Function> CacheData<M> {
             (λ f. IsPeeked ⟦<M as Meant>⟧.meaning self.now
             (invocation key.now (In.answers input.old) true)
             f.output f.writes.items f.age)) }
-        ensures asked { IfOk result (λ found. IfNone found ((asked : List (M.Call × M.Answer))
+        ensures asked { IfOk result (λ found. IfNone found ((asked : List (M.Call × M.Call.Answer))
             × IsMiss ⟦<M as Meant>⟧.meaning self.now
             (invocation key.now (In.answers input.old) true) asked)) }
         ensures err { OnErr result (IsRefusedLook ⟦<M as Meant>⟧.meaning self.now
@@ -324,7 +321,7 @@ impl<M: Function> CacheData<M> {
     pub fn store(
         &mut self,
         key: M::Key,
-        sequence: CallSequence<M::Call, M::Answer>,
+        sequence: CallSequence<M::Call, AnswerOf<M::Call>>,
         output: M::Out,
         writes: Vec<M::Call>,
     ) -> Result<(), InsertError>
@@ -336,7 +333,7 @@ impl<M: Function> CacheData<M> {
         ensures stored { OnOk result (Stores (exactly ⟦<M as Meant>⟧.meaning) self.old
             (run key sequence.pairs output writes.items) self.new) }
         ensures reason { IfErr result
-            (IsReason M.Call.eq M.Answer.eq (under M.Key.eq self.old key) sequence.pairs) }
+            (IsReason M.Call.eq M.Call.Answer.eq (under M.Key.eq self.old key) sequence.pairs) }
         ensures named { IfErr result (λ error. error ≡ MissingCall
             → ¬ IsNamed ⟦<M as Meant>⟧.meaning) }
         ensures err { OnErr result (self.new ≡ self.old) }
@@ -352,8 +349,8 @@ impl<M: Function> CacheData<M> {
     }
 
     /// Sets the age of the entry under a key whose path has exactly these answers to 0. Does not allocate.
-    pub fn touch(&mut self, key: &M::Key, answers: &[M::Answer])
-        ensures { TouchesAt M.Answer.eq M.Key.eq key.now answers.now self.old self.new }
+    pub fn touch(&mut self, key: &M::Key, answers: &[AnswerOf<M::Call>])
+        ensures { TouchesAt M.Call.Answer.eq M.Key.eq key.now answers.now self.old self.new }
     {
         let _ = self.tree.change(
             key,
@@ -397,7 +394,7 @@ impl<M: Function> CacheData<M> {
 
     /// Makes the tree's invariant known to a proof.
     pub(crate) fn reveal_tree(&self)
-        ensures { IsTree M.Call.eq M.Answer.eq M.Key.eq self.now }
+        ensures { IsTree M.Call.eq M.Call.Answer.eq M.Key.eq self.now }
     {
         // For the proof: at most one stored path agrees.
         self.tree.reveal_tree();

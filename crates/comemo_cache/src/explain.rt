@@ -9,7 +9,7 @@ ghost use Rattle.comemo_cache.specs.Explaining.{Explains};
 
 use crate::cache::{CacheData, Function, Meant};
 use comemo_track::input::Input;
-use comemo_track::track::Call;
+use comemo_track::track::{AnswerOf, Call};
 use comemo_tree::CallTree;
 use std::alloc::{AllocError, Global};
 use std::hash::Hash;
@@ -36,37 +36,37 @@ pub enum Explanation<C, R> {
 ///
 /// Fails if an answer, or a clone for the notes, fails to allocate.
 fn note_agreeing<'a, K: Clone + Eq + Hash, In: Input, T>(
-    tree: &'a CallTree<K, In::Call, In::Answer, T>,
+    tree: &'a CallTree<K, In::Call, AnswerOf<In::Call>, T>,
     key: &K,
     input: &mut In,
-    notes: &mut Vec<(In::Call, In::Answer)>,
+    notes: &mut Vec<(In::Call, AnswerOf<In::Call>)>,
 ) -> Result<Option<&'a T>, AllocError>
-    requires clones { (x y : In.Answer) → In.Answer.is_clone x y → IsTrue (In.Answer.eq x y) }
     requires reads { All (λ e. All (λ p. In.Call.is_write p.0 ≡ false) e.path) tree.now }
     requires nothing { notes.old.items ≡ [] }
     ensures same { In.did input.old input.new [] }
-    ensures found { IfOk result (λ found. FindsAgreeing In.Call.eq In.Answer.eq
+    ensures found { IfOk result (λ found. FindsAgreeing In.Call.eq In.Call.Answer.eq
         (under K.eq tree.now key.now) (In.answers input.old) (option_copied found)) }
-    ensures noted { IfOk result (λ found. (asked : List (In.Call × In.Answer))
-        × IsSamePath In.Call.eq In.Answer.eq asked notes.new.items
-        × Agrees In.Answer.eq (In.answers input.old) asked
-        × IsAsked In.Call.eq In.Answer.eq (under K.eq tree.now key.now) asked
+    ensures noted { IfOk result (λ found. (asked : List (In.Call × In.Call.Answer))
+        × IsSamePath In.Call.eq In.Call.Answer.eq asked notes.new.items
+        × Agrees In.Call.Answer.eq (In.answers input.old) asked
+        × IsAsked In.Call.eq In.Call.Answer.eq (under K.eq tree.now key.now) asked
         (option_copied found)) }
-    ensures err { OnErr result ((asked : List (In.Call × In.Answer)) × (next : In.Call)
-        × Agrees In.Answer.eq (In.answers input.old) asked
-        × IsRefused In.Call.eq In.Answer.eq (under K.eq tree.now key.now) asked next) }
+    ensures err { OnErr result ((asked : List (In.Call × In.Call.Answer)) × (next : In.Call)
+        × Agrees In.Call.Answer.eq (In.answers input.old) asked
+        × IsRefused In.Call.eq In.Call.Answer.eq (under K.eq tree.now key.now) asked next) }
 {
     // For the proof: at most one stored path agrees.
     tree.reveal_tree();
     tree.get(
         key,
-        &mut |call: &In::Call| -> Result<In::Answer, AllocError>
+        &mut |call: &In::Call| -> Result<AnswerOf<In::Call>, AllocError>
             requires { In.Call.is_write call.now ≡ false }
             ensures answer { IfOk result
-                (λ answer. IsTrue (In.Answer.eq (In.answers input.entry.now call.now) answer)) }
-            ensures noted { IfOk result (λ answer. (copy : In.Call × In.Answer)
+                (λ answer. IsTrue
+                (In.Call.Answer.eq (In.answers input.entry.now call.now) answer)) }
+            ensures noted { IfOk result (λ answer. (copy : In.Call × In.Call.Answer)
                 × (notes.exit.now.items ≡ notes.entry.now.items ++ copy ∷ [])
-                × In.Call.is_clone call.now copy.0 × In.Answer.is_clone answer copy.1) }
+                × In.Call.is_clone call.now copy.0 × In.Call.Answer.is_clone answer copy.1) }
             ensures same { In.did input.entry.now input.exit.now [] }
             ensures name { input.exit.ghost_name ≡ input.entry.ghost_name }
             ensures notes_name { notes.exit.ghost_name ≡ notes.entry.ghost_name }
@@ -84,20 +84,20 @@ impl<M: Function> CacheData<M> {
     ///
     /// It asks what a look-up asks, and clones each call and each answer.
     /// Fails if the input's answer to a call, or a clone of it, fails to allocate.
-    pub fn explain<In: Input<Call = M::Call, Key = M::Key, Answer = M::Answer>>(
+    pub fn explain<In: Input<Call = M::Call, Key = M::Key>>(
         &self,
         alloc: Global,
         key: &M::Key,
         input: &mut In,
-    ) -> Result<Explanation<M::Call, M::Answer>, AllocError>
+    ) -> Result<Explanation<M::Call, AnswerOf<M::Call>>, AllocError>
         ensures same { In.did input.old input.new [] }
         ensures explains { IfOk result (Explains ⟦<M as Meant>⟧.meaning self.now
             (invocation key.now (In.answers input.old) true)) }
-        ensures err { OnErr result ((asked : List (M.Call × M.Answer)) × (next : M.Call)
-            × Agrees M.Answer.eq (In.answers input.old) asked
-            × IsRefused M.Call.eq M.Answer.eq (under M.Key.eq self.now key.now) asked next) }
+        ensures err { OnErr result ((asked : List (M.Call × M.Call.Answer)) × (next : M.Call)
+            × Agrees M.Call.Answer.eq (In.answers input.old) asked
+            × IsRefused M.Call.eq M.Call.Answer.eq (under M.Key.eq self.now key.now) asked next) }
     {
-        let mut asked: Vec<(M::Call, M::Answer)> = Vec::new(alloc);
+        let mut asked: Vec<(M::Call, AnswerOf<M::Call>)> = Vec::new(alloc);
         if note_agreeing(&self.tree, key, input, &mut asked)?.is_some() {
             return Ok(Explanation::Hit);
         }

@@ -16,7 +16,7 @@ use crate::cache::{CacheData, Found, Function, Meant, Peeked};
 use crate::explain::Explanation;
 use comemo_base::{CallSequence, InsertError};
 use comemo_track::input::Input;
-use comemo_track::track::Call;
+use comemo_track::track::{AnswerOf, Call};
 use std::alloc::{AllocError, Global};
 
 /// The reads of a run, which are a `CallSequence`.
@@ -27,25 +27,20 @@ pub trait Reads {
     /// What was asked.
     type Call: Call;
 
-    /// The answers.
-    type Answer: Clone + Ord;
-
     // the pairs, in the order in which they were asked
-    ghost pairs: { Self → List (Self.Call × Self.Answer) };
+    ghost pairs: { Self → List (Self.Call × Self.Call.Answer) };
 
     /// The sequence itself.
-    fn into_sequence(self) -> CallSequence<Self::Call, Self::Answer>
+    fn into_sequence(self) -> CallSequence<Self::Call, AnswerOf<Self::Call>>
         ensures { result.pairs ≡ pairs self };
 }
 
-impl<C: Call, R: Clone + Ord> Reads for CallSequence<C, R> {
+impl<C: Call> Reads for CallSequence<C, C::Answer> {
     type Call = C;
-
-    type Answer = R;
 
     ghost pairs = { λ s. s.pairs };
 
-    fn into_sequence(self) -> CallSequence<C, R> {
+    fn into_sequence(self) -> CallSequence<C, C::Answer> {
         self
     }
 }
@@ -55,17 +50,17 @@ impl<C: Call, R: Clone + Ord> Reads for CallSequence<C, R> {
 /// A call only looks, peeks, touches and stores. If the entries are known, contracts state what each step does to them.
 pub trait Hold<M: Function> {
     // the entries, if nothing else can change them
-    ghost entries: { Self → Option (Entries M.Key M.Call M.Answer M.Out) };
+    ghost entries: { Self → Option (Entries M.Key M.Call M.Call.Answer M.Out) };
 
     /// As `CacheData::look`.
-    fn look<In: Input<Call = M::Call, Key = M::Key, Answer = M::Answer>>(
+    fn look<In: Input<Call = M::Call, Key = M::Key>>(
         &mut self,
         key: &M::Key,
         input: &mut In,
     ) -> Result<Option<Found<M>>, AllocError>
         ensures same { In.did input.old input.new [] }
         ensures stays { Stays (entries self.old) (entries self.new) }
-        ensures tree { Held (entries self.old) (IsTree M.Call.eq M.Answer.eq M.Key.eq) }
+        ensures tree { Held (entries self.old) (IsTree M.Call.eq M.Call.Answer.eq M.Key.eq) }
         ensures found { IfOk result (λ found. Held (entries self.old) (λ es. MatchOption found
             (HasNone ⟦<M as Meant>⟧.meaning es (invocation key.now (In.answers input.old) true))
             (λ f. HasAged ⟦<M as Meant>⟧.meaning es
@@ -82,14 +77,14 @@ pub trait Hold<M: Function> {
             IsNamedRun ⟦<M as Meant>⟧.meaning key.now f.pairs.items)) };
 
     /// As `CacheData::peek`.
-    fn peek<In: Input<Call = M::Call, Key = M::Key, Answer = M::Answer>>(
+    fn peek<In: Input<Call = M::Call, Key = M::Key>>(
         &mut self,
         key: &M::Key,
         input: &mut In,
     ) -> Result<Option<Peeked<M>>, AllocError>
         ensures same { In.did input.old input.new [] }
         ensures stays { Stays (entries self.old) (entries self.new) }
-        ensures tree { Held (entries self.old) (IsTree M.Call.eq M.Answer.eq M.Key.eq) }
+        ensures tree { Held (entries self.old) (IsTree M.Call.eq M.Call.Answer.eq M.Key.eq) }
         ensures found { IfOk result (λ found. Held (entries self.old) (λ es. MatchOption found
             (HasNone ⟦<M as Meant>⟧.meaning es (invocation key.now (In.answers input.old) true))
             (λ f. IsPeeked ⟦<M as Meant>⟧.meaning es
@@ -97,29 +92,29 @@ pub trait Hold<M: Function> {
             f.output f.writes.items f.age))) };
 
     /// As `CacheData::explain`.
-    fn explain<In: Input<Call = M::Call, Key = M::Key, Answer = M::Answer>>(
+    fn explain<In: Input<Call = M::Call, Key = M::Key>>(
         &mut self,
         alloc: Global,
         key: &M::Key,
         input: &mut In,
-    ) -> Result<Explanation<M::Call, M::Answer>, AllocError>
+    ) -> Result<Explanation<M::Call, AnswerOf<M::Call>>, AllocError>
         ensures same { In.did input.old input.new [] }
         ensures stays { Stays (entries self.old) (entries self.new) }
         ensures explains { IfOk result (λ said. Held (entries self.old) (λ es.
             Explains ⟦<M as Meant>⟧.meaning es
             (invocation key.now (In.answers input.old) true) said)) }
         ensures err { OnErr result (Held (entries self.old) (λ es.
-            (asked : List (M.Call × M.Answer)) × (next : M.Call)
-            × Agrees M.Answer.eq (In.answers input.old) asked
-            × IsRefused M.Call.eq M.Answer.eq (under M.Key.eq es key.now) asked next)) };
+            (asked : List (M.Call × M.Call.Answer)) × (next : M.Call)
+            × Agrees M.Call.Answer.eq (In.answers input.old) asked
+            × IsRefused M.Call.eq M.Call.Answer.eq (under M.Key.eq es key.now) asked next)) };
 
     /// As `CacheData::touch`.
-    fn touch(&mut self, key: &M::Key, answers: &[M::Answer])
+    fn touch(&mut self, key: &M::Key, answers: &[AnswerOf<M::Call>])
         ensures { Leads (entries self.old) (entries self.new)
-            (TouchesAt M.Answer.eq M.Key.eq key.now answers.now) };
+            (TouchesAt M.Call.Answer.eq M.Key.eq key.now answers.now) };
 
     /// As `CacheData::store`.
-    fn store<Q: Reads<Call = M::Call, Answer = M::Answer>>(
+    fn store<Q: Reads<Call = M::Call>>(
         &mut self,
         key: M::Key,
         reads: Q,
@@ -135,7 +130,7 @@ pub trait Hold<M: Function> {
             Stores (exactly ⟦<M as Meant>⟧.meaning) es
             (run key (Q.pairs reads) output writes.items) es')) }
         ensures reason { IfErr result (λ error. Held (entries self.old) (λ es.
-            IsReason M.Call.eq M.Answer.eq (under M.Key.eq es key) (Q.pairs reads) error)) }
+            IsReason M.Call.eq M.Call.Answer.eq (under M.Key.eq es key) (Q.pairs reads) error)) }
         ensures named { IfErr result (λ error. error ≡ MissingCall
             → ¬ IsNamed ⟦<M as Meant>⟧.meaning) }
         ensures err { OnErr result (Stays (entries self.old) (entries self.new)) };
@@ -144,7 +139,7 @@ pub trait Hold<M: Function> {
 impl<M: Function> Hold<M> for CacheData<M> {
     ghost entries = { λ s. Some s };
 
-    fn look<In: Input<Call = M::Call, Key = M::Key, Answer = M::Answer>>(
+    fn look<In: Input<Call = M::Call, Key = M::Key>>(
         &mut self,
         key: &M::Key,
         input: &mut In,
@@ -154,7 +149,7 @@ impl<M: Function> Hold<M> for CacheData<M> {
         CacheData::look(self, key, input)
     }
 
-    fn peek<In: Input<Call = M::Call, Key = M::Key, Answer = M::Answer>>(
+    fn peek<In: Input<Call = M::Call, Key = M::Key>>(
         &mut self,
         key: &M::Key,
         input: &mut In,
@@ -164,20 +159,20 @@ impl<M: Function> Hold<M> for CacheData<M> {
         CacheData::peek(self, key, input)
     }
 
-    fn explain<In: Input<Call = M::Call, Key = M::Key, Answer = M::Answer>>(
+    fn explain<In: Input<Call = M::Call, Key = M::Key>>(
         &mut self,
         alloc: Global,
         key: &M::Key,
         input: &mut In,
-    ) -> Result<Explanation<M::Call, M::Answer>, AllocError> {
+    ) -> Result<Explanation<M::Call, AnswerOf<M::Call>>, AllocError> {
         CacheData::explain(self, alloc, key, input)
     }
 
-    fn touch(&mut self, key: &M::Key, answers: &[M::Answer]) {
+    fn touch(&mut self, key: &M::Key, answers: &[AnswerOf<M::Call>]) {
         CacheData::touch(self, key, answers);
     }
 
-    fn store<Q: Reads<Call = M::Call, Answer = M::Answer>>(
+    fn store<Q: Reads<Call = M::Call>>(
         &mut self,
         key: M::Key,
         reads: Q,
@@ -192,7 +187,7 @@ impl<M: Function> Hold<M> for CacheData<M> {
         ensures stored { OnOk result (Stores (exactly ⟦<M as Meant>⟧.meaning) self.old
             (run key (Q.pairs reads) output writes.items) self.new) }
         ensures reason { IfErr result
-            (IsReason M.Call.eq M.Answer.eq (under M.Key.eq self.old key) (Q.pairs reads)) }
+            (IsReason M.Call.eq M.Call.Answer.eq (under M.Key.eq self.old key) (Q.pairs reads)) }
         ensures named { IfErr result (λ error. error ≡ MissingCall
             → ¬ IsNamed ⟦<M as Meant>⟧.meaning) }
         ensures err { OnErr result (self.new ≡ self.old) }

@@ -18,7 +18,7 @@ use crate::explain::Explanation;
 use crate::hold::{Hold, Reads};
 use comemo_base::{CallSequence, InsertError};
 use comemo_track::input::Input;
-use comemo_track::track::Call;
+use comemo_track::track::{AnswerOf, Call};
 use std::alloc::{AllocError, Global};
 use std::array;
 use std::hash::{FoldHasher, Hash, Hasher};
@@ -46,9 +46,9 @@ impl<M: Function> Model for EntriesRef<M> {
     ghost use Rattle.comemo_base.specs.Tree.{stored_code};
     ghost use Rattle.comemo_cache.specs.Cache.{Entries, kept_code};
 
-    ghost Value = { Option (Entries M.Key M.Call M.Answer M.Out) };
+    ghost Value = { Option (Entries M.Key M.Call M.Call.Answer M.Out) };
 
-    ghost coded = { coded_option (coded_list (stored_code M.Key.code M.Call.code M.Answer.code
+    ghost coded = { coded_option (coded_list (stored_code M.Key.code M.Call.code M.Call.Answer.code
         (kept_code M.Out.code M.Call.code))) };
 
     ghost view = { λ s. option_map arc_value s.data };
@@ -90,7 +90,7 @@ impl<M: Function> EntriesRef<M> {
     fn store(
         &mut self,
         key: M::Key,
-        reads: CallSequence<M::Call, M::Answer>,
+        reads: CallSequence<M::Call, AnswerOf<M::Call>>,
         output: M::Out,
         writes: Vec<M::Call>,
     ) -> Result<(), InsertError>
@@ -103,7 +103,7 @@ impl<M: Function> EntriesRef<M> {
             Stores (exactly ⟦<M as Meant>⟧.meaning) es
             (run key reads.pairs output writes.items) es')) }
         ensures reason { IfErr result (λ error. Held self.old (λ es.
-            IsReason M.Call.eq M.Answer.eq (under M.Key.eq es key) reads.pairs error)) }
+            IsReason M.Call.eq M.Call.Answer.eq (under M.Key.eq es key) reads.pairs error)) }
         ensures named { IfErr result (λ error. error ≡ MissingCall
             → ¬ IsNamed ⟦<M as Meant>⟧.meaning) }
         ensures err { OnErr result (self.new ≡ self.old) }
@@ -119,8 +119,8 @@ impl<M: Function> EntriesRef<M> {
     }
 
     /// Sets an entry's age to 0, as `CacheData::touch`, unless there is another reference to the entries.
-    fn touch(&mut self, key: &M::Key, answers: &[M::Answer])
-        ensures { ChangesBehind (TouchesAt M.Answer.eq M.Key.eq key.now answers.now)
+    fn touch(&mut self, key: &M::Key, answers: &[AnswerOf<M::Call>])
+        ensures { ChangesBehind (TouchesAt M.Call.Answer.eq M.Key.eq key.now answers.now)
             self.old self.new }
     {
         let Some(data) = &mut self.data else {
@@ -319,7 +319,7 @@ pub struct Shared<'a, M: Function, R: Wait> {
 impl<M: Function, R: Wait> Hold<M> for Shared<'_, M, R> {
     ghost entries = { λ _. None };
 
-    fn look<In: Input<Call = M::Call, Key = M::Key, Answer = M::Answer>>(
+    fn look<In: Input<Call = M::Call, Key = M::Key>>(
         &mut self,
         key: &M::Key,
         input: &mut In,
@@ -332,7 +332,7 @@ impl<M: Function, R: Wait> Hold<M> for Shared<'_, M, R> {
         data.look(key, input)
     }
 
-    fn peek<In: Input<Call = M::Call, Key = M::Key, Answer = M::Answer>>(
+    fn peek<In: Input<Call = M::Call, Key = M::Key>>(
         &mut self,
         key: &M::Key,
         input: &mut In,
@@ -345,12 +345,12 @@ impl<M: Function, R: Wait> Hold<M> for Shared<'_, M, R> {
         data.peek(key, input)
     }
 
-    fn explain<In: Input<Call = M::Call, Key = M::Key, Answer = M::Answer>>(
+    fn explain<In: Input<Call = M::Call, Key = M::Key>>(
         &mut self,
         alloc: Global,
         key: &M::Key,
         input: &mut In,
-    ) -> Result<Explanation<M::Call, M::Answer>, AllocError> {
+    ) -> Result<Explanation<M::Call, AnswerOf<M::Call>>, AllocError> {
         let lane = &self.cache.shard(key)[self.share % LANES];
         let entries = lane.entries.read(self.rt);
         let Some(data) = &entries.data else {
@@ -359,14 +359,14 @@ impl<M: Function, R: Wait> Hold<M> for Shared<'_, M, R> {
         data.explain(alloc, key, input)
     }
 
-    fn touch(&mut self, key: &M::Key, answers: &[M::Answer]) {
+    fn touch(&mut self, key: &M::Key, answers: &[AnswerOf<M::Call>]) {
         let mut guard = ExclusiveGuard::new(self.rt, self.cache.shard(key));
         guard.withdraw();
         guard.first.touch(key, answers);
         guard.publish();
     }
 
-    fn store<Q: Reads<Call = M::Call, Answer = M::Answer>>(
+    fn store<Q: Reads<Call = M::Call>>(
         &mut self,
         key: M::Key,
         reads: Q,
@@ -378,16 +378,16 @@ impl<M: Function, R: Wait> Hold<M> for Shared<'_, M, R> {
         requires stands { Stands ⟦<M as Meant>⟧.meaning
             (run key (Q.pairs reads) output writes.items) }
         requires settled { IsNamedRun ⟦<M as Meant>⟧.meaning key (Q.pairs reads) }
-        ensures stored { let none : Option (Entries M.Key M.Call M.Answer M.Out) = None in
+        ensures stored { let none : Option (Entries M.Key M.Call M.Call.Answer M.Out) = None in
             OnOk result (Leads none none (λ es es'.
             Stores (exactly ⟦<M as Meant>⟧.meaning) es
             (run key (Q.pairs reads) output writes.items) es')) }
-        ensures reason { let none : Option (Entries M.Key M.Call M.Answer M.Out) = None in
+        ensures reason { let none : Option (Entries M.Key M.Call M.Call.Answer M.Out) = None in
             IfErr result (λ error. Held none (λ es.
-            IsReason M.Call.eq M.Answer.eq (under M.Key.eq es key) (Q.pairs reads) error)) }
+            IsReason M.Call.eq M.Call.Answer.eq (under M.Key.eq es key) (Q.pairs reads) error)) }
         ensures named { IfErr result (λ error. error ≡ MissingCall
             → ¬ IsNamed ⟦<M as Meant>⟧.meaning) }
-        ensures err { let none : Option (Entries M.Key M.Call M.Answer M.Out) = None in
+        ensures err { let none : Option (Entries M.Key M.Call M.Call.Answer M.Out) = None in
             OnErr result (Stays none none) }
     {
         let reads = reads.into_sequence();

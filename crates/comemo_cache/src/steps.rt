@@ -9,6 +9,7 @@ ghost use Rattle.comemo_cache.specs.StepLaws.{listed_alike};
 use crate::cache::{CacheData, Found, Function, Meant};
 use comemo_base::{CallSequence, InsertError};
 use comemo_track::input::Input;
+use comemo_track::track::AnswerOf;
 use std::alloc::{AllocError, Global};
 
 /// A step of a cache, with its arguments.
@@ -19,23 +20,23 @@ pub enum Step<M: Function> {
         /// The key.
         key: M::Key,
         /// The answers to calls: of the pairs of one call the first.
-        answers: Vec<(M::Call, M::Answer)>,
+        answers: Vec<(M::Call, AnswerOf<M::Call>)>,
         /// The answer to every other call.
-        other: M::Answer,
+        other: AnswerOf<M::Call>,
     },
     /// Touches an entry.
     Touch {
         /// The key.
         key: M::Key,
         /// The answers of its path, in order.
-        answers: Vec<M::Answer>,
+        answers: Vec<AnswerOf<M::Call>>,
     },
     /// Stores a run.
     Store {
         /// The key.
         key: M::Key,
         /// The run's calls and answers: of the pairs of one call the first.
-        pairs: Vec<(M::Call, M::Answer)>,
+        pairs: Vec<(M::Call, AnswerOf<M::Call>)>,
         /// The output.
         output: M::Out,
         /// The run's writes, in order.
@@ -71,8 +72,8 @@ pub enum StepReply<M: Function> {
 #[derive(Drop)]
 struct Listed<'a, M: Function> {
     key: &'a M::Key,
-    answers: &'a [(M::Call, M::Answer)],
-    other: &'a M::Answer,
+    answers: &'a [(M::Call, AnswerOf<M::Call>)],
+    other: &'a AnswerOf<M::Call>,
 }
 
 impl<'a, M: Function> Input for Listed<'a, M> {
@@ -80,21 +81,20 @@ impl<'a, M: Function> Input for Listed<'a, M> {
 
     type Key = M::Key;
 
-    type Answer = M::Answer;
-
     ghost key_of = { λ s. s.key.now };
 
     ghost answers = { λ s. listed M.Call.eq s.answers.now s.other.now };
 
     ghost did = { λ s t _. t ≡ s };
 
-    ghost alike = { λ s. listed_alike M.Call.Eq.laws M.Answer.Eq.laws s.answers.now s.other.now };
+    ghost alike = { λ s. listed_alike M.Call.Eq.laws M.Call.Answer.Eq.laws
+        s.answers.now s.other.now };
 
     ghost starts = { λ _. refl };
 
     ghost joins = { λ s t u V W a b. b ∙ a };
 
-    ghost keeps = { λ s t W a call reads un. equal_if_one M.Answer.Eq.laws _ _
+    ghost keeps = { λ s t W a call reads un. equal_if_one M.Call.Answer.Eq.laws _ _
         (ap (λ v. listed M.Call.eq v.answers.now v.other.now call) a) };
 
     ghost keeps_key = { λ s t W a. equal_if_one M.Key.Eq.laws _ _ (ap (λ v. v.key.now) a) };
@@ -103,7 +103,7 @@ impl<'a, M: Function> Input for Listed<'a, M> {
         self.key.clone()
     }
 
-    fn call(&mut self, call: &M::Call) -> Result<M::Answer, AllocError> {
+    fn call(&mut self, call: &M::Call) -> Result<AnswerOf<M::Call>, AllocError> {
         for (of, answer) in self.answers {
             if call == of {
                 return answer.clone();

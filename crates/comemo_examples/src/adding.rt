@@ -14,8 +14,6 @@ impl Function for Adds {
 
     type Call = CounterCall;
 
-    type Answer = u64;
-
     type Out = u64;
 
     ghost use Rattle.comemo_examples.specs.declared.counter.CounterCall.TheVariants.{Add};
@@ -27,9 +25,7 @@ impl Function for Adds {
     ghost laws = { Prim.search rules };
 }
 
-impl RunMut<Counter> for Adds {
-    type Needs = ();
-
+impl RunMut<Counter, ()> for Adds {
     fn run(
         n: &u64,
         counter: &mut RecorderMut<'_, '_, Counter>,
@@ -49,8 +45,6 @@ impl Function for AddsTwice {
 
     type Call = CounterCall;
 
-    type Answer = u64;
-
     type Out = u64;
 
     ghost use Rattle.comemo_examples.specs.declared.counter.CounterCall.TheVariants.{Add};
@@ -62,9 +56,7 @@ impl Function for AddsTwice {
     ghost laws = { exact_laws (Prim.search rules) };
 }
 
-impl RunMut<Counter> for AddsTwice {
-    type Needs = CacheData<Adds>;
-
+impl RunMut<Counter, CacheData<Adds>> for AddsTwice {
     fn run(
         n: &u64,
         counter: &mut RecorderMut<'_, '_, Counter>,

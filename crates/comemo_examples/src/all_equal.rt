@@ -17,8 +17,6 @@ impl Function for AllEqual {
 
     type Key = u32;
 
-    type Answer = MultiAnswer<u64, u64>;
-
     type Out = bool;
 
     ghost means = { λ count m out. OnParts m (λ one other. out ≡ all_equal one other count) };

@@ -15,8 +15,6 @@ impl Function for NotesAndAdds {
 
     type Key = u64;
 
-    type Answer = MultiAnswer<u64, u64>;
-
     type Out = u64;
 
     ghost use Rattle.comemo.specs.Multi.{OnParts, first_call, second_call};
@@ -31,9 +29,7 @@ impl Function for NotesAndAdds {
     ghost laws = { exact_laws (Prim.search rules) };
 }
 
-impl<'a> RunMut<BothMut<'a, Counter, Notebook>> for NotesAndAdds {
-    type Needs = CacheData<Adds>;
-
+impl<'a> RunMut<BothMut<'a, Counter, Notebook>, CacheData<Adds>> for NotesAndAdds {
     fn run(
         n: &u64,
         both: &mut RecorderMut<'_, '_, BothMut<'a, Counter, Notebook>>,

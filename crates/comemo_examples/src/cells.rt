@@ -14,6 +14,8 @@ pub struct Get {
 }
 
 impl Call for Get {
+    type Answer = u64;
+
     ghost is_write = { λ _. false };
 
     ghost touches = { λ _ _. false };
@@ -21,6 +23,8 @@ impl Call for Get {
     ghost same_kind = { λ x y h. refl };
 
     ghost clones = { λ x y h. Prim.search rules };
+
+    ghost answer_clones = { λ x y h. Prim.search rules };
 
     fn is_mutable(&self) -> bool {
         false
@@ -61,15 +65,11 @@ impl Cells {
 impl Track for Cells {
     type Call = Get;
 
-    type Answer = u64;
-
     ghost use Rattle.comemo_examples.specs.Cells.{numbers};
 
     ghost answers = { λ s get. numbers s.numbers.items get };
 
     ghost alike = { λ s x y h. Prim.search rules };
-
-    ghost clones = { λ x y h. Prim.search rules };
 
     fn ask(&self, get: &Get) -> Result<u64, AllocError> {
         let place = get.place as usize;

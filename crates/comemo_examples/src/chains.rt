@@ -14,6 +14,8 @@ pub enum ChainCall {
 }
 
 impl Call for ChainCall {
+    type Answer = bool;
+
     ghost is_write = { λ _. false };
 
     ghost touches = { λ _ _. false };
@@ -21,6 +23,8 @@ impl Call for ChainCall {
     ghost same_kind = { λ x y h. refl };
 
     ghost clones = { λ x y h. Prim.search rules };
+
+    ghost answer_clones = { λ x y h. Prim.search rules };
 
     fn is_mutable(&self) -> bool {
         false
@@ -75,15 +79,11 @@ impl<'a> Chain<'a> {
 impl<'a> Track for Chain<'a> {
     type Call = ChainCall;
 
-    type Answer = bool;
-
     ghost use Rattle.comemo_examples.specs.Chains.{chain_answer};
 
     ghost answers = { λ s call. chain_answer s call };
 
     ghost alike = { λ s x y h. Prim.search rules };
-
-    ghost clones = { λ x y h. Prim.search rules };
 
     fn ask(&self, call: &ChainCall) -> Result<bool, AllocError> {
         match call {
@@ -100,8 +100,6 @@ impl Function for IsInChain {
 
     type Key = u32;
 
-    type Answer = bool;
-
     type Out = bool;
 
     ghost use Rattle.comemo_examples.specs.declared.chains.ChainCall.TheVariants.{Contains};
@@ -111,9 +109,7 @@ impl Function for IsInChain {
     ghost laws = { Prim.search rules };
 }
 
-impl<'a> Run<Chain<'a>> for IsInChain {
-    type Needs = ();
-
+impl<'a> Run<Chain<'a>, ()> for IsInChain {
     fn run(n: &u32, chain: &mut Recorder<'_, Chain<'a>>, _needs: &mut ()) -> Result<bool, Fault> {
         let is = chain.ask(ChainCall::Contains(*n))?;
         Ok(is)

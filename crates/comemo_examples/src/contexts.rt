@@ -1,4 +1,4 @@
-//! Tracked values: two numbers, a text, and a row of numbers.
+//! Tracked values: two numbers, and a row of numbers.
 ghost use Rattle.std.specs.Prelude.{false, refl};
 ghost use Rattle.std.proofs.Common.{rules};
 
@@ -16,6 +16,8 @@ pub enum ContextCall {
 }
 
 impl Call for ContextCall {
+    type Answer = u64;
+
     ghost is_write = { λ _. false };
 
     ghost touches = { λ _ _. false };
@@ -23,6 +25,8 @@ impl Call for ContextCall {
     ghost same_kind = { λ x y h. refl };
 
     ghost clones = { λ x y h. Prim.search rules };
+
+    ghost answer_clones = { λ x y h. Prim.search rules };
 
     fn is_mutable(&self) -> bool {
         false
@@ -45,46 +49,17 @@ pub struct Context {
 impl Track for Context {
     type Call = ContextCall;
 
-    type Answer = u64;
-
     ghost use Rattle.comemo_examples.specs.Contexts.{field};
 
     ghost answers = { λ s call. field s.location s.styles call };
 
     ghost alike = { λ s x y h. Prim.search rules };
 
-    ghost clones = { λ x y h. Prim.search rules };
-
     fn ask(&self, call: &ContextCall) -> Result<u64, AllocError> {
         match call {
             ContextCall::Location => Ok(self.location),
             ContextCall::Styles => Ok(self.styles),
         }
-    }
-}
-
-/// A page: a text, asked by one call. Its answers allocate, and equal ones need not be identical.
-///
-/// Each answer is a copy of the text, and fails if out of memory.
-#[derive(Drop)]
-pub struct Page {
-    /// The text.
-    pub text: String,
-}
-
-impl Track for Page {
-    type Call = ();
-
-    type Answer = String;
-
-    ghost answers = { λ s _. s.text };
-
-    ghost alike = { λ s x y h. Prim.search rules };
-
-    ghost clones = { λ x y h. Prim.search rules };
-
-    fn ask(&self, _call: &()) -> Result<String, AllocError> {
-        self.text.clone()
     }
 }
 
@@ -96,6 +71,8 @@ pub struct Place {
 }
 
 impl Call for Place {
+    type Answer = u64;
+
     ghost is_write = { λ _. false };
 
     ghost touches = { λ _ _. false };
@@ -103,6 +80,8 @@ impl Call for Place {
     ghost same_kind = { λ x y h. refl };
 
     ghost clones = { λ x y h. Prim.search rules };
+
+    ghost answer_clones = { λ x y h. Prim.search rules };
 
     fn is_mutable(&self) -> bool {
         false
@@ -123,15 +102,11 @@ pub struct Row {
 impl Track for Row {
     type Call = Place;
 
-    type Answer = u64;
-
     ghost use Rattle.std.specs.Prelude.{slice_index};
 
     ghost answers = { λ s call. slice_index s.numbers.items call.at };
 
     ghost alike = { λ s x y h. Prim.search rules };
-
-    ghost clones = { λ x y h. Prim.search rules };
 
     fn ask(&self, call: &Place) -> Result<u64, AllocError> {
         let at = call.at as usize;

@@ -17,6 +17,8 @@ pub enum CounterCall {
 }
 
 impl Call for CounterCall {
+    type Answer = u64;
+
     ghost is_write = { is_add };
 
     ghost touches = { λ _ _. true };
@@ -24,6 +26,8 @@ impl Call for CounterCall {
     ghost same_kind = { λ x y h. Prim.search rules };
 
     ghost clones = { λ x y h. Prim.search rules };
+
+    ghost answer_clones = { λ x y h. Prim.search rules };
 
     fn is_mutable(&self) -> bool {
         match self {
@@ -47,8 +51,6 @@ pub struct Counter {
 impl Track for Counter {
     type Call = CounterCall;
 
-    type Answer = u64;
-
     ghost use Rattle.std.specs.Prelude.{◌+◌, ◌%◌, ◌^◌};
     ghost use Rattle.comemo_examples.specs.Writers.{added};
 
@@ -57,8 +59,6 @@ impl Track for Counter {
     ghost wrote = { λ s call t. t.number ≡ (s.number + added call) % 2 ^ 64 };
 
     ghost alike = { λ s x y h. Prim.search rules };
-
-    ghost clones = { λ x y h. Prim.search rules };
 
     fn ask(&self, _call: &CounterCall) -> Result<u64, AllocError> {
         Ok(self.number)

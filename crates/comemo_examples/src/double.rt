@@ -12,8 +12,6 @@ impl Function for Double {
 
     type Call = ();
 
-    type Answer = ();
-
     type Out = u32;
 
     ghost means = { λ n _ out. out ≡ (n + n) % 2 ^ 32 };
@@ -21,9 +19,7 @@ impl Function for Double {
     ghost laws = { Prim.search rules };
 }
 
-impl Run<()> for Double {
-    type Needs = ();
-
+impl Run<(), ()> for Double {
     fn run(n: &u32, _of: &mut Recorder<'_, ()>, _needs: &mut ()) -> Result<u32, Fault> {
         Ok(n.wrapping_add(*n))
     }

@@ -15,6 +15,8 @@ pub enum EmitterCall {
 }
 
 impl Call for EmitterCall {
+    type Answer = ();
+
     ghost is_write = { λ _. true };
 
     ghost touches = { λ _ _. false };
@@ -22,6 +24,8 @@ impl Call for EmitterCall {
     ghost same_kind = { λ x y h. refl };
 
     ghost clones = { λ x y h. Prim.search rules };
+
+    ghost answer_clones = { λ x y h. Prim.search rules };
 
     fn is_mutable(&self) -> bool {
         true
@@ -69,8 +73,6 @@ impl Emitter {
 impl Track for Emitter {
     type Call = EmitterCall;
 
-    type Answer = ();
-
     ghost use Rattle.std.specs.Prelude.{◌++◌};
     ghost use Rattle.comemo_examples.specs.Writers.{emitted};
 
@@ -80,8 +82,6 @@ impl Track for Emitter {
     ghost wrote = { λ s call t. t ≡ s ++ emitted call };
 
     ghost alike = { λ _ _ _ _. refl };
-
-    ghost clones = { λ x y h. Prim.search rules };
 
     fn ask(&self, _call: &EmitterCall) -> Result<(), AllocError> {
         // Each call is a write, so there is no answer.

@@ -1,8 +1,8 @@
 //! A tracked text, and a text that is always the same.
-ghost use Rattle.std.specs.Prelude.{◌≡◌, codes, string_bytes};
+ghost use Rattle.std.specs.Prelude.{◌≡◌, codes, false, refl, string_bytes};
 ghost use Rattle.std.proofs.Common.{rules};
 
-use comemo::{Fault, Function, Recorder, Run, Track};
+use comemo::{Call, Fault, Function, Recorder, Run, Track};
 use std::alloc::{AllocError, Global};
 
 /// What the world is: a constant text, which each run allocates. Asks nothing, and needs an allocator.
@@ -13,8 +13,6 @@ impl Function for World {
 
     type Call = ();
 
-    type Answer = ();
-
     type Out = String;
 
     ghost means = { λ _ _ out. string_bytes out ≡ codes "The world is big" };
@@ -22,15 +20,42 @@ impl Function for World {
     ghost laws = { Prim.search rules };
 }
 
-impl Run<()> for World {
-    type Needs = Global;
-
+impl Run<(), Global> for World {
     fn run(_key: &(), _of: &mut Recorder<'_, ()>, alloc: &mut Global) -> Result<String, Fault> {
         Ok(String::from_str(*alloc, "The world is big")?)
     }
 }
 
-/// A tracked text. Its one question is whether it is `hello`. The answer does not allocate and never fails.
+/// What can be asked of a greeting.
+#[derive(Clone, Copy, Drop, Debug, PartialEq, Eq, Hash)]
+pub enum GreetingCall {
+    /// Whether it is `hello`.
+    IsHello,
+}
+
+impl Call for GreetingCall {
+    type Answer = bool;
+
+    ghost is_write = { λ _. false };
+
+    ghost touches = { λ _ _. false };
+
+    ghost same_kind = { λ x y h. refl };
+
+    ghost clones = { λ x y h. Prim.search rules };
+
+    ghost answer_clones = { λ x y h. Prim.search rules };
+
+    fn is_mutable(&self) -> bool {
+        false
+    }
+
+    fn touches(&self, _read: &GreetingCall) -> bool {
+        false
+    }
+}
+
+/// A tracked text. The answer does not allocate and never fails.
 #[derive(Drop)]
 pub struct Greeting {
     /// The text.
@@ -38,9 +63,7 @@ pub struct Greeting {
 }
 
 impl Track for Greeting {
-    type Call = ();
-
-    type Answer = bool;
+    type Call = GreetingCall;
 
     ghost use Rattle.comemo_examples.specs.Greetings.{is_hello};
 
@@ -48,9 +71,7 @@ impl Track for Greeting {
 
     ghost alike = { λ s x y h. Prim.search rules };
 
-    ghost clones = { λ x y h. Prim.search rules };
-
-    fn ask(&self, _call: &()) -> Result<bool, AllocError> {
+    fn ask(&self, _call: &GreetingCall) -> Result<bool, AllocError> {
         Ok(self.text.as_str() == "hello")
     }
 }
@@ -61,22 +82,20 @@ pub struct SaysHello;
 impl Function for SaysHello {
     type Key = ();
 
-    type Call = ();
-
-    type Answer = bool;
+    type Call = GreetingCall;
 
     type Out = bool;
 
-    ghost means = { λ _ m out. out ≡ m tt };
+    ghost use Rattle.comemo_examples.specs.declared.greetings.GreetingCall.TheVariants.{IsHello};
+
+    ghost means = { λ _ m out. out ≡ m IsHello };
 
     ghost laws = { Prim.search rules };
 }
 
-impl Run<Greeting> for SaysHello {
-    type Needs = ();
-
+impl Run<Greeting, ()> for SaysHello {
     fn run(_key: &(), text: &mut Recorder<'_, Greeting>, _needs: &mut ()) -> Result<bool, Fault> {
-        let is = text.ask(())?;
+        let is = text.ask(GreetingCall::IsHello)?;
         Ok(is)
     }
 }

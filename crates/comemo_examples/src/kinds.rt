@@ -17,6 +17,10 @@ pub enum TextCall {
 }
 
 impl Call for TextCall {
+    type Answer = TextAnswer;
+
+    ghost use Rattle.comemo_examples.specs.KindLaws.{answer_clones};
+
     ghost is_write = { λ _. false };
 
     ghost touches = { λ _ _. false };
@@ -24,6 +28,8 @@ impl Call for TextCall {
     ghost same_kind = { λ x y h. refl };
 
     ghost clones = { λ x y h. Prim.search rules };
+
+    ghost answer_clones = { answer_clones };
 
     fn is_mutable(&self) -> bool {
         false
@@ -53,16 +59,12 @@ pub struct Text {
 impl Track for Text {
     type Call = TextCall;
 
-    type Answer = TextAnswer;
-
     ghost use Rattle.comemo_examples.specs.Kinds.{text_answer};
-    ghost use Rattle.comemo_examples.specs.KindLaws.{answers_alike, answer_clones};
+    ghost use Rattle.comemo_examples.specs.KindLaws.{answers_alike};
 
     ghost answers = { λ s call. text_answer s.text call };
 
     ghost alike = { λ s. answers_alike s.text };
-
-    ghost clones = { answer_clones };
 
     fn ask(&self, call: &TextCall) -> Result<TextAnswer, AllocError> {
         match call {
@@ -83,8 +85,6 @@ impl Function for Selfie {
 
     type Call = TextCall;
 
-    type Answer = TextAnswer;
-
     type Out = String;
 
     ghost means = { λ _ m out. string_bytes out ≡ text_in (m Itself) };
@@ -92,9 +92,7 @@ impl Function for Selfie {
     ghost laws = { Prim.search rules };
 }
 
-impl Run<Text> for Selfie {
-    type Needs = ();
-
+impl Run<Text, ()> for Selfie {
     fn run(_key: &(), text: &mut Recorder<'_, Text>, _needs: &mut ()) -> Result<String, Fault> {
         // The answer to this question is a text, so the other branch does not occur.
         let TextAnswer::Text(itself) = text.ask(TextCall::Itself)? else {
@@ -112,8 +110,6 @@ impl Function for IsLong {
 
     type Call = TextCall;
 
-    type Answer = TextAnswer;
-
     type Out = bool;
 
     ghost means = { λ _ m out. out ≡ nat_lt 10 (length_in (m (LengthPlus 5))) };
@@ -121,9 +117,7 @@ impl Function for IsLong {
     ghost laws = { Prim.search rules };
 }
 
-impl Run<Text> for IsLong {
-    type Needs = ();
-
+impl Run<Text, ()> for IsLong {
     fn run(_key: &(), text: &mut Recorder<'_, Text>, _needs: &mut ()) -> Result<bool, Fault> {
         // The answer to this question is a length, so the other branch does not occur.
         let TextAnswer::Length(length) = text.ask(TextCall::LengthPlus(5))? else {

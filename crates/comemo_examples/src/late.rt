@@ -15,8 +15,6 @@ impl Function for Bump {
 
     type Call = CounterCall;
 
-    type Answer = u64;
-
     type Out = u64;
 
     ghost use Rattle.comemo_examples.specs.declared.counter.CounterCall.TheVariants.{Get, Add};
@@ -28,9 +26,7 @@ impl Function for Bump {
     ghost laws = { exact_laws (Prim.search rules) };
 }
 
-impl RunMut<Counter> for Bump {
-    type Needs = ();
-
+impl RunMut<Counter, ()> for Bump {
     fn run(
         k: &u64,
         counter: &mut RecorderMut<'_, '_, Counter>,
@@ -50,8 +46,6 @@ impl Function for Readback {
 
     type Call = CounterCall;
 
-    type Answer = u64;
-
     type Out = u64;
 
     ghost use Rattle.comemo_examples.specs.declared.counter.CounterCall.TheVariants.{Add};
@@ -63,9 +57,7 @@ impl Function for Readback {
     ghost laws = { exact_laws (Prim.search rules) };
 }
 
-impl RunMut<Counter> for Readback {
-    type Needs = ();
-
+impl RunMut<Counter, ()> for Readback {
     fn run(
         k: &u64,
         counter: &mut RecorderMut<'_, '_, Counter>,
@@ -87,8 +79,6 @@ impl<H: Hold<Bump>> Function for Twice<H> {
 
     type Call = CounterCall;
 
-    type Answer = u64;
-
     type Out = u64;
 
     ghost use Rattle.comemo_examples.specs.declared.counter.CounterCall.TheVariants.{Add};
@@ -100,9 +90,7 @@ impl<H: Hold<Bump>> Function for Twice<H> {
     ghost laws = { exact_laws (Prim.search rules) };
 }
 
-impl<H: Hold<Bump>> RunMut<Counter> for Twice<H> {
-    type Needs = H;
-
+impl<H: Hold<Bump>> RunMut<Counter, H> for Twice<H> {
     fn run(
         k: &u64,
         counter: &mut RecorderMut<'_, '_, Counter>,
@@ -122,8 +110,6 @@ impl Function for AddsAndGets {
 
     type Key = ();
 
-    type Answer = MultiAnswer<u64, u64>;
-
     type Out = u64;
 
     ghost use Rattle.comemo.specs.Multi.{first_call, second_call, second_answer};
@@ -136,9 +122,7 @@ impl Function for AddsAndGets {
     ghost laws = { exact_laws (Prim.search rules) };
 }
 
-impl<'a> RunMut<BothMut<'a, Counter, Counter>> for AddsAndGets {
-    type Needs = ();
-
+impl<'a> RunMut<BothMut<'a, Counter, Counter>, ()> for AddsAndGets {
     fn run(
         _key: &(),
         both: &mut RecorderMut<'_, '_, BothMut<'a, Counter, Counter>>,

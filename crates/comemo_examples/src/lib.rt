@@ -85,7 +85,7 @@ pub mod town;
 pub mod warmth;
 
 pub use cells::{Cells, Get};
-pub use contexts::{Context, ContextCall, Page, Place, Row};
+pub use contexts::{Context, ContextCall, Place, Row};
 pub use counter::{Counter, CounterCall};
 pub use emitter::{Emitter, EmitterCall};
 pub use log::{Log, LogCall};

@@ -26,6 +26,10 @@ pub enum LibraryCall {
 }
 
 impl Call for LibraryCall {
+    type Answer = Vec<u8>;
+
+    ghost use Rattle.comemo_examples.specs.LoadLaws.{equal_bytes};
+
     ghost is_write = { λ _. false };
 
     ghost touches = { λ _ _. false };
@@ -33,6 +37,8 @@ impl Call for LibraryCall {
     ghost same_kind = { λ x y h. refl };
 
     ghost clones = { λ x y h. Prim.search rules };
+
+    ghost answer_clones = { λ x y h. equal_bytes x.items y.items (each_same x.items y.items h.0) };
 
     fn is_mutable(&self) -> bool {
         false
@@ -53,16 +59,11 @@ pub struct Library<L> {
 impl<L: Loader> Track for Library<L> {
     type Call = LibraryCall;
 
-    type Answer = Vec<u8>;
-
     ghost use Rattle.comemo_examples.specs.Loads.{path_in};
-    ghost use Rattle.comemo_examples.specs.LoadLaws.{equal_bytes};
 
     ghost answers = { λ s call. L.gives s.loader.value (path_in call) };
 
     ghost alike = { λ s x y h. Prim.search rules };
-
-    ghost clones = { λ x y h. equal_bytes x.items y.items (each_same x.items y.items h.0) };
 
     fn ask(&self, call: &LibraryCall) -> Result<Vec<u8>, AllocError> {
         match call {
@@ -81,21 +82,17 @@ impl<L: Loader> Function for Contents<L> {
 
     type Call = LibraryCall;
 
-    type Answer = Vec<u8>;
-
     type Out = Vec<u8>;
 
     ghost use Rattle.comemo_examples.specs.declared.loader.LibraryCall.TheVariants.{Load};
-    ghost use Rattle.comemo_examples.specs.LoadLaws.{equal_bytes, same_bytes};
+    ghost use Rattle.comemo_examples.specs.LoadLaws.{same_bytes};
 
     ghost means = { λ path m out. out.items ≡ (m (Load path)).items };
 
-    ghost laws = { Prim.search (rules, each_same, same_bytes, equal_bytes) };
+    ghost laws = { Prim.search (rules, each_same, same_bytes) };
 }
 
-impl<L: Loader> Run<Library<L>> for Contents<L> {
-    type Needs = ();
-
+impl<L: Loader> Run<Library<L>, ()> for Contents<L> {
     fn run(path: &String, of: &mut Recorder<'_, Library<L>>, _: &mut ()) -> Result<Vec<u8>, Fault> {
         let bytes = of.ask(LibraryCall::Load(path.clone()?))?;
         Ok(bytes)

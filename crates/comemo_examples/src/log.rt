@@ -15,6 +15,8 @@ pub enum LogCall {
 }
 
 impl Call for LogCall {
+    type Answer = ();
+
     ghost is_write = { λ _. true };
 
     ghost touches = { λ _ _. false };
@@ -22,6 +24,8 @@ impl Call for LogCall {
     ghost same_kind = { λ x y h. refl };
 
     ghost clones = { λ x y h. Prim.search rules };
+
+    ghost answer_clones = { λ x y h. Prim.search rules };
 
     fn is_mutable(&self) -> bool {
         true
@@ -72,8 +76,6 @@ impl Log {
 impl Track for Log {
     type Call = LogCall;
 
-    type Answer = ();
-
     ghost use Rattle.std.specs.Prelude.{◌++◌, ◌∷◌, []};
     ghost use Rattle.comemo_examples.specs.Writers.{logged};
 
@@ -83,8 +85,6 @@ impl Track for Log {
     ghost wrote = { λ s call t. t ≡ s ++ logged call ∷ [] };
 
     ghost alike = { λ _ _ _ _. refl };
-
-    ghost clones = { λ x y h. Prim.search rules };
 
     fn ask(&self, _call: &LogCall) -> Result<(), AllocError> {
         // Each call is a write, so there is no answer.

@@ -16,8 +16,6 @@ impl Function for Sum {
 
     type Call = ContextCall;
 
-    type Answer = u64;
-
     type Out = u64;
 
     ghost use Rattle.comemo_examples.specs.declared.contexts.ContextCall.TheVariants.{Location, Styles};
@@ -30,9 +28,7 @@ impl Function for Sum {
     ghost laws = { Prim.search rules };
 }
 
-impl Run<Context> for Sum {
-    type Needs = ContextCall;
-
+impl Run<Context, ContextCall> for Sum {
     fn run(
         _key: &(),
         context: &mut Recorder<'_, Context>,
@@ -64,8 +60,6 @@ impl Function for IsOver {
 
     type Call = ContextCall;
 
-    type Answer = u64;
-
     type Out = bool;
 
     ghost use Rattle.comemo_examples.specs.declared.contexts.ContextCall.TheVariants.{Location, Styles};
@@ -78,9 +72,7 @@ impl Function for IsOver {
     ghost laws = { Prim.search rules };
 }
 
-impl Run<Context> for IsOver {
-    type Needs = (CacheData<Sum>, ContextCall);
-
+impl Run<Context, (CacheData<Sum>, ContextCall)> for IsOver {
     fn run(
         n: &u64,
         context: &mut Recorder<'_, Context>,

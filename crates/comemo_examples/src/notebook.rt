@@ -18,6 +18,8 @@ pub enum NotebookCall {
 }
 
 impl Call for NotebookCall {
+    type Answer = u64;
+
     ghost is_write = { is_note };
 
     ghost touches = { λ _ _. false };
@@ -25,6 +27,8 @@ impl Call for NotebookCall {
     ghost same_kind = { λ x y h. Prim.search rules };
 
     ghost clones = { λ x y h. Prim.search rules };
+
+    ghost answer_clones = { λ x y h. Prim.search rules };
 
     fn is_mutable(&self) -> bool {
         match self {
@@ -83,8 +87,6 @@ impl Notebook {
 impl Track for Notebook {
     type Call = NotebookCall;
 
-    type Answer = u64;
-
     ghost use Rattle.comemo_examples.specs.Notebooks.{noted};
 
     ghost answers = { λ s _. s.owner };
@@ -93,8 +95,6 @@ impl Track for Notebook {
         × (t.lines ≡ s.lines ++ noted call) };
 
     ghost alike = { λ s x y h. Prim.search rules };
-
-    ghost clones = { λ x y h. Prim.search rules };
 
     fn ask(&self, _call: &NotebookCall) -> Result<u64, AllocError> {
         Ok(self.owner)

@@ -15,8 +15,6 @@ impl Function for Identity {
 
     type Call = ();
 
-    type Answer = ();
-
     type Out = u64;
 
     ghost means = { λ n _ out. out ≡ n };
@@ -24,9 +22,7 @@ impl Function for Identity {
     ghost laws = { Prim.search rules };
 }
 
-impl Run<()> for Identity {
-    type Needs = ();
-
+impl Run<(), ()> for Identity {
     fn run(n: &u64, _of: &mut Recorder<'_, ()>, _needs: &mut ()) -> Result<u64, Fault> {
         Ok(*n)
     }
@@ -40,8 +36,6 @@ impl Function for Sum {
 
     type Call = ();
 
-    type Answer = ();
-
     type Out = u32;
 
     ghost means = { λ key _ out. out ≡ (key.0 + key.1) % 2 ^ 32 };
@@ -49,9 +43,7 @@ impl Function for Sum {
     ghost laws = { Prim.search rules };
 }
 
-impl Run<()> for Sum {
-    type Needs = ();
-
+impl Run<(), ()> for Sum {
     fn run(key: &(u32, u32), _of: &mut Recorder<'_, ()>, _needs: &mut ()) -> Result<u32, Fault> {
         Ok(key.0.wrapping_add(key.1))
     }
@@ -76,8 +68,6 @@ impl Function for SumBelow {
 
     type Call = ();
 
-    type Answer = ();
-
     type Out = u64;
 
     ghost means = { λ n _ out. out ≡ sum (range_with_len 0 n) };
@@ -85,9 +75,7 @@ impl Function for SumBelow {
     ghost laws = { Prim.search rules };
 }
 
-impl Run<()> for SumBelow {
-    type Needs = ();
-
+impl Run<(), ()> for SumBelow {
     fn run(n: &u32, _of: &mut Recorder<'_, ()>, _needs: &mut ()) -> Result<u64, Fault> {
         Ok(sum_below(*n))
     }
@@ -113,8 +101,6 @@ impl Function for DoubleFlat {
 
     type Call = ();
 
-    type Answer = ();
-
     type Out = u32;
 
     ghost means = { λ n _ out. out ≡ (n.0 + n.0) % 2 ^ 32 };
@@ -122,9 +108,7 @@ impl Function for DoubleFlat {
     ghost laws = { Prim.search rules };
 }
 
-impl Run<()> for DoubleFlat {
-    type Needs = ();
-
+impl Run<(), ()> for DoubleFlat {
     fn run(n: &Flat, _of: &mut Recorder<'_, ()>, _needs: &mut ()) -> Result<u32, Fault> {
         Ok(n.0.wrapping_add(n.0))
     }

@@ -25,8 +25,6 @@ impl Function for Either {
 
     type Call = TownCall;
 
-    type Answer = u64;
-
     type Out = u64;
 
     ghost means = { λ _ _ _. ⊤ };
@@ -34,9 +32,7 @@ impl Function for Either {
     ghost laws = { Prim.search rules };
 }
 
-impl Run<Town> for Either {
-    type Needs = Turn;
-
+impl Run<Town, Turn> for Either {
     fn run(_key: &(), town: &mut Recorder<'_, Town>, turn: &mut Turn) -> Result<u64, Fault> {
         match turn {
             Turn::People => town.ask(TownCall::People),
@@ -55,8 +51,6 @@ impl Function for Both {
 
     type Call = TownCall;
 
-    type Answer = u64;
-
     type Out = (u64, u64);
 
     ghost use Rattle.comemo_examples.specs.declared.town.TownCall.TheVariants.{People, Degrees};
@@ -66,9 +60,7 @@ impl Function for Both {
     ghost laws = { Prim.search rules };
 }
 
-impl Run<Town> for Both {
-    type Needs = Turn;
-
+impl Run<Town, Turn> for Both {
     fn run(_key: &(), town: &mut Recorder<'_, Town>, turn: &mut Turn) -> Result<(u64, u64), Fault> {
         match turn {
             Turn::People => {
@@ -94,8 +86,6 @@ impl Function for Exceeds {
 
     type Call = TownCall;
 
-    type Answer = u64;
-
     type Out = bool;
 
     ghost use Rattle.comemo_examples.specs.declared.town.TownCall.TheVariants.{People, Degrees};
@@ -105,9 +95,7 @@ impl Function for Exceeds {
     ghost laws = { Prim.search rules };
 }
 
-impl Run<Town> for Exceeds {
-    type Needs = ();
-
+impl Run<Town, ()> for Exceeds {
     fn run(n: &u64, town: &mut Recorder<'_, Town>, _needs: &mut ()) -> Result<bool, Fault> {
         let people = town.ask(TownCall::People)?;
         Ok(people > *n || town.ask(TownCall::Degrees)? > *n)

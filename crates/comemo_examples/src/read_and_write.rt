@@ -20,8 +20,6 @@ impl Function for TallyWarmth {
 
     type Key = ();
 
-    type Answer = MultiAnswer<u64, u64>;
-
     type Out = u64;
 
     ghost use Rattle.comemo.specs.Multi.{OnParts, second_call};
@@ -35,9 +33,7 @@ impl Function for TallyWarmth {
     ghost laws = { exact_laws (Prim.search rules) };
 }
 
-impl<'a> RunMut<ReadAndWrite<'a, Town, Counter>> for TallyWarmth {
-    type Needs = CacheData<Warmth>;
-
+impl<'a> RunMut<ReadAndWrite<'a, Town, Counter>, CacheData<Warmth>> for TallyWarmth {
     fn run(
         _: &(),
         both: &mut RecorderMut<'_, '_, ReadAndWrite<'a, Town, Counter>>,
@@ -57,8 +53,6 @@ impl Function for AddsDegrees {
 
     type Key = ();
 
-    type Answer = MultiAnswer<u64, u64>;
-
     type Out = u64;
 
     ghost use Rattle.comemo.specs.Multi.{OnParts, second_call};
@@ -73,9 +67,7 @@ impl Function for AddsDegrees {
     ghost laws = { exact_laws (Prim.search rules) };
 }
 
-impl<'a> RunMut<ReadAndWrite<'a, Town, Counter>> for AddsDegrees {
-    type Needs = ();
-
+impl<'a> RunMut<ReadAndWrite<'a, Town, Counter>, ()> for AddsDegrees {
     fn run(
         _: &(),
         both: &mut RecorderMut<'_, '_, ReadAndWrite<'a, Town, Counter>>,
@@ -96,8 +88,6 @@ impl Function for AddsOneMore {
 
     type Key = ();
 
-    type Answer = MultiAnswer<u64, u64>;
-
     type Out = u64;
 
     ghost use Rattle.comemo.specs.Multi.{OnParts, second_call};
@@ -112,9 +102,7 @@ impl Function for AddsOneMore {
     ghost laws = { exact_laws (Prim.search rules) };
 }
 
-impl<'a> RunMut<ReadAndWrite<'a, Town, Counter>> for AddsOneMore {
-    type Needs = CacheData<Adds>;
-
+impl<'a> RunMut<ReadAndWrite<'a, Town, Counter>, CacheData<Adds>> for AddsOneMore {
     fn run(
         _: &(),
         both: &mut RecorderMut<'_, '_, ReadAndWrite<'a, Town, Counter>>,

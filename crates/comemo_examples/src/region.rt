@@ -18,6 +18,8 @@ pub enum RegionCall {
 }
 
 impl Call for RegionCall {
+    type Answer = u64;
+
     ghost is_write = { λ _. false };
 
     ghost touches = { λ _ _. false };
@@ -25,6 +27,8 @@ impl Call for RegionCall {
     ghost same_kind = { λ x y h. refl };
 
     ghost clones = { λ x y h. Prim.search rules };
+
+    ghost answer_clones = { λ x y h. Prim.search rules };
 
     fn is_mutable(&self) -> bool {
         false
@@ -49,8 +53,6 @@ pub struct Region<'a> {
 impl<'a> Track for Region<'a> {
     type Call = RegionCall;
 
-    type Answer = u64;
-
     ghost use Rattle.comemo_examples.specs.Towns.{asked};
     ghost use Rattle.comemo_examples.specs.Regions.{of_each};
     ghost use Rattle.comemo_examples.specs.RegionLaws.{each_alike};
@@ -64,8 +66,6 @@ impl<'a> Track for Region<'a> {
         s.coast.now.people s.coast.now.degrees
         s.river.now.people s.river.now.degrees
         s.hill.now.people s.hill.now.degrees };
-
-    ghost clones = { λ x y h. Prim.search rules };
 
     fn ask(&self, call: &RegionCall) -> Result<u64, AllocError> {
         match call {
@@ -86,8 +86,6 @@ impl Function for Warmest {
 
     type Key = ();
 
-    type Answer = u64;
-
     type Out = u64;
 
     ghost use Rattle.comemo_examples.specs.declared.town.TownCall.TheVariants.{Degrees};
@@ -99,9 +97,7 @@ impl Function for Warmest {
     ghost laws = { Prim.search rules };
 }
 
-impl<'a> Run<Region<'a>> for Warmest {
-    type Needs = ();
-
+impl<'a> Run<Region<'a>, ()> for Warmest {
     fn run(_: &(), region: &mut Recorder<'_, Region<'a>>, _: &mut ()) -> Result<u64, Fault> {
         let coast = region.ask(RegionCall::Coast(TownCall::Degrees))?;
         let river = region.ask(RegionCall::River(TownCall::Degrees))?;

@@ -19,8 +19,6 @@ impl Function for Ruler {
 
     type Call = NotebookCall;
 
-    type Answer = u64;
-
     type Out = ();
 
     ghost means = { λ _ _ _. ⊤ };

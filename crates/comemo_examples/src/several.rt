@@ -14,8 +14,6 @@ impl Function for IsWarmer {
 
     type Key = ();
 
-    type Answer = MultiAnswer<u64, u64>;
-
     type Out = bool;
 
     ghost use Rattle.comemo.specs.Multi.{OnParts};
@@ -27,9 +25,7 @@ impl Function for IsWarmer {
     ghost laws = { Prim.search rules };
 }
 
-impl<'a> Run<Both<'a, Town, Town>> for IsWarmer {
-    type Needs = ();
-
+impl<'a> Run<Both<'a, Town, Town>, ()> for IsWarmer {
     fn run(
         _: &(),
         towns: &mut Recorder<'_, Both<'a, Town, Town>>,
@@ -52,8 +48,6 @@ impl Function for Lead {
 
     type Key = ();
 
-    type Answer = MultiAnswer<u64, u64>;
-
     type Out = u64;
 
     ghost use Rattle.comemo.specs.Multi.{OnParts};
@@ -65,9 +59,7 @@ impl Function for Lead {
     ghost laws = { Prim.search rules };
 }
 
-impl<'a> Run<Both<'a, Town, Town>> for Lead {
-    type Needs = CacheData<Warmth>;
-
+impl<'a> Run<Both<'a, Town, Town>, CacheData<Warmth>> for Lead {
     fn run(
         _key: &(),
         towns: &mut Recorder<'_, Both<'a, Town, Town>>,

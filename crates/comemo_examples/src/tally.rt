@@ -14,8 +14,6 @@ impl Function for Tally {
 
     type Key = ();
 
-    type Answer = MultiAnswer<u64, u64>;
-
     type Out = u64;
 
     ghost use Rattle.comemo.specs.Multi.{OnParts, second_call};
@@ -29,9 +27,7 @@ impl Function for Tally {
     ghost laws = { exact_laws (Prim.search rules) };
 }
 
-impl<'a> RunMut<BothMut<'a, Town, Counter>> for Tally {
-    type Needs = ();
-
+impl<'a> RunMut<BothMut<'a, Town, Counter>, ()> for Tally {
     fn run(
         _: &(),
         both: &mut RecorderMut<'_, '_, BothMut<'a, Town, Counter>>,

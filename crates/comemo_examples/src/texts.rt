@@ -12,8 +12,6 @@ impl Function for Same {
 
     type Call = ();
 
-    type Answer = ();
-
     type Out = String;
 
     ghost means = { λ text _ out. string_bytes out ≡ string_bytes text };
@@ -21,9 +19,7 @@ impl Function for Same {
     ghost laws = { Prim.search rules };
 }
 
-impl Run<()> for Same {
-    type Needs = ();
-
+impl Run<(), ()> for Same {
     fn run(text: &String, _of: &mut Recorder<'_, ()>, _needs: &mut ()) -> Result<String, Fault> {
         Ok(text.clone()?)
     }

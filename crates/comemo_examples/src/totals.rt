@@ -20,8 +20,6 @@ impl Function for RunningTotal {
 
     type Key = u32;
 
-    type Answer = MultiAnswer<u64, u64>;
-
     type Out = u64;
 
     ghost use Rattle.comemo.specs.Multi.{OnParts, second_call};
@@ -95,8 +93,6 @@ impl Function for NotesTotals {
 
     type Key = u32;
 
-    type Answer = MultiAnswer<u64, u64>;
-
     type Out = u64;
 
     ghost means = { ⟦<RunningTotal as Function>⟧.means };
@@ -106,9 +102,7 @@ impl Function for NotesTotals {
     ghost laws = { exact_laws (Prim.search rules) };
 }
 
-impl<'a> RunMut<ReadAndWrite<'a, Cells, Notebook>> for NotesTotals {
-    type Needs = CacheData<RunningTotal>;
-
+impl<'a> RunMut<ReadAndWrite<'a, Cells, Notebook>, CacheData<RunningTotal>> for NotesTotals {
     fn run(
         count: &u32,
         both: &mut RecorderMut<'_, '_, ReadAndWrite<'a, Cells, Notebook>>,

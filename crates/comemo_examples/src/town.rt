@@ -15,6 +15,8 @@ pub enum TownCall {
 }
 
 impl Call for TownCall {
+    type Answer = u64;
+
     ghost is_write = { λ _. false };
 
     ghost touches = { λ _ _. false };
@@ -22,6 +24,8 @@ impl Call for TownCall {
     ghost same_kind = { λ x y h. refl };
 
     ghost clones = { λ x y h. Prim.search rules };
+
+    ghost answer_clones = { λ x y h. Prim.search rules };
 
     fn is_mutable(&self) -> bool {
         false
@@ -44,15 +48,11 @@ pub struct Town {
 impl Track for Town {
     type Call = TownCall;
 
-    type Answer = u64;
-
     ghost use Rattle.comemo_examples.specs.Towns.{asked};
 
     ghost answers = { λ s call. asked s.people s.degrees call };
 
     ghost alike = { λ s x y h. Prim.search rules };
-
-    ghost clones = { λ x y h. Prim.search rules };
 
     fn ask(&self, call: &TownCall) -> Result<u64, AllocError> {
         match call {

@@ -15,8 +15,6 @@ impl Function for Fib {
 
     type Call = ();
 
-    type Answer = ();
-
     type Out = u64;
 
     ghost means = { λ n _ out. out ≡ fib n % 2 ^ 64 };

@@ -15,6 +15,8 @@ pub enum SettingsCall {
 }
 
 impl Call for SettingsCall {
+    type Answer = Setting;
+
     ghost is_write = { λ _. false };
 
     ghost touches = { λ _ _. false };
@@ -22,6 +24,8 @@ impl Call for SettingsCall {
     ghost same_kind = { λ x y h. refl };
 
     ghost clones = { λ x y h. Prim.search rules };
+
+    ghost answer_clones = { λ x y h. Prim.search rules };
 
     fn is_mutable(&self) -> bool {
         false
@@ -53,15 +57,11 @@ pub struct Settings {
 impl Track for Settings {
     type Call = SettingsCall;
 
-    type Answer = Setting;
-
     ghost use Rattle.comemo_sheet.specs.Shown.{setting};
 
     ghost answers = { λ s call. setting s.hides_negative s.width call };
 
     ghost alike = { λ s x y h. Prim.search rules };
-
-    ghost clones = { λ x y h. Prim.search rules };
 
     fn ask(&self, call: &SettingsCall) -> Result<Setting, AllocError> {
         match call {

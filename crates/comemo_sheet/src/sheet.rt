@@ -15,6 +15,10 @@ pub enum SheetCall {
 }
 
 impl Call for SheetCall {
+    type Answer = Content;
+
+    ghost use Rattle.comemo_sheet.specs.SheetLaws.{content_clones};
+
     ghost is_write = { λ _. false };
 
     ghost touches = { λ _ _. false };
@@ -22,6 +26,8 @@ impl Call for SheetCall {
     ghost same_kind = { λ x y h. refl };
 
     ghost clones = { λ x y h. Prim.search rules };
+
+    ghost answer_clones = { content_clones };
 
     fn is_mutable(&self) -> bool {
         false
@@ -111,16 +117,12 @@ impl Sheet {
 impl Track for Sheet {
     type Call = SheetCall;
 
-    type Answer = Content;
-
     ghost use Rattle.comemo_sheet.specs.Sheets.{cell_answer};
-    ghost use Rattle.comemo_sheet.specs.SheetLaws.{cells_alike, content_clones};
+    ghost use Rattle.comemo_sheet.specs.SheetLaws.{cells_alike};
 
     ghost answers = { λ s call. cell_answer s.cells call };
 
     ghost alike = { λ s. cells_alike s.cells };
-
-    ghost clones = { content_clones };
 
     fn ask(&self, call: &SheetCall) -> Result<Content, AllocError> {
         match call {

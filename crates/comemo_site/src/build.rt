@@ -6,7 +6,6 @@ ghost use Rattle.comemo.specs.FunctionMut.{lent};
 ghost use Rattle.comemo.specs.MeaningLaws.{exact_laws};
 ghost use Rattle.comemo.specs.Multi.{second_call};
 ghost use Rattle.comemo_site.specs.Pages.{OnSite, block_html, block_warnings, page_html, page_warnings};
-ghost use Rattle.comemo_site.specs.SiteLaws.{answer_clones};
 
 use crate::block::Block;
 use crate::html::{Html, Rendered};
@@ -31,8 +30,6 @@ impl Function for Build {
 
     type Key = (Text, u64);
 
-    type Answer = MultiAnswer<SiteAnswer, ()>;
-
     type Out = Rendered;
 
     ghost means = { λ key m html. OnSite m (λ site. html ≡ page_html site key.1 key.0) };
@@ -40,7 +37,7 @@ impl Function for Build {
     ghost writes = { λ key m _ W. OnSite m
         (λ site. W ≡ map second_call (page_warnings site key.1 key.0)) };
 
-    ghost laws = { exact_laws (Prim.search (rules, answer_clones)) };
+    ghost laws = { exact_laws (Prim.search rules) };
 }
 
 /// What building keeps: the pages and the titles.
@@ -149,20 +146,16 @@ impl Function for Publish {
 
     type Key = (Text, u64);
 
-    type Answer = MultiAnswer<SiteAnswer, ()>;
-
     type Out = Rendered;
 
     ghost means = { ⟦<Build as Function>⟧.means };
 
     ghost writes = { ⟦<Build as Function>⟧.writes };
 
-    ghost laws = { exact_laws (Prim.search (rules, answer_clones)) };
+    ghost laws = { exact_laws (Prim.search rules) };
 }
 
-impl<'a> RunMut<ReadAndWrite<'a, Site, Log>> for Publish {
-    type Needs = (Global, Built);
-
+impl<'a> RunMut<ReadAndWrite<'a, Site, Log>, (Global, Built)> for Publish {
     fn run(
         key: &(Text, u64),
         both: &mut RecorderMut<'_, '_, ReadAndWrite<'a, Site, Log>>,

@@ -18,6 +18,8 @@ pub enum Warning {
 }
 
 impl Call for Warning {
+    type Answer = ();
+
     ghost is_write = { λ _. true };
 
     ghost touches = { λ _ _. false };
@@ -25,6 +27,8 @@ impl Call for Warning {
     ghost same_kind = { λ x y h. refl };
 
     ghost clones = { λ x y h. Prim.search rules };
+
+    ghost answer_clones = { λ x y h. Prim.search rules };
 
     fn is_mutable(&self) -> bool {
         true
@@ -85,8 +89,6 @@ impl Log {
 impl Track for Log {
     type Call = Warning;
 
-    type Answer = ();
-
     ghost use Rattle.std.specs.Prelude.{◌++◌, ◌∷◌, []};
 
     // there is nothing to ask
@@ -95,8 +97,6 @@ impl Track for Log {
     ghost wrote = { λ s warning t. t ≡ s ++ warning ∷ [] };
 
     ghost alike = { λ _ _ _ _. refl };
-
-    ghost clones = { λ x y h. Prim.search rules };
 
     fn ask(&self, _call: &Warning) -> Result<(), AllocError> {
         // Each call is a write, so there is no answer.

@@ -19,6 +19,10 @@ pub enum SiteCall {
 }
 
 impl Call for SiteCall {
+    type Answer = SiteAnswer;
+
+    ghost use Rattle.comemo_site.specs.SiteLaws.{answer_clones};
+
     ghost is_write = { λ _. false };
 
     ghost touches = { λ _ _. false };
@@ -26,6 +30,8 @@ impl Call for SiteCall {
     ghost same_kind = { λ x y h. refl };
 
     ghost clones = { λ x y h. Prim.search rules };
+
+    ghost answer_clones = { answer_clones };
 
     fn is_mutable(&self) -> bool {
         false
@@ -150,16 +156,12 @@ impl Site {
 impl Track for Site {
     type Call = SiteCall;
 
-    type Answer = SiteAnswer;
-
     ghost use Rattle.comemo_site.specs.Sites.{site_answer};
-    ghost use Rattle.comemo_site.specs.SiteLaws.{site_alike, answer_clones};
+    ghost use Rattle.comemo_site.specs.SiteLaws.{site_alike};
 
     ghost answers = { λ s call. site_answer s.pages call };
 
     ghost alike = { λ s. site_alike s.pages };
-
-    ghost clones = { answer_clones };
 
     #[tactic(auto, using(crate::specs::SiteLaws::answer_refl))]
     fn ask(&self, call: &SiteCall) -> Result<SiteAnswer, AllocError> {

@@ -17,10 +17,10 @@ pub trait Warns: Track {
     ghost use Rattle.comemo_site.specs.declared.site.SiteCall.{SiteCall};
 
     // the recording is one of what was asked and written
-    ghost agrees: { Lent Self Self.Call Self.Answer → Type 0 };
+    ghost agrees: { Lent Self Self.Call Self.Call.Answer → Type 0 };
 
     // the step gave this text and wrote these warnings, both by the answers of the site
-    ghost tells: { Lent Self Self.Call Self.Answer → Lent Self Self.Call Self.Answer
+    ghost tells: { Lent Self Self.Call Self.Call.Answer → Lent Self Self.Call Self.Call.Answer
         → Result (List ℕ) Fault → ((SiteCall → SiteAnswer) → List ℕ)
         → ((SiteCall → SiteAnswer) → List Warning) → Type 0 };
 }

@@ -14,8 +14,6 @@ impl Function for SumOf {
 
     type Key = ();
 
-    type Answer = u64;
-
     type Out = u64;
 
     ghost use Rattle.comemo_examples.specs.declared.contexts.ContextCall.TheVariants.{Location, Styles};
@@ -43,7 +41,7 @@ pub fn closed_sum(
         &mut context.fork(alloc),
         &mut Top::new(),
         enabled,
-        |view: &mut View<'_, Context>, recording: &mut Constraint<ContextCall, u64>| {
+        |view: &mut View<'_, Context>, recording: &mut Constraint<ContextCall>| {
             let at = view.ask(ContextCall::Location, recording)?;
             let by = view.ask(ContextCall::Styles, recording)?;
             Ok(at.wrapping_add(by))

@@ -19,8 +19,6 @@ impl Function for Refused {
 
     type Call = ContextCall;
 
-    type Answer = u64;
-
     type Out = u64;
 
     ghost means = { λ _ _ _. ⊥ };
@@ -28,9 +26,7 @@ impl Function for Refused {
     ghost laws = { Prim.search rules };
 }
 
-impl Run<Context> for Refused {
-    type Needs = ();
-
+impl Run<Context, ()> for Refused {
     fn run(_key: &(), _of: &mut Recorder<'_, Context>, _needs: &mut ()) -> Result<u64, Fault> {
         Err(Fault::Memory)
     }
@@ -45,8 +41,6 @@ impl Function for Failing {
 
     type Call = ContextCall;
 
-    type Answer = u64;
-
     type Out = u64;
 
     ghost means = { λ _ _ _. ⊥ };
@@ -54,9 +48,7 @@ impl Function for Failing {
     ghost laws = { Prim.search rules };
 }
 
-impl Run<Context> for Failing {
-    type Needs = CacheData<Refused>;
-
+impl Run<Context, CacheData<Refused>> for Failing {
     fn run(
         hands_on: &bool,
         of: &mut Recorder<'_, Context>,
@@ -78,8 +70,6 @@ impl Function for Calling {
 
     type Call = ContextCall;
 
-    type Answer = u64;
-
     type Out = u64;
 
     ghost means = { λ _ _ _. ⊥ };
@@ -87,9 +77,7 @@ impl Function for Calling {
     ghost laws = { Prim.search rules };
 }
 
-impl Run<Context> for Calling {
-    type Needs = (CacheData<Failing>, CacheData<Refused>);
-
+impl Run<Context, (CacheData<Failing>, CacheData<Refused>)> for Calling {
     fn run(
         hands_on: &bool,
         of: &mut Recorder<'_, Context>,
@@ -108,8 +96,6 @@ impl Function for CallingOfPart {
 
     type Key = (bool, bool);
 
-    type Answer = MultiAnswer<u64, u64>;
-
     type Out = u64;
 
     ghost means = { λ _ _ _. ⊤ };
@@ -117,9 +103,7 @@ impl Function for CallingOfPart {
     ghost laws = { Prim.search rules };
 }
 
-impl<'a> Run<Both<'a, Context, Context>> for CallingOfPart {
-    type Needs = (CacheData<Failing>, CacheData<Refused>);
-
+impl<'a> Run<Both<'a, Context, Context>, (CacheData<Failing>, CacheData<Refused>)> for CallingOfPart {
     fn run(
         key: &(bool, bool),
         of: &mut Recorder<'_, Both<'a, Context, Context>>,
@@ -144,14 +128,14 @@ fn context() -> Context {
 /// Whether the caller of a closure that ends in a fault gets that fault, and its own recording is incomplete then.
 fn is_told_of_closure(alloc: Global, fault: Fault) -> bool {
     let mut cache: CacheData<LocationOf> = CacheData::new(alloc);
-    let mut outer: Constraint<ContextCall, u64> = Constraint::new(alloc);
+    let mut outer: Constraint<ContextCall> = Constraint::new(alloc);
     let reply = memoize(
         alloc,
         &mut cache,
         &mut context().view(alloc),
         &mut outer,
         true,
-        |_view: &mut View<'_, Context>, _recording: &mut Constraint<ContextCall, u64>| Err(fault),
+        |_view: &mut View<'_, Context>, _recording: &mut Constraint<ContextCall>| Err(fault),
     );
     reply.err() == Some(fault) && !outer.is_whole()
 }
@@ -160,14 +144,14 @@ fn is_told_of_closure(alloc: Global, fault: Fault) -> bool {
 /// own recording is incomplete then.
 fn is_told_of_spoiled(alloc: Global) -> bool {
     let mut cache: CacheData<LocationOf> = CacheData::new(alloc);
-    let mut outer: Constraint<ContextCall, u64> = Constraint::new(alloc);
+    let mut outer: Constraint<ContextCall> = Constraint::new(alloc);
     let reply = memoize(
         alloc,
         &mut cache,
         &mut context().view(alloc),
         &mut outer,
         true,
-        |_view: &mut View<'_, Context>, recording: &mut Constraint<ContextCall, u64>| {
+        |_view: &mut View<'_, Context>, recording: &mut Constraint<ContextCall>| {
             recording.spoil();
             Ok(3)
         },
@@ -176,16 +160,16 @@ fn is_told_of_spoiled(alloc: Global) -> bool {
 }
 
 /// Whether the caller of a function with this key gets this fault, and its own recording is incomplete then.
-fn is_told<F: Run<Context, Key = bool, Out = u64>>(
+fn is_told<F: Run<Context, N, Key = bool, Out = u64>, N>(
     alloc: Global,
-    needs: &mut F::Needs,
+    needs: &mut N,
     hands_on: bool,
     fault: Fault,
 ) -> bool
     requires { WritesNone F.writes }
 {
     let mut cache: CacheData<F> = CacheData::new(alloc);
-    let mut outer: Constraint<ContextCall, u64> = Constraint::new(alloc);
+    let mut outer: Constraint<ContextCall> = Constraint::new(alloc);
     let reply = memoized_with(
         alloc,
         &mut cache,

@@ -16,8 +16,6 @@ impl Function for LocationOf {
 
     type Key = ();
 
-    type Answer = u64;
-
     type Out = u64;
 
     ghost use Rattle.comemo_examples.specs.declared.contexts.ContextCall.TheVariants.{Location};
@@ -30,7 +28,7 @@ impl Function for LocationOf {
 }
 
 /// The location of a context, through a cache, by a view that the caller lends.
-pub fn lent_location<S: Sink<Call = ContextCall, Answer = u64>>(
+pub fn lent_location<S: Sink<Call = ContextCall>>(
     alloc: Global,
     cache: &mut CacheData<LocationOf>,
     context: &mut View<'_, Context>,

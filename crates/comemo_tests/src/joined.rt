@@ -19,8 +19,6 @@ impl Function for ContainsNumber {
 
     type Key = (u64, ());
 
-    type Answer = MultiAnswer<(), u64>;
-
     type Out = bool;
 
     ghost use Rattle.comemo_examples.specs.declared.contexts.ContextCall.TheVariants.{Location, Styles};
@@ -41,7 +39,6 @@ impl Function for ContainsNumber {
       );
       writes = λ key m output V W r same h. (none_alike _ V W same h.0, h.1);
       key_clones = Prim.search rules;
-      answer_clones = Prim.search rules;
     } };
 }
 
@@ -126,8 +123,6 @@ impl Function for AnythingOfTwo {
     type Call = MultiCall<ContextCall, ContextCall>;
 
     type Key = ((), ());
-
-    type Answer = MultiAnswer<u64, u64>;
 
     type Out = u64;
 

@@ -14,8 +14,6 @@ impl Function for NotesThree {
 
     type Call = NotebookCall;
 
-    type Answer = u64;
-
     type Out = u64;
 
     ghost use Rattle.comemo_examples.specs.declared.notebook.NotebookCall.TheVariants.{Owner, Note};
@@ -27,9 +25,7 @@ impl Function for NotesThree {
     ghost laws = { exact_laws (Prim.search rules) };
 }
 
-impl RunMut<Notebook> for NotesThree {
-    type Needs = ();
-
+impl RunMut<Notebook, ()> for NotesThree {
     fn run(
         n: &u64,
         book: &mut RecorderMut<'_, '_, Notebook>,
@@ -50,8 +46,6 @@ impl Function for AddsThree {
     type Call = CounterCall;
 
     type Key = ();
-
-    type Answer = u64;
 
     type Out = ();
 

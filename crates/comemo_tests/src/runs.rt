@@ -14,8 +14,6 @@ impl Function for Anything {
 
     type Key = u64;
 
-    type Answer = u64;
-
     type Out = u64;
 
     ghost means = { λ _ _ _. Unit {0} };
@@ -26,7 +24,7 @@ impl Function for Anything {
 }
 
 /// The recording of an outer run.
-type Recording = Constraint<ContextCall, u64>;
+type Recording = Constraint<ContextCall>;
 
 /// The context with this location and these styles.
 fn context(location: u64, styles: u64) -> Context {

@@ -66,6 +66,8 @@ impl Hash for Scarce {
 }
 
 impl Call for Scarce {
+    type Answer = u64;
+
     ghost is_write = { λ _. false };
 
     ghost touches = { λ _ _. false };
@@ -73,6 +75,8 @@ impl Call for Scarce {
     ghost same_kind = { λ x y h. refl };
 
     ghost clones = { λ x y h. Prim.search rules };
+
+    ghost answer_clones = { λ x y h. Prim.search rules };
 
     fn is_mutable(&self) -> bool {
         false
@@ -90,13 +94,9 @@ pub struct Echo;
 impl Track for Echo {
     type Call = Scarce;
 
-    type Answer = u64;
-
     ghost answers = { λ _ call. call.number };
 
     ghost alike = { λ s x y h. Prim.search rules };
-
-    ghost clones = { λ x y h. Prim.search rules };
 
     fn ask(&self, call: &Scarce) -> Result<u64, AllocError> {
         Ok(call.number)
@@ -111,8 +111,6 @@ impl Function for AnyEcho {
 
     type Key = u64;
 
-    type Answer = u64;
-
     type Out = u64;
 
     ghost means = { λ _ _ _. Unit {0} };
@@ -123,7 +121,7 @@ impl Function for AnyEcho {
 }
 
 /// The recording of a run.
-type Recording = Constraint<Scarce, u64>;
+type Recording = Constraint<Scarce>;
 
 /// The read of a number.
 fn read(number: u64, left: &Left) -> Result<Scarce, AllocError> {

@@ -38,15 +38,11 @@ impl Counting {
 impl Track for Counting {
     type Call = ContextCall;
 
-    type Answer = u64;
-
     ghost use Rattle.comemo_examples.specs.Contexts.{field};
 
     ghost answers = { λ s call. field s.context.location s.context.styles call };
 
     ghost alike = { λ s x y h. Prim.search rules };
-
-    ghost clones = { λ x y h. Prim.search rules };
 
     fn ask(&self, call: &ContextCall) -> Result<u64, AllocError> {
         self.asked.fetch_add(1, Ordering::SeqCst);
@@ -177,6 +173,8 @@ impl Clone for Single {
 }
 
 impl Call for Single {
+    type Answer = u64;
+
     ghost is_write = { λ _. false };
 
     ghost touches = { λ _ _. false };
@@ -184,6 +182,8 @@ impl Call for Single {
     ghost same_kind = { λ x y h. refl };
 
     ghost clones = { λ x y h. Prim.search rules };
+
+    ghost answer_clones = { λ x y h. Prim.search rules };
 
     fn is_mutable(&self) -> bool {
         false
@@ -203,13 +203,9 @@ struct Echo {
 impl Track for Echo {
     type Call = Single;
 
-    type Answer = u64;
-
     ghost answers = { λ _ call. call.number };
 
     ghost alike = { λ s x y h. Prim.search rules };
-
-    ghost clones = { λ x y h. Prim.search rules };
 
     fn ask(&self, call: &Single) -> Result<u64, AllocError> {
         self.asked.fetch_add(1, Ordering::SeqCst);

@@ -7,7 +7,7 @@ use comemo_examples::{Context, ContextCall, Counter};
 use std::alloc::{AllocError, Global};
 
 /// A recording of reads of a context.
-type Recording = Constraint<ContextCall, u64>;
+type Recording = Constraint<ContextCall>;
 
 /// Whether a view that holds a recording sends what it is asked, each question once.
 fn is_sent(alloc: Global) -> bool {

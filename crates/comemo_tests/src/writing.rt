@@ -11,7 +11,7 @@ use std::alloc::Global;
 use std::test::Fail;
 
 /// Whether a recording has the one read of a notebook's owner, and these lines as its writes.
-fn is_recorded(recording: Constraint<NotebookCall, u64>, owner: u64, lines: &[u64]) -> bool {
+fn is_recorded(recording: Constraint<NotebookCall>, owner: u64, lines: &[u64]) -> bool {
     let (mut reads, writes) = recording.into_parts();
     let mut is_so = reads.extract(&NotebookCall::Owner) == Some(owner);
     is_so = is_so && writes.len() == lines.len();
@@ -205,7 +205,7 @@ fn add_three(
         &mut counter.track_mut(alloc),
         &mut Top::new(),
         true,
-        |view: &mut TrackedMut<'_, Counter>, recording: &mut Constraint<CounterCall, u64>| {
+        |view: &mut TrackedMut<'_, Counter>, recording: &mut Constraint<CounterCall>| {
             view.write(CounterCall::Add(3), recording)?;
             Ok(())
         },

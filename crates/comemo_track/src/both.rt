@@ -3,7 +3,7 @@ ghost use Rattle.std.specs.Prelude.{◌≡◌};
 ghost use Rattle.std.proofs.Common.{rules};
 
 use crate::multi::{MultiAnswer, MultiCall};
-use crate::track::{Track, View};
+use crate::track::{AnswerOf, Track, View};
 use std::alloc::{AllocError, Global};
 
 /// Two tracked values as one, which is tracked itself, so that a run can get both: a `View` of each.
@@ -22,23 +22,18 @@ pub struct Both<'a, A, B> {
 impl<'a, A: Track, B: Track> Track for Both<'a, A, B> {
     type Call = MultiCall<A::Call, B::Call>;
 
-    type Answer = MultiAnswer<A::Answer, B::Answer>;
-
     ghost use Rattle.comemo_track.specs.Multi.{part_answers};
-    ghost use Rattle.comemo_track.specs.MultiLaws.{by_parts, by_answers};
+    ghost use Rattle.comemo_track.specs.MultiLaws.{by_parts};
 
     ghost answers = { λ s. part_answers (A.answers s.first) (B.answers s.second) };
 
     ghost alike = { λ s. by_parts _ (A.alike s.first) (B.alike s.second)
         (λ c d h. Prim.search rules) (λ c d h. Prim.search rules) };
 
-    ghost clones = { by_answers _ A.clones B.clones
-        (λ a b h. Prim.search rules) (λ a b h. Prim.search rules) };
-
     fn ask(
         &self,
         call: &MultiCall<A::Call, B::Call>,
-    ) -> Result<MultiAnswer<A::Answer, B::Answer>, AllocError> {
+    ) -> Result<MultiAnswer<AnswerOf<A::Call>, AnswerOf<B::Call>>, AllocError> {
         match call {
             MultiCall::A(call) => Ok(MultiAnswer::A(self.first.read(call)?)),
             MultiCall::B(call) => Ok(MultiAnswer::B(self.second.read(call)?)),

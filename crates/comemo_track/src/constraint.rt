@@ -18,20 +18,20 @@ use std::marker::Model;
 /// It is incomplete once something that should be recorded was lost, and late once a read came after a write that
 /// touches it. Neither an incomplete nor a late recording is stored.
 #[derive(Drop)]
-pub struct Constraint<C: Call, R> {
-    reads: CallSequence<C, R>,
+pub struct Constraint<C: Call> {
+    reads: CallSequence<C, C::Answer>,
     writes: Vec<C>,
     complete: bool,
     late: bool,
 }
 
-impl<C: Call, R> Model for Constraint<C, R> {
+impl<C: Call> Model for Constraint<C> {
     ghost use Rattle.std.specs.Prelude.{◌-◌, vec_len, vec_capacity};
     ghost use Rattle.comemo_track.specs.Recording.{Recording, recording_code, IsRecording};
 
-    ghost Value = { Recording C R };
+    ghost Value = { Recording C C.Answer };
 
-    ghost coded = { recording_code C.code R.code };
+    ghost coded = { recording_code C.code C.Answer.code };
 
     ghost view = { λ s. record {
       pairs = s.reads.pairs;
@@ -44,7 +44,7 @@ impl<C: Call, R> Model for Constraint<C, R> {
     ghost invariant = { λ s. IsRecording C.eq C.is_write s.reads s.writes.items };
 }
 
-impl<C: Call, R> Constraint<C, R> {
+impl<C: Call> Constraint<C> {
     /// An empty recording: complete, and not late. Does not allocate.
     pub fn new(alloc: Global) -> Self
         ensures pairs { result.pairs ≡ [] }
@@ -83,7 +83,7 @@ impl<C: Call, R> Constraint<C, R> {
     }
 
     /// The recorded reads, as the sequence under which a cache stores them, and the recorded writes.
-    pub fn into_parts(self) -> (CallSequence<C, R>, Vec<C>)
+    pub fn into_parts(self) -> (CallSequence<C, C::Answer>, Vec<C>)
         ensures pairs { result.0.pairs ≡ self.pairs }
         ensures writes { result.1.items ≡ self.writes }
         ensures are_reads { All (λ p. C.is_write p.0 ≡ false) self.pairs }
@@ -99,12 +99,12 @@ impl<C: Call, R> Constraint<C, R> {
     }
 }
 
-impl<C: Call, R: Drop> Constraint<C, R> {
+impl<C: Call> Constraint<C> {
     /// Appends another recording: the reads whose calls aren't recorded here, and the writes.
     ///
     /// The result is incomplete if either is, and late if either is or an own write touches a read of the other: each
     /// own write is compared with each of those reads. On error this recording is incomplete, and the other is dropped.
-    pub fn absorb(&mut self, other: Constraint<C, R>) -> Result<(), AllocError>
+    pub fn absorb(&mut self, other: Constraint<C>) -> Result<(), AllocError>
         ensures pairs { OnOk result (self.new.pairs ≡ absorbed C.eq self.old.pairs other.pairs) }
         ensures writes { OnOk result (self.new.writes ≡ self.old.writes ++ other.writes) }
         ensures complete { OnOk result (self.new.complete ≡ (self.old.complete && other.complete)) }
@@ -131,7 +131,7 @@ impl<C: Call, R: Drop> Constraint<C, R> {
     /// Appends reads and writes. On error nothing is added.
     fn absorb_parts(
         &mut self,
-        reads: CallSequence<C, R>,
+        reads: CallSequence<C, C::Answer>,
         mut writes: Vec<C>,
     ) -> Result<(), AllocError>
         requires reads { All (λ p. C.is_write p.0 ≡ false) reads.pairs }
@@ -179,14 +179,14 @@ fn touch_some<C: Call, R>(writes: &Vec<C>, reads: &CallSequence<C, R>) -> bool
     false
 }
 
-impl<C: Call, R: Clone + Ord> Constraint<C, R> {
+impl<C: Call> Constraint<C> {
     /// Whether a value returns each recorded answer again. Asks the reads in order, up to the first that differs.
     ///
     /// Fails only if the value does, after equal answers. Writes don't matter.
-    pub fn validate<T: Track<Call = C, Answer = R>>(&self, value: &T) -> Result<bool, AllocError>
+    pub fn validate<T: Track<Call = C>>(&self, value: &T) -> Result<bool, AllocError>
         ensures ok { IfOk result
-            (λ valid. IsTrue valid ↔ Agrees R.eq (T.answers value.now) self.now.pairs) }
-        ensures err { OnErr result (AgreesBefore R.eq (T.answers value.now) self.now.pairs) }
+            (λ valid. IsTrue valid ↔ Agrees C.Answer.eq (T.answers value.now) self.now.pairs) }
+        ensures err { OnErr result (AgreesBefore C.Answer.eq (T.answers value.now) self.now.pairs) }
     {
         for slot in self.reads.slots() {
             if let Some((call, recorded)) = slot {
@@ -201,10 +201,8 @@ impl<C: Call, R: Clone + Ord> Constraint<C, R> {
 
 /// Records a read by `CallSequence::insert`, which clones a new call and keeps the first answer. A read that a recorded
 /// write touches makes the recording late, even if it is recorded already; each write is asked that.
-impl<C: Call, R: Clone + Ord> Sink for Constraint<C, R> {
+impl<C: Call> Sink for Constraint<C> {
     type Call = C;
-
-    type Answer = R;
 
     ghost use Rattle.comemo_track.specs.RecordingLaws.{took_nothing, took_both, took_more, took_keeps, took_held, took_holds, spoiled_held, marked_held};
 
@@ -234,7 +232,7 @@ impl<C: Call, R: Clone + Ord> Sink for Constraint<C, R> {
 
     ghost room = { λ s. s.room };
 
-    fn emit(&mut self, call: C, answer: Option<R>) -> Result<bool, AllocError>
+    fn emit(&mut self, call: C, answer: Option<C::Answer>) -> Result<bool, AllocError>
         requires answered { is_none answer ≡ C.is_write call }
         ensures ok { OnOk result
             (Took C.eq C.touches self.old self.new (sent_pairs call answer) (sent_writes call answer)) }

@@ -8,7 +8,7 @@ ghost use Rattle.comemo_track.specs.WritingLaws.{done_both, done_keeps};
 ghost use Rattle.comemo_track.specs.Views.{place_of};
 ghost use Rattle.comemo_track.specs.Writing.{touched_by};
 
-use crate::track::{Call, Track, View, Written};
+use crate::track::{AnswerOf, Call, Track, View, Written};
 use crate::writing::TrackedMut;
 use std::alloc::AllocError;
 use std::hash::Hash;
@@ -25,14 +25,11 @@ pub trait Input {
     /// What tells entries apart before any call is asked.
     type Key: Clone + Eq + Hash;
 
-    /// The answer to a read: one type for all calls.
-    type Answer: Clone + Ord;
-
     // the key
     ghost key_of: { Self → Self.Key };
 
     // what the input answers
-    ghost answers: { Self → Self.Call → Self.Answer };
+    ghost answers: { Self → Self.Call → Self.Call.Answer };
 
     // t is s after these writes, in order
     ghost did: { Self → Self → List Self.Call → Type 0 };
@@ -42,10 +39,10 @@ pub trait Input {
         ensures { IfOk result (λ key. IsTrue (Self.Key.eq (key_of self.now) key)) };
 
     /// The answer to a read. Writes nothing, even on error.
-    fn call(&mut self, call: &Self::Call) -> Result<Self::Answer, AllocError>
+    fn call(&mut self, call: &Self::Call) -> Result<AnswerOf<Self::Call>, AllocError>
         requires { Self.Call.is_write call.now ≡ false }
         ensures answer { IfOk result
-            (λ answer. IsTrue (Self.Answer.eq (answers self.old call.now) answer)) }
+            (λ answer. IsTrue (Self.Call.Answer.eq (answers self.old call.now) answer)) }
         ensures same { did self.old self.new [] };
 
     /// Does a write. On error nothing is written. An input that can't be written to ignores it. Never gets a read.
@@ -55,7 +52,7 @@ pub trait Input {
         ensures err { OnErr result (did self.old self.new []) };
 
     // equal calls have equal answers
-    ghost alike: { (s : Self) → Respects Self.Call.eq Self.Answer.eq (answers s) };
+    ghost alike: { (s : Self) → Respects Self.Call.eq Self.Call.Answer.eq (answers s) };
 
     // no writes change nothing
     ghost starts: { (s : Self) → did s s [] };
@@ -68,7 +65,7 @@ pub trait Input {
     ghost keeps: { (s t : Self) (W : List Self.Call)
         → did s t W → (call : Self.Call) → Self.Call.is_write call ≡ false
         → touched_by Self.Call.touches W call ≡ false
-        → IsTrue (Self.Answer.eq (answers s call) (answers t call)) };
+        → IsTrue (Self.Call.Answer.eq (answers s call) (answers t call)) };
 
     // so does the key
     ghost keeps_key: { (s t : Self) (W : List Self.Call)
@@ -93,8 +90,6 @@ impl<'a, 'b, K: Clone + Eq + Hash, T: Track> Input for Keyed<'a, 'b, K, T> {
 
     type Key = K;
 
-    type Answer = T::Answer;
-
     ghost key_of = { λ s. s.key.now };
 
     ghost answers = { λ s. T.answers s.view };
@@ -107,7 +102,7 @@ impl<'a, 'b, K: Clone + Eq + Hash, T: Track> Input for Keyed<'a, 'b, K, T> {
 
     ghost joins = { λ s t u V W a b. (b.0 ∙ a.0, b.1 ∙ a.1) };
 
-    ghost keeps = { λ s t W a call reads un. equal_if_one T.Answer.Eq.laws _ _
+    ghost keeps = { λ s t W a call reads un. equal_if_one T.Call.Answer.Eq.laws _ _
         (ap (λ view. T.answers view call) a.1) };
 
     ghost keeps_key = { λ s t W a. equal_if_one K.Eq.laws _ _ a.0 };
@@ -116,7 +111,7 @@ impl<'a, 'b, K: Clone + Eq + Hash, T: Track> Input for Keyed<'a, 'b, K, T> {
         self.key.clone()
     }
 
-    fn call(&mut self, call: &T::Call) -> Result<T::Answer, AllocError> {
+    fn call(&mut self, call: &T::Call) -> Result<AnswerOf<T::Call>, AllocError> {
         self.view.read(call)
     }
 
@@ -143,8 +138,6 @@ impl<'a, 'b, K: Clone + Eq + Hash, T: Track> Input for KeyedMut<'a, 'b, K, T> {
 
     type Key = K;
 
-    type Answer = T::Answer;
-
     ghost key_of = { λ s. s.key.now };
 
     ghost answers = { λ s. T.answers s.value.now };
@@ -157,14 +150,14 @@ impl<'a, 'b, K: Clone + Eq + Hash, T: Track> Input for KeyedMut<'a, 'b, K, T> {
     ghost starts = { λ s. (refl, refl, refl) };
 
     ghost joins = { λ s t u V W a b. (
-      done_both T.wrote T.Call.is_write T.Call.touches T.Answer.eq T.answers
+      done_both T.wrote T.Call.is_write T.Call.touches T.Call.Answer.eq T.answers
           s.value.now t.value.now u.value.now V W a.0 b.0,
       b.1 ∙ a.1,
       b.2 ∙ a.2,
     ) };
 
     ghost keeps = { λ s t W a. done_keeps T.wrote T.Call.is_write T.Call.touches
-        T.Answer.eq T.answers T.Answer.Eq.laws s.value.now t.value.now W a.0 };
+        T.Call.Answer.eq T.answers T.Call.Answer.Eq.laws s.value.now t.value.now W a.0 };
 
     ghost keeps_key = { λ s t W a. equal_if_one K.Eq.laws _ _ a.2 };
 
@@ -172,7 +165,7 @@ impl<'a, 'b, K: Clone + Eq + Hash, T: Track> Input for KeyedMut<'a, 'b, K, T> {
         self.key.clone()
     }
 
-    fn call(&mut self, call: &T::Call) -> Result<T::Answer, AllocError> {
+    fn call(&mut self, call: &T::Call) -> Result<AnswerOf<T::Call>, AllocError> {
         self.value.ask(call)
     }
 
@@ -188,8 +181,6 @@ impl<'a, T: Track> Input for View<'a, T> {
 
     type Key = ();
 
-    type Answer = T::Answer;
-
     ghost key_of = { λ _. tt };
 
     ghost answers = { λ s. T.answers s };
@@ -202,7 +193,7 @@ impl<'a, T: Track> Input for View<'a, T> {
 
     ghost joins = { λ s t u V W a b. b ∙ a };
 
-    ghost keeps = { λ s t W a call reads un. equal_if_one T.Answer.Eq.laws _ _
+    ghost keeps = { λ s t W a call reads un. equal_if_one T.Call.Answer.Eq.laws _ _
         (ap (λ view. T.answers view call) a) };
 
     ghost keeps_key = { λ _ _ _ _. refl };
@@ -211,7 +202,7 @@ impl<'a, T: Track> Input for View<'a, T> {
         Ok(())
     }
 
-    fn call(&mut self, call: &T::Call) -> Result<T::Answer, AllocError> {
+    fn call(&mut self, call: &T::Call) -> Result<AnswerOf<T::Call>, AllocError> {
         self.read(call)
     }
 
@@ -230,8 +221,6 @@ impl<'a, T: Track> Input for &mut View<'a, T> {
 
     type Key = ();
 
-    type Answer = T::Answer;
-
     ghost key_of = { λ _. tt };
 
     ghost answers = { λ s. T.answers s.now };
@@ -244,7 +233,7 @@ impl<'a, T: Track> Input for &mut View<'a, T> {
 
     ghost joins = { λ s t u V W a b. (b.0 ∙ a.0, b.1 ∙ a.1) };
 
-    ghost keeps = { λ s t W a call reads un. equal_if_one T.Answer.Eq.laws _ _
+    ghost keeps = { λ s t W a call reads un. equal_if_one T.Call.Answer.Eq.laws _ _
         (ap (λ view. T.answers view call) a.0) };
 
     ghost keeps_key = { λ s t W a. refl };
@@ -253,7 +242,7 @@ impl<'a, T: Track> Input for &mut View<'a, T> {
         Ok(())
     }
 
-    fn call(&mut self, call: &T::Call) -> Result<T::Answer, AllocError> {
+    fn call(&mut self, call: &T::Call) -> Result<AnswerOf<T::Call>, AllocError> {
         (**self).read(call)
     }
 
@@ -270,8 +259,6 @@ impl<'a, T: Track> Input for TrackedMut<'a, T> {
 
     type Key = ();
 
-    type Answer = T::Answer;
-
     ghost key_of = { λ _. tt };
 
     ghost answers = { λ s. T.answers (place_of s).now };
@@ -284,13 +271,13 @@ impl<'a, T: Track> Input for TrackedMut<'a, T> {
     ghost starts = { λ s. (refl, refl) };
 
     ghost joins = { λ s t u V W a b. (
-      done_both T.wrote T.Call.is_write T.Call.touches T.Answer.eq T.answers
+      done_both T.wrote T.Call.is_write T.Call.touches T.Call.Answer.eq T.answers
           (place_of s).now (place_of t).now (place_of u).now V W a.0 b.0,
       b.1 ∙ a.1,
     ) };
 
     ghost keeps = { λ s t W a.
-        done_keeps T.wrote T.Call.is_write T.Call.touches T.Answer.eq T.answers T.Answer.Eq.laws (place_of s).now (place_of t).now W a.0 };
+        done_keeps T.wrote T.Call.is_write T.Call.touches T.Call.Answer.eq T.answers T.Call.Answer.Eq.laws (place_of s).now (place_of t).now W a.0 };
 
     ghost keeps_key = { λ _ _ _ _. refl };
 
@@ -298,7 +285,7 @@ impl<'a, T: Track> Input for TrackedMut<'a, T> {
         Ok(())
     }
 
-    fn call(&mut self, call: &T::Call) -> Result<T::Answer, AllocError> {
+    fn call(&mut self, call: &T::Call) -> Result<AnswerOf<T::Call>, AllocError> {
         self.read(call)
     }
 
@@ -313,8 +300,6 @@ impl<'a, T: Track> Input for &mut TrackedMut<'a, T> {
 
     type Key = ();
 
-    type Answer = T::Answer;
-
     ghost key_of = { λ _. tt };
 
     ghost answers = { λ s. T.answers (place_of s.now).now };
@@ -328,14 +313,14 @@ impl<'a, T: Track> Input for &mut TrackedMut<'a, T> {
     ghost starts = { λ s. (refl, refl, refl) };
 
     ghost joins = { λ s t u V W a b. (
-      done_both T.wrote T.Call.is_write T.Call.touches T.Answer.eq T.answers
+      done_both T.wrote T.Call.is_write T.Call.touches T.Call.Answer.eq T.answers
           (place_of s.now).now (place_of t.now).now (place_of u.now).now V W a.0 b.0,
       b.1 ∙ a.1,
       b.2 ∙ a.2,
     ) };
 
     ghost keeps = { λ s t W a.
-        done_keeps T.wrote T.Call.is_write T.Call.touches T.Answer.eq T.answers T.Answer.Eq.laws (place_of s.now).now (place_of t.now).now W a.0 };
+        done_keeps T.wrote T.Call.is_write T.Call.touches T.Call.Answer.eq T.answers T.Call.Answer.Eq.laws (place_of s.now).now (place_of t.now).now W a.0 };
 
     ghost keeps_key = { λ _ _ _ _. refl };
 
@@ -343,7 +328,7 @@ impl<'a, T: Track> Input for &mut TrackedMut<'a, T> {
         Ok(())
     }
 
-    fn call(&mut self, call: &T::Call) -> Result<T::Answer, AllocError> {
+    fn call(&mut self, call: &T::Call) -> Result<AnswerOf<T::Call>, AllocError> {
         (**self).read(call)
     }
 
@@ -372,8 +357,6 @@ impl<T: Clone + Eq + Hash> Input for Hashed<T> {
     type Call = ();
 
     type Key = T;
-
-    type Answer = ();
 
     ghost key_of = { λ s. s };
 

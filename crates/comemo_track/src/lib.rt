@@ -49,6 +49,6 @@ pub use input::{Hashed, Input, Keyed, KeyedMut};
 pub use mapped::{CallMap, MappedSink};
 pub use multi::{First, Multi, MultiAnswer, MultiCall, Second};
 pub use read_and_write::ReadAndWrite;
-pub use track::{Breaking, Call, Sink, Top, Track, TrackedWith, View, Written};
+pub use track::{AnswerOf, Breaking, Call, Sink, Top, Track, TrackedWith, View, Written};
 pub use tracked::Tracked;
 pub use writing::{TrackedMut, TrackedMutWith};

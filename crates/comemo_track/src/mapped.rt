@@ -4,7 +4,7 @@ ghost use Rattle.std.proofs.Common.{◌∙◌};
 ghost use Rattle.comemo_track.specs.Mapped.{Through};
 ghost use Rattle.comemo_track.specs.Sending.{Asks, sent_pairs, sent_writes};
 
-use crate::track::{Call, Sink, Track, View};
+use crate::track::{AnswerOf, Call, Sink, Track, View};
 use std::alloc::AllocError;
 
 /// Renames calls and answers.
@@ -18,24 +18,18 @@ pub trait CallMap {
     /// The calls that they become.
     type To: Call;
 
-    /// The answers that are sent.
-    type FromAnswer: Clone + Ord;
-
-    /// The answers that they become.
-    type ToAnswer: Clone + Ord;
-
     // what a call becomes
     ghost maps: { Self → Self.From → Self.To };
 
     // what an answer becomes
-    ghost maps_answer: { Self → Self.FromAnswer → Self.ToAnswer };
+    ghost maps_answer: { Self → Self.From.Answer → Self.To.Answer };
 
     /// What a call becomes. Never fails.
     fn map(&self, call: Self::From) -> Self::To
         ensures { result ≡ maps self.now call };
 
     /// What an answer becomes. Never fails.
-    fn map_answer(&self, answer: Self::FromAnswer) -> Self::ToAnswer
+    fn map_answer(&self, answer: AnswerOf<Self::From>) -> AnswerOf<Self::To>
         ensures { result ≡ maps_answer self.now answer };
 
     // reads become reads and writes become writes
@@ -51,8 +45,8 @@ pub trait CallMap {
         → Self.To.eq (maps s x) (maps s y) ≡ Self.From.eq x y };
 
     // answers are equal exactly if their images are
-    ghost answers_apart: { (s : Self) (x y : Self.FromAnswer)
-        → Self.ToAnswer.eq (maps_answer s x) (maps_answer s y) ≡ Self.FromAnswer.eq x y };
+    ghost answers_apart: { (s : Self) (x y : Self.From.Answer)
+        → Self.To.Answer.eq (maps_answer s x) (maps_answer s y) ≡ Self.From.Answer.eq x y };
 }
 
 /// A sink that renames each call and its answer, and sends them to another sink. Fails if that does.
@@ -85,10 +79,8 @@ impl<'a, S, M: Drop> Drop for MappedSink<'a, S, M> {
     }
 }
 
-impl<'a, S: Sink<Call = M::To, Answer = M::ToAnswer>, M: CallMap> Sink for MappedSink<'a, S, M> {
+impl<'a, S: Sink<Call = M::To>, M: CallMap> Sink for MappedSink<'a, S, M> {
     type Call = M::From;
-
-    type Answer = M::FromAnswer;
 
     ghost use Rattle.comemo_track.specs.Mapped.{MapsTook, MapsSpoils, MapsLates};
     ghost use Rattle.comemo_track.specs.MappedLaws.{maps_nothing, maps_both, maps_more, maps_keeps, maps_held, maps_holds, maps_spoiled, maps_marked};
@@ -119,7 +111,11 @@ impl<'a, S: Sink<Call = M::To, Answer = M::ToAnswer>, M: CallMap> Sink for Mappe
 
     ghost room = { λ s. S.room s.sink.now };
 
-    fn emit(&mut self, call: M::From, answer: Option<M::FromAnswer>) -> Result<bool, AllocError>
+    fn emit(
+        &mut self,
+        call: M::From,
+        answer: Option<AnswerOf<M::From>>,
+    ) -> Result<bool, AllocError>
         requires answered { is_none answer ≡ M.From.is_write call }
         ensures ok { OnOk result (MapsTook S.took M.maps M.maps_answer self.old self.new
             (sent_pairs call answer) (sent_writes call answer)) }
@@ -162,12 +158,14 @@ impl<'a, S: Sink<Call = M::To, Answer = M::ToAnswer>, M: CallMap> Sink for Mappe
 
 impl<'a, T: Track> View<'a, T> {
     /// As `ask`, through a map: asks the value a read, and sends the renamed call and answer to a sink.
-    pub fn ask_through<
-        M: CallMap<From = T::Call, FromAnswer = T::Answer> + Drop,
-        S: Sink<Call = M::To, Answer = M::ToAnswer>,
-    >(&mut self, call: T::Call, map: M, sink: &mut S) -> Result<T::Answer, AllocError>
+    pub fn ask_through<M: CallMap<From = T::Call> + Drop, S: Sink<Call = M::To>>(
+        &mut self,
+        call: T::Call,
+        map: M,
+        sink: &mut S,
+    ) -> Result<AnswerOf<T::Call>, AllocError>
         requires { T.Call.is_write call ≡ false }
-        ensures ok { IfOk result (λ answer. Asks T.Answer.eq (T.answers self.old) call answer
+        ensures ok { IfOk result (λ answer. Asks T.Call.Answer.eq (T.answers self.old) call answer
             (Through (M.maps map) (M.maps_answer map) (S.took sink.old sink.new))) }
         ensures err { OnErr result (S.took sink.old sink.new [] []) }
         ensures same { self.new ≡ self.old }

@@ -4,7 +4,7 @@ ghost use Rattle.std.proofs.Common.{ap, ◌∙◌, sym, rules};
 
 use crate::input::Input;
 use crate::mapped::CallMap;
-use crate::track::Call;
+use crate::track::{AnswerOf, Call};
 use std::alloc::AllocError;
 use std::marker::PhantomData;
 
@@ -18,8 +18,10 @@ pub enum MultiCall<A, B> {
 }
 
 impl<A: Call, B: Call> Call for MultiCall<A, B> {
+    type Answer = MultiAnswer<A::Answer, B::Answer>;
+
     ghost use Rattle.comemo_track.specs.Multi.{by_part, part_touches};
-    ghost use Rattle.comemo_track.specs.MultiLaws.{by_parts};
+    ghost use Rattle.comemo_track.specs.MultiLaws.{by_parts, by_answers};
 
     ghost is_write = { by_part A.is_write B.is_write };
 
@@ -30,6 +32,9 @@ impl<A: Call, B: Call> Call for MultiCall<A, B> {
 
     ghost clones = { by_parts _ A.clones B.clones
         (λ c d h. Prim.search rules) (λ c d h. Prim.search rules) };
+
+    ghost answer_clones = { by_answers _ A.answer_clones B.answer_clones
+        (λ a b h. Prim.search rules) (λ a b h. Prim.search rules) };
 
     fn is_mutable(&self) -> bool {
         match self {
@@ -70,8 +75,6 @@ impl Input for Multi<()> {
 
     type Key = ();
 
-    type Answer = ();
-
     ghost key_of = { λ _. tt };
 
     ghost answers = { λ _ _. tt };
@@ -107,8 +110,6 @@ impl<A: Input, B: Input> Input for Multi<(A, B)> {
     type Call = MultiCall<A::Call, B::Call>;
 
     type Key = (A::Key, B::Key);
-
-    type Answer = MultiAnswer<A::Answer, B::Answer>;
 
     ghost use Rattle.comemo_track.specs.Multi.{part_answers, firsts, seconds};
     ghost use Rattle.comemo_track.specs.MultiLaws.{by_each, by_parts, both_did, touched_firsts, touched_seconds};
@@ -146,7 +147,7 @@ impl<A: Input, B: Input> Input for Multi<(A, B)> {
     fn call(
         &mut self,
         call: &MultiCall<A::Call, B::Call>,
-    ) -> Result<MultiAnswer<A::Answer, B::Answer>, AllocError> {
+    ) -> Result<MultiAnswer<AnswerOf<A::Call>, AnswerOf<B::Call>>, AllocError> {
         match call {
             MultiCall::A(call) => Ok(MultiAnswer::A(self.0.0.call(call)?)),
             MultiCall::B(call) => Ok(MultiAnswer::B(self.0.1.call(call)?)),
@@ -163,29 +164,21 @@ impl<A: Input, B: Input> Input for Multi<(A, B)> {
 
 /// Maps the calls and answers of the first part to those of the pair.
 #[derive(Drop)]
-pub struct First<A, B, RA, RB> {
+pub struct First<A, B> {
     calls: PhantomData<(A, B)>,
-    answers: PhantomData<(RA, RB)>,
 }
 
-impl<A, B, RA, RB> First<A, B, RA, RB> {
+impl<A, B> First<A, B> {
     /// A map for the first part.
     pub fn new() -> Self {
-        First {
-            calls: PhantomData,
-            answers: PhantomData,
-        }
+        First { calls: PhantomData }
     }
 }
 
-impl<A: Call, B: Call, RA: Clone + Ord, RB: Clone + Ord> CallMap for First<A, B, RA, RB> {
+impl<A: Call, B: Call> CallMap for First<A, B> {
     type From = A;
 
     type To = MultiCall<A, B>;
-
-    type FromAnswer = RA;
-
-    type ToAnswer = MultiAnswer<RA, RB>;
 
     ghost use Rattle.comemo_track.specs.Multi.{first_call, first_answer};
 
@@ -205,36 +198,28 @@ impl<A: Call, B: Call, RA: Clone + Ord, RB: Clone + Ord> CallMap for First<A, B,
         MultiCall::A(call)
     }
 
-    fn map_answer(&self, answer: RA) -> MultiAnswer<RA, RB> {
+    fn map_answer(&self, answer: A::Answer) -> MultiAnswer<A::Answer, B::Answer> {
         MultiAnswer::A(answer)
     }
 }
 
 /// Maps the calls and answers of the second part to those of the pair.
 #[derive(Drop)]
-pub struct Second<A, B, RA, RB> {
+pub struct Second<A, B> {
     calls: PhantomData<(A, B)>,
-    answers: PhantomData<(RA, RB)>,
 }
 
-impl<A, B, RA, RB> Second<A, B, RA, RB> {
+impl<A, B> Second<A, B> {
     /// A map for the second part.
     pub fn new() -> Self {
-        Second {
-            calls: PhantomData,
-            answers: PhantomData,
-        }
+        Second { calls: PhantomData }
     }
 }
 
-impl<A: Call, B: Call, RA: Clone + Ord, RB: Clone + Ord> CallMap for Second<A, B, RA, RB> {
+impl<A: Call, B: Call> CallMap for Second<A, B> {
     type From = B;
 
     type To = MultiCall<A, B>;
-
-    type FromAnswer = RB;
-
-    type ToAnswer = MultiAnswer<RA, RB>;
 
     ghost use Rattle.comemo_track.specs.Multi.{second_call, second_answer};
 
@@ -254,7 +239,7 @@ impl<A: Call, B: Call, RA: Clone + Ord, RB: Clone + Ord> CallMap for Second<A, B
         MultiCall::B(call)
     }
 
-    fn map_answer(&self, answer: RB) -> MultiAnswer<RA, RB> {
+    fn map_answer(&self, answer: B::Answer) -> MultiAnswer<A::Answer, B::Answer> {
         MultiAnswer::B(answer)
     }
 }

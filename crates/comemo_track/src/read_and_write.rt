@@ -3,7 +3,7 @@ ghost use Rattle.std.specs.Prelude.{◌≡◌};
 ghost use Rattle.std.proofs.Common.{rules};
 
 use crate::multi::{MultiAnswer, MultiCall};
-use crate::track::{Track, View};
+use crate::track::{AnswerOf, Track, View};
 use std::alloc::AllocError;
 
 /// Two tracked values as one: a `View` of the first, and a second that is borrowed to be read and written.
@@ -21,19 +21,14 @@ pub struct ReadAndWrite<'a, A, B> {
 impl<'a, A: Track, B: Track> Track for ReadAndWrite<'a, A, B> {
     type Call = MultiCall<A::Call, B::Call>;
 
-    type Answer = MultiAnswer<A::Answer, B::Answer>;
-
     ghost use Rattle.comemo_track.specs.Multi.{part_answers, OnCall};
     ghost use Rattle.comemo_track.specs.Writing.{WroteAt};
-    ghost use Rattle.comemo_track.specs.MultiLaws.{by_parts, by_answers};
+    ghost use Rattle.comemo_track.specs.MultiLaws.{by_parts};
 
     ghost answers = { λ s. part_answers (A.answers s.first) (B.answers s.second.now) };
 
     ghost alike = { λ s. by_parts _ (A.alike s.first) (B.alike s.second.now)
         (λ c d h. Prim.search rules) (λ c d h. Prim.search rules) };
-
-    ghost clones = { by_answers _ A.clones B.clones
-        (λ a b h. Prim.search rules) (λ a b h. Prim.search rules) };
 
     // a write changes the second value only, and a write to the first always fails
     ghost wrote = { λ s call t. OnCall
@@ -44,7 +39,7 @@ impl<'a, A: Track, B: Track> Track for ReadAndWrite<'a, A, B> {
     fn ask(
         &self,
         call: &MultiCall<A::Call, B::Call>,
-    ) -> Result<MultiAnswer<A::Answer, B::Answer>, AllocError> {
+    ) -> Result<MultiAnswer<AnswerOf<A::Call>, AnswerOf<B::Call>>, AllocError> {
         match call {
             MultiCall::A(call) => Ok(MultiAnswer::A(self.first.read(call)?)),
             MultiCall::B(call) => Ok(MultiAnswer::B(self.second.ask(call)?)),

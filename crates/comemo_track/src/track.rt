@@ -20,6 +20,9 @@ use std::marker::{Model, PhantomData};
 ///
 /// Calls are told apart by their `Eq`; a clone is equal to its original.
 pub trait Call: Clone + Eq + Hash {
+    /// The answer to a read: one type for all calls.
+    type Answer: Clone + Ord;
+
     // whether the call is a write
     ghost is_write: { Self → Bool };
 
@@ -39,10 +42,19 @@ pub trait Call: Clone + Eq + Hash {
 
     // a clone is equal
     ghost clones: { (x y : Self) → Self.is_clone x y → IsTrue (Self.eq x y) };
+
+    // so is a clone of an answer
+    ghost answer_clones: { (x y : Self.Answer)
+        → Self.Answer.is_clone x y → IsTrue (Self.Answer.eq x y) };
 }
+
+/// The answer to a call of this type.
+pub type AnswerOf<C> = <C as Call>::Answer;
 
 /// The only call of a value that has nothing to ask: a read.
 impl Call for () {
+    type Answer = ();
+
     ghost use Rattle.std.proofs.Common.{rules};
 
     ghost is_write = { λ _. false };
@@ -52,6 +64,8 @@ impl Call for () {
     ghost same_kind = { λ _ _ _. refl };
 
     ghost clones = { λ x y h. Prim.search rules };
+
+    ghost answer_clones = { λ x y h. Prim.search rules };
 
     fn is_mutable(&self) -> bool {
         false
@@ -70,11 +84,8 @@ pub trait Sink {
     /// The calls that are recorded.
     type Call: Call;
 
-    /// The answer to a read: one type for all calls.
-    type Answer: Clone + Ord;
-
     // t is s after it took these pairs and these writes
-    ghost took: { Self → Self → List (Self.Call × Self.Answer) → List Self.Call → Type 0 };
+    ghost took: { Self → Self → List (Self.Call × Self.Call.Answer) → List Self.Call → Type 0 };
 
     // t is s, marked incomplete
     ghost spoils: { Self → Self → Type 0 };
@@ -92,7 +103,11 @@ pub trait Sink {
     ///
     /// Returns false for a read that is held already, which isn't taken again, and otherwise true. On error nothing
     /// changes, and the call and its answer are dropped.
-    fn emit(&mut self, call: Self::Call, answer: Option<Self::Answer>) -> Result<bool, AllocError>
+    fn emit(
+        &mut self,
+        call: Self::Call,
+        answer: Option<AnswerOf<Self::Call>>,
+    ) -> Result<bool, AllocError>
         requires answered { is_none answer ≡ Self.Call.is_write call }
         ensures ok { OnOk result
             (took self.old self.new (sent_pairs call answer) (sent_writes call answer)) }
@@ -117,7 +132,7 @@ pub trait Sink {
     /// Whether the sink ignores all that it takes, so that a caller needn't clone for it. False is always right.
     fn keeps_nothing(&self) -> bool
         ensures { IsTrue result
-            → (P : List (Self.Call × Self.Answer)) (W : List Self.Call)
+            → (P : List (Self.Call × Self.Call.Answer)) (W : List Self.Call)
             → took self.now self.now P W }
     {
         false
@@ -128,27 +143,27 @@ pub trait Sink {
 
     // what is taken after reads only joins them
     ghost joins: { (s t u : Self)
-        (P Q : List (Self.Call × Self.Answer)) (W : List Self.Call)
+        (P Q : List (Self.Call × Self.Call.Answer)) (W : List Self.Call)
         → took s t P [] → took t u Q W → took s u (P ++ Q) W };
 
     // writes taken later join what was taken before
     ghost adds: { (s t u : Self)
-        (P : List (Self.Call × Self.Answer)) (V W : List Self.Call)
+        (P : List (Self.Call × Self.Call.Answer)) (V W : List Self.Call)
         → took s t P V → took t u [] W → took s u P (V ++ W) };
 
     // what is held stays held
     ghost keeps: { (s t : Self)
-        (P : List (Self.Call × Self.Answer)) (W : List Self.Call) (call : Self.Call)
+        (P : List (Self.Call × Self.Call.Answer)) (W : List Self.Call) (call : Self.Call)
         → took s t P W → IsTrue (holds s call) → IsTrue (holds t call) };
 
     // no answer is taken for a read that is held
-    ghost held_again: { (s t : Self) (call : Self.Call) (answer other : Self.Answer)
+    ghost held_again: { (s t : Self) (call : Self.Call) (answer other : Self.Call.Answer)
         → IsTrue (holds s call) → took s t ((call, answer) ∷ []) []
         → took s t ((call, other) ∷ []) [] };
 
     // what is held was held before, or was taken
     ghost holds_taken: { (s t : Self)
-        (P : List (Self.Call × Self.Answer)) (W : List Self.Call) (call : Self.Call)
+        (P : List (Self.Call × Self.Call.Answer)) (W : List Self.Call) (call : Self.Call)
         → took s t P W → IsTrue (holds t call)
         → IsTrue (holds s call) ⊎ IsTrue (held Self.Call.eq P call) };
 
@@ -164,15 +179,15 @@ pub trait Sink {
 /// What a sink is after a failure, for contracts, as `⟦<S as Breaking>⟧.breaks_off`. There is nothing to implement.
 pub trait Breaking: Sink {
     // t is s after it took a prefix of these pairs, and was then marked incomplete
-    ghost breaks_off: { Self → Self → List (Self.Call × Self.Answer) → Type 0 };
+    ghost breaks_off: { Self → Self → List (Self.Call × Self.Call.Answer) → Type 0 };
 
     // t is s after it took these pairs and writes, and was then marked incomplete
     ghost spoiled_after: { Self → Self
-        → List (Self.Call × Self.Answer) → List Self.Call → Type 0 };
+        → List (Self.Call × Self.Call.Answer) → List Self.Call → Type 0 };
 
     // t is s after it took these pairs and writes, and was marked late if they are
     ghost took_as: { Bool → Self → Self
-        → List (Self.Call × Self.Answer) → List Self.Call → Type 0 };
+        → List (Self.Call × Self.Call.Answer) → List Self.Call → Type 0 };
 }
 
 impl<S: Sink> Breaking for S {
@@ -186,8 +201,6 @@ impl<S: Sink> Breaking for S {
 /// A sink by reference.
 impl<S: Sink> Sink for &mut S {
     type Call = S::Call;
-
-    type Answer = S::Answer;
 
     ghost took = { λ s t P W. S.took s.now t.now P W × (t.ghost_name ≡ s.ghost_name) };
 
@@ -216,7 +229,11 @@ impl<S: Sink> Sink for &mut S {
 
     ghost room = { λ s. S.room s.now };
 
-    fn emit(&mut self, call: S::Call, answer: Option<S::Answer>) -> Result<bool, AllocError>
+    fn emit(
+        &mut self,
+        call: S::Call,
+        answer: Option<AnswerOf<S::Call>>,
+    ) -> Result<bool, AllocError>
         requires answered { is_none answer ≡ S.Call.is_write call }
         ensures ok { OnOk result
             (S.took self.old.now self.new.now (sent_pairs call answer) (sent_writes call answer)
@@ -255,25 +272,19 @@ impl<S: Sink> Sink for &mut S {
 
 /// A sink that ignores all that it takes, for calls outside of any memoized function. Never fails.
 #[derive(Drop)]
-pub struct Top<C, R> {
+pub struct Top<C> {
     calls: PhantomData<C>,
-    answers: PhantomData<R>,
 }
 
-impl<C, R> Top<C, R> {
+impl<C> Top<C> {
     /// A new such sink.
     pub fn new() -> Self {
-        Top {
-            calls: PhantomData,
-            answers: PhantomData,
-        }
+        Top { calls: PhantomData }
     }
 }
 
-impl<C: Call, R: Clone + Ord> Sink for Top<C, R> {
+impl<C: Call> Sink for Top<C> {
     type Call = C;
-
-    type Answer = R;
 
     ghost took = { λ _ _ _ _. ⊤ };
 
@@ -302,7 +313,7 @@ impl<C: Call, R: Clone + Ord> Sink for Top<C, R> {
     // more than can be asked for
     ghost room = { λ _. 2 ^ 64 };
 
-    fn emit(&mut self, call: C, answer: Option<R>) -> Result<bool, AllocError>
+    fn emit(&mut self, call: C, answer: Option<C::Answer>) -> Result<bool, AllocError>
         requires answered { is_none answer ≡ C.is_write call }
         ensures { result ≡ Ok true }
     {
@@ -333,16 +344,14 @@ pub trait Track {
     /// What can be asked or written.
     type Call: Call;
 
-    /// The answer to a read: one type for all calls.
-    type Answer: Clone + Ord;
-
     // what the value answers
-    ghost answers: { Self → Self.Call → Self.Answer };
+    ghost answers: { Self → Self.Call → Self.Call.Answer };
 
     /// The answer to a read. Changes nothing, even on error. Never gets a write.
-    fn ask(&self, call: &Self::Call) -> Result<Self::Answer, AllocError>
+    fn ask(&self, call: &Self::Call) -> Result<AnswerOf<Self::Call>, AllocError>
         ensures { Self.Call.is_write call.now ≡ false
-            → IfOk result (λ answer. IsTrue (Self.Answer.eq (answers self.now call.now) answer)) };
+            → IfOk result
+            (λ answer. IsTrue (Self.Call.Answer.eq (answers self.now call.now) answer)) };
 
     // what a write does: the value before it, the write, and the value after it
     ghost wrote: { Self → Self.Call → Self → Type 0 } = { λ _ _ _. ⊤ };
@@ -355,7 +364,7 @@ pub trait Track {
         ensures ok { Self.Call.is_write call.now ≡ true
             → OnOk result (wrote self.old call.now self.new) }
         ensures reads { OnOk result
-            (SameReads Self.Call.is_write (Self.Call.touches call.now) Self.Answer.eq
+            (SameReads Self.Call.is_write (Self.Call.touches call.now) Self.Call.Answer.eq
             (answers self.old) (answers self.new)) }
         ensures err { OnErr result (self.new ≡ self.old) }
     {
@@ -384,7 +393,7 @@ pub trait Track {
     }
 
     /// A view of the value that sends its reads to a sink, which it borrows. It keeps no answers.
-    final fn track_with<'a, S: Sink<Call = Self::Call, Answer = Self::Answer>>(
+    final fn track_with<'a, S: Sink<Call = Self::Call>>(
         &'a self,
         alloc: Global,
         sink: &'a mut S,
@@ -411,7 +420,7 @@ pub trait Track {
     }
 
     /// A view of the value that reads and writes, and sends its calls to a sink, which it borrows.
-    final fn track_mut_with<'a, S: Sink<Call = Self::Call, Answer = Self::Answer>>(
+    final fn track_mut_with<'a, S: Sink<Call = Self::Call>>(
         &'a mut self,
         alloc: Global,
         sink: &'a mut S,
@@ -428,10 +437,7 @@ pub trait Track {
     }
 
     // equal calls have equal answers
-    ghost alike: { (s : Self) → Respects Self.Call.eq Self.Answer.eq (answers s) };
-
-    // a clone of an answer is equal
-    ghost clones: { (x y : Self.Answer) → Self.Answer.is_clone x y → IsTrue (Self.Answer.eq x y) };
+    ghost alike: { (s : Self) → Respects Self.Call.eq Self.Call.Answer.eq (answers s) };
 }
 
 /// What writes do to a tracked value, for contracts, as `⟦<T as Written>⟧.did`. There is nothing to implement.
@@ -441,22 +447,16 @@ pub trait Written: Track {
 }
 
 impl<T: Track> Written for T {
-    ghost did = { Done T.wrote T.Call.is_write T.Call.touches T.Answer.eq T.answers };
+    ghost did = { Done T.wrote T.Call.is_write T.Call.touches T.Call.Answer.eq T.answers };
 }
 
 /// Nothing: the tracked value of a function that asks nothing. Never fails.
 impl Track for () {
     type Call = ();
 
-    type Answer = ();
-
-    ghost use Rattle.std.proofs.Common.{rules};
-
     ghost answers = { λ _ _. tt };
 
     ghost alike = { λ _ _ _ _. refl };
-
-    ghost clones = { λ x y h. Prim.search rules };
 
     fn ask(&self, _call: &()) -> Result<(), AllocError> {
         Ok(())
@@ -483,13 +483,13 @@ impl<'a, T: Track> View<'a, T> {
     ///
     /// The value is asked once, even if the sink holds the read. Fails if the answer, its clone or the sink does; the
     /// sink is then unchanged.
-    pub fn ask<S: Sink<Call = T::Call, Answer = T::Answer>>(
+    pub fn ask<S: Sink<Call = T::Call>>(
         &mut self,
         call: T::Call,
         sink: &mut S,
-    ) -> Result<T::Answer, AllocError>
+    ) -> Result<AnswerOf<T::Call>, AllocError>
         requires { T.Call.is_write call ≡ false }
-        ensures ok { IfOk result (λ answer. Asks T.Answer.eq (T.answers self.old) call answer
+        ensures ok { IfOk result (λ answer. Asks T.Call.Answer.eq (T.answers self.old) call answer
             (S.took sink.old sink.new)) }
         ensures err { OnErr result (S.took sink.old sink.new [] []) }
         ensures same { self.new ≡ self.old }
@@ -501,9 +501,10 @@ impl<'a, T: Track> View<'a, T> {
     }
 
     /// The answer to a read, which isn't recorded: for look-ups.
-    pub(crate) fn read(&self, call: &T::Call) -> Result<T::Answer, AllocError>
+    pub(crate) fn read(&self, call: &T::Call) -> Result<AnswerOf<T::Call>, AllocError>
         ensures { T.Call.is_write call.now ≡ false
-            → IfOk result (λ answer. IsTrue (T.Answer.eq (T.answers self.now call.now) answer)) }
+            → IfOk result
+            (λ answer. IsTrue (T.Call.Answer.eq (T.answers self.now call.now) answer)) }
     {
         self.value.ask(call)
     }
@@ -537,12 +538,12 @@ pub struct TrackedWith<'a, T, S> {
     pub(crate) sink: &'a mut S,
 }
 
-impl<'a, T: Track, S: Sink<Call = T::Call, Answer = T::Answer>> TrackedWith<'a, T, S> {
+impl<'a, T: Track, S: Sink<Call = T::Call>> TrackedWith<'a, T, S> {
     /// Asks the value a read, and sends the call with its answer to the view's sink, as `View::ask` does.
-    pub fn ask(&mut self, call: T::Call) -> Result<T::Answer, AllocError>
+    pub fn ask(&mut self, call: T::Call) -> Result<AnswerOf<T::Call>, AllocError>
         requires { T.Call.is_write call ≡ false }
         ensures ok { IfOk result (λ answer.
-            Asks T.Answer.eq (T.answers (value_of self.old)) call answer
+            Asks T.Call.Answer.eq (T.answers (value_of self.old)) call answer
             (S.took (sink_of self.old).now (sink_of self.new).now)) }
         ensures err { OnErr result (S.took (sink_of self.old).now (sink_of self.new).now [] []) }
         ensures value { value_of self.new ≡ value_of self.old }

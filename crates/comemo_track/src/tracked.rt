@@ -9,7 +9,7 @@ ghost use Rattle.comemo_track.specs.Answered.{StaysKnown};
 ghost use Rattle.comemo_track.specs.InputLaws.{equal_if_one};
 
 use crate::input::Input;
-use crate::track::{Sink, Track, View};
+use crate::track::{AnswerOf, Sink, Track, View};
 use std::alloc::{AllocError, Global};
 use std::collections::HashMap;
 use std::fmt;
@@ -25,24 +25,24 @@ use std::marker::Model;
 pub struct Tracked<'a, T: Track> {
     pub(crate) value: &'a T,
     // The first call asked, with its answer.
-    pub(crate) first: Option<(T::Call, T::Answer)>,
+    pub(crate) first: Option<(T::Call, AnswerOf<T::Call>)>,
     // The other calls asked, with their answers.
-    pub(crate) table: HashMap<T::Call, T::Answer>,
+    pub(crate) table: HashMap<T::Call, AnswerOf<T::Call>>,
 }
 
 impl<'a, T: Track> Model for Tracked<'a, T> {
     ghost use Rattle.comemo_track.specs.Answered.{Answered, answered_code, IsAnswered, known_of};
 
-    ghost Value = { Answered T T.Call T.Answer };
+    ghost Value = { Answered T T.Call T.Call.Answer };
 
-    ghost coded = { answered_code T.code T.Call.code T.Answer.code };
+    ghost coded = { answered_code T.code T.Call.code T.Call.Answer.code };
 
     ghost view = { λ s. record {
       value = s.value.now;
       known = known_of s.first s.table.entries;
     } };
 
-    ghost invariant = { λ s. IsAnswered T.Call.eq T.Call.is_write T.Answer.eq
+    ghost invariant = { λ s. IsAnswered T.Call.eq T.Call.is_write T.Call.Answer.eq
         (T.answers s.value.now) (known_of s.first s.table.entries) };
 }
 
@@ -63,13 +63,14 @@ impl<'a, T: Track> Tracked<'a, T> {
     ///
     /// Fails if the value has to be asked and fails, or if a clone of the answer or the sink does; the sink is then
     /// unchanged. A kept answer that can't be cloned is asked again.
-    pub fn ask<S: Sink<Call = T::Call, Answer = T::Answer>>(
+    pub fn ask<S: Sink<Call = T::Call>>(
         &mut self,
         call: T::Call,
         sink: &mut S,
-    ) -> Result<T::Answer, AllocError>
+    ) -> Result<AnswerOf<T::Call>, AllocError>
         requires { T.Call.is_write call ≡ false }
-        ensures ok { IfOk result (λ answer. Asks T.Answer.eq (T.answers self.old.value) call answer
+        ensures ok { IfOk result (λ answer.
+            Asks T.Call.Answer.eq (T.answers self.old.value) call answer
             (S.took sink.old sink.new)) }
         ensures err { OnErr result (S.took sink.old sink.new [] []) }
         ensures same { self.new.value ≡ self.old.value }
@@ -82,11 +83,11 @@ impl<'a, T: Track> Tracked<'a, T> {
     }
 
     /// The kept answer to a call, if there is one. The value isn't asked.
-    pub fn known(&self, call: &T::Call) -> Option<&T::Answer>
+    pub fn known(&self, call: &T::Call) -> Option<&AnswerOf<T::Call>>
         ensures known { option_copied result ≡ lookup (T.Call.eq call.now) self.now.known }
         ensures read { IfSome result (λ _. T.Call.is_write call.now ≡ false) }
         ensures right { IfSome result
-            (λ answer. IsTrue (T.Answer.eq (T.answers self.now.value call.now) answer.now)) }
+            (λ answer. IsTrue (T.Call.Answer.eq (T.answers self.now.value call.now) answer.now)) }
     {
         // A use of the field makes the invariant known to the proof: what is kept is the value's answer.
         let _ = &self.value;
@@ -94,7 +95,7 @@ impl<'a, T: Track> Tracked<'a, T> {
     }
 
     /// The kept answer to a call, in the first pair or in the table.
-    fn kept(&self, call: &T::Call) -> Option<&T::Answer>
+    fn kept(&self, call: &T::Call) -> Option<&AnswerOf<T::Call>>
         ensures { option_copied result ≡ lookup (T.Call.eq call.now) self.now.known }
     {
         if let Some((first, answer)) = &self.first {
@@ -106,10 +107,10 @@ impl<'a, T: Track> Tracked<'a, T> {
     }
 
     /// The answer to a read: what is kept, or else the value's, which is then kept. Sends nothing.
-    fn answer(&mut self, call: &T::Call) -> Result<T::Answer, AllocError>
+    fn answer(&mut self, call: &T::Call) -> Result<AnswerOf<T::Call>, AllocError>
         requires { T.Call.is_write call.now ≡ false }
         ensures ok { IfOk result
-            (λ answer. IsTrue (T.Answer.eq (T.answers self.old.value call.now) answer)) }
+            (λ answer. IsTrue (T.Call.Answer.eq (T.answers self.old.value call.now) answer)) }
         ensures same { self.new.value ≡ self.old.value }
         ensures known { StaysKnown T.Call.eq self.old.known self.new.known }
     {
@@ -125,9 +126,9 @@ impl<'a, T: Track> Tracked<'a, T> {
     }
 
     /// Keeps the value's answer to a read. On error nothing changes.
-    fn keep(&mut self, call: &T::Call, answer: &T::Answer) -> Result<(), AllocError>
+    fn keep(&mut self, call: &T::Call, answer: &AnswerOf<T::Call>) -> Result<(), AllocError>
         requires read { T.Call.is_write call.now ≡ false }
-        requires right { IsTrue (T.Answer.eq (T.answers self.old.value call.now) answer.now) }
+        requires right { IsTrue (T.Call.Answer.eq (T.answers self.old.value call.now) answer.now) }
         ensures kept { OnOk result (IsTrue (held T.Call.eq self.new.known call.now)) }
         ensures err { OnErr result (self.new ≡ self.old) }
         ensures same { self.new.value ≡ self.old.value }
@@ -167,8 +168,6 @@ impl<'a, T: Track> Input for Tracked<'a, T> {
 
     type Key = ();
 
-    type Answer = T::Answer;
-
     ghost key_of = { λ _. tt };
 
     ghost answers = { λ s. T.answers s.value };
@@ -181,7 +180,7 @@ impl<'a, T: Track> Input for Tracked<'a, T> {
 
     ghost joins = { λ s t u V W a b. (b.0 ∙ a.0, λ call h. b.1 call (a.1 call h)) };
 
-    ghost keeps = { λ s t W a call reads un. equal_if_one T.Answer.Eq.laws _ _
+    ghost keeps = { λ s t W a call reads un. equal_if_one T.Call.Answer.Eq.laws _ _
         (ap (λ value. T.answers value call) a.0) };
 
     ghost keeps_key = { λ _ _ _ _. refl };
@@ -190,7 +189,7 @@ impl<'a, T: Track> Input for Tracked<'a, T> {
         Ok(())
     }
 
-    fn call(&mut self, call: &T::Call) -> Result<T::Answer, AllocError> {
+    fn call(&mut self, call: &T::Call) -> Result<AnswerOf<T::Call>, AllocError> {
         self.answer(call)
     }
 
@@ -204,10 +203,10 @@ impl<'a, T: Track> Input for Tracked<'a, T> {
 ///
 /// A function of its own, since the checker follows a loan through two references to a type parameter, but not to a
 /// view.
-fn call_behind<I: Input>(input: &mut &mut I, call: &I::Call) -> Result<I::Answer, AllocError>
+fn call_behind<I: Input>(input: &mut &mut I, call: &I::Call) -> Result<AnswerOf<I::Call>, AllocError>
     requires { I.Call.is_write call.now ≡ false }
     ensures answer { IfOk result
-        (λ answer. IsTrue (I.Answer.eq (I.answers input.old.now call.now) answer)) }
+        (λ answer. IsTrue (I.Call.Answer.eq (I.answers input.old.now call.now) answer)) }
     ensures same { I.did input.old.now input.new.now [] }
     ensures name { input.new.ghost_name ≡ input.old.ghost_name }
 {
@@ -223,8 +222,6 @@ impl<'a, T: Track> Input for &mut Tracked<'a, T> {
 
     type Key = ();
 
-    type Answer = T::Answer;
-
     ghost key_of = { λ _. tt };
 
     ghost answers = { λ s. T.answers s.now.value };
@@ -239,7 +236,7 @@ impl<'a, T: Track> Input for &mut Tracked<'a, T> {
 
     ghost joins = { λ s t u V W a b. (b.0 ∙ a.0, (λ call h. b.1 call (a.1 call h)), b.2 ∙ a.2) };
 
-    ghost keeps = { λ s t W a call reads un. equal_if_one T.Answer.Eq.laws _ _
+    ghost keeps = { λ s t W a call reads un. equal_if_one T.Call.Answer.Eq.laws _ _
         (ap (λ value. T.answers value call) a.0) };
 
     ghost keeps_key = { λ s t W a. refl };
@@ -248,7 +245,7 @@ impl<'a, T: Track> Input for &mut Tracked<'a, T> {
         Ok(())
     }
 
-    fn call(&mut self, call: &T::Call) -> Result<T::Answer, AllocError> {
+    fn call(&mut self, call: &T::Call) -> Result<AnswerOf<T::Call>, AllocError> {
         call_behind(self, call)
     }
 

@@ -3,7 +3,7 @@ ghost use Rattle.std.specs.Prelude.{◌≡◌, [], ◌∷◌, true, false, Some,
 ghost use Rattle.comemo_track.specs.Sending.{Asks};
 ghost use Rattle.comemo_track.specs.Views.{value_of, sink_of, place_of, place_in, writing_sink_of};
 
-use crate::track::{Sink, Track, TrackedWith, View, Written};
+use crate::track::{AnswerOf, Sink, Track, TrackedWith, View, Written};
 use crate::tracked::Tracked;
 use std::alloc::{AllocError, Global};
 use std::fmt;
@@ -18,14 +18,14 @@ pub struct TrackedMut<'a, T> {
 
 impl<'a, T: Track> TrackedMut<'a, T> {
     /// Asks the value a read, and sends the call with its answer to a sink, as `View::ask` does.
-    pub fn ask<S: Sink<Call = T::Call, Answer = T::Answer>>(
+    pub fn ask<S: Sink<Call = T::Call>>(
         &mut self,
         call: T::Call,
         sink: &mut S,
-    ) -> Result<T::Answer, AllocError>
+    ) -> Result<AnswerOf<T::Call>, AllocError>
         requires { T.Call.is_write call ≡ false }
         ensures ok { IfOk result (λ answer.
-            Asks T.Answer.eq (T.answers (place_of self.old).now) call answer
+            Asks T.Call.Answer.eq (T.answers (place_of self.old).now) call answer
             (S.took sink.old sink.new)) }
         ensures err { OnErr result (S.took sink.old sink.new [] []) }
         ensures same { self.new ≡ self.old }
@@ -39,7 +39,7 @@ impl<'a, T: Track> TrackedMut<'a, T> {
     /// Does a write on the value, and sends it to a sink, which makes room first.
     ///
     /// Fails if the value or the sink does; then neither has changed.
-    pub fn write<S: Sink<Call = T::Call, Answer = T::Answer>>(
+    pub fn write<S: Sink<Call = T::Call>>(
         &mut self,
         call: T::Call,
         sink: &mut S,
@@ -62,10 +62,10 @@ impl<'a, T: Track> TrackedMut<'a, T> {
     }
 
     /// The answer to a read, which isn't recorded: for look-ups.
-    pub(crate) fn read(&self, call: &T::Call) -> Result<T::Answer, AllocError>
+    pub(crate) fn read(&self, call: &T::Call) -> Result<AnswerOf<T::Call>, AllocError>
         requires { T.Call.is_write call.now ≡ false }
         ensures { IfOk result
-            (λ answer. IsTrue (T.Answer.eq (T.answers (place_of self.now).now call.now) answer)) }
+            (λ answer. IsTrue (T.Call.Answer.eq (T.answers (place_of self.now).now call.now) answer)) }
     {
         self.value.ask(call)
     }
@@ -125,12 +125,12 @@ pub struct TrackedMutWith<'a, T, S> {
     pub(crate) sink: &'a mut S,
 }
 
-impl<'a, T: Track, S: Sink<Call = T::Call, Answer = T::Answer>> TrackedMutWith<'a, T, S> {
+impl<'a, T: Track, S: Sink<Call = T::Call>> TrackedMutWith<'a, T, S> {
     /// Asks the value a read, and sends the call with its answer to the view's sink, as `View::ask` does.
-    pub fn ask(&mut self, call: T::Call) -> Result<T::Answer, AllocError>
+    pub fn ask(&mut self, call: T::Call) -> Result<AnswerOf<T::Call>, AllocError>
         requires { T.Call.is_write call ≡ false }
         ensures ok { IfOk result (λ answer.
-            Asks T.Answer.eq (T.answers (place_in self.old).now) call answer
+            Asks T.Call.Answer.eq (T.answers (place_in self.old).now) call answer
             (S.took (writing_sink_of self.old).now (writing_sink_of self.new).now)) }
         ensures err { OnErr result
             (S.took (writing_sink_of self.old).now (writing_sink_of self.new).now [] []) }

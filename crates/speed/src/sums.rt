@@ -25,8 +25,6 @@ impl Function for SumOfCells {
 
     type Call = Get;
 
-    type Answer = u64;
-
     type Out = u64;
 
     ghost means = { λ _ _ _. ⊤ };
@@ -34,9 +32,7 @@ impl Function for SumOfCells {
     ghost laws = { Prim.search rules };
 }
 
-impl Run<Cells> for SumOfCells {
-    type Needs = ();
-
+impl Run<Cells, ()> for SumOfCells {
     fn run(key: &SumKey, cells: &mut Recorder<'_, Cells>, _needs: &mut ()) -> Result<u64, Fault> {
         let mut sum = key.start;
         for place in 0..key.count {

@@ -23,8 +23,6 @@ impl Function for ByText {
 
     type Key = String;
 
-    type Answer = ();
-
     type Out = u64;
 
     ghost means = { λ _ _ _. ⊤ };
@@ -41,8 +39,6 @@ impl Function for ByNumber {
     type Call = ();
 
     type Key = u128;
-
-    type Answer = ();
 
     type Out = u64;
 

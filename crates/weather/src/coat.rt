@@ -14,8 +14,6 @@ impl Function for Coat {
 
     type Call = WeatherCall;
 
-    type Answer = u64;
-
     type Out = bool;
 
     ghost use Rattle.weather.specs.declared.weather.WeatherCall.TheVariants.{Degrees};
@@ -25,9 +23,7 @@ impl Function for Coat {
     ghost laws = { Prim.search rules };
 }
 
-impl Run<Weather> for Coat {
-    type Needs = ();
-
+impl Run<Weather, ()> for Coat {
     fn run(least: &u64, of: &mut Recorder<'_, Weather>, _needs: &mut ()) -> Result<bool, Fault> {
         let degrees = of.ask(WeatherCall::Degrees)?;
         Ok(degrees < *least)

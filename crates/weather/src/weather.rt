@@ -15,6 +15,8 @@ pub enum WeatherCall {
 }
 
 impl Call for WeatherCall {
+    type Answer = u64;
+
     ghost is_write = { λ _. false };
 
     ghost touches = { λ _ _. false };
@@ -22,6 +24,8 @@ impl Call for WeatherCall {
     ghost same_kind = { λ x y h. refl };
 
     ghost clones = { λ x y h. Prim.search rules };
+
+    ghost answer_clones = { λ x y h. Prim.search rules };
 
     fn is_mutable(&self) -> bool {
         false
@@ -44,15 +48,11 @@ pub struct Weather {
 impl Track for Weather {
     type Call = WeatherCall;
 
-    type Answer = u64;
-
     ghost use Rattle.weather.specs.Weathers.{answer};
 
     ghost answers = { λ s call. answer s.degrees s.wind call };
 
     ghost alike = { λ s x y h. Prim.search rules };
-
-    ghost clones = { λ x y h. Prim.search rules };
 
     fn ask(&self, call: &WeatherCall) -> Result<u64, AllocError> {
         match call {

@@ -10,7 +10,7 @@ fn branch(
     alloc: Global,
     view: &View<'_, Cells>,
     places: [u32; 2],
-) -> Result<Constraint<Get, u64>, AllocError> {
+) -> Result<Constraint<Get>, AllocError> {
     let mut view = view.fork(alloc);
     let mut recording = Constraint::new(alloc);
     for place in places {

@@ -19,8 +19,6 @@ impl Function for Empty {
 
     type Key = ();
 
-    type Answer = u64;
-
     type Out = String;
 
     ghost use Rattle.std.specs.Prelude.{string_bytes};

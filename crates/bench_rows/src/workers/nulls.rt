@@ -14,8 +14,6 @@ impl Function for Null {
 
     type Call = ();
 
-    type Answer = ();
-
     type Out = u64;
 
     ghost means = { λ _ _ out. out ≡ 0 };
@@ -23,9 +21,7 @@ impl Function for Null {
     ghost laws = { Prim.search rules };
 }
 
-impl Run<()> for Null {
-    type Needs = ();
-
+impl Run<(), ()> for Null {
     fn run(_key: &(), _of: &mut Recorder<'_, ()>, _needs: &mut ()) -> Result<u64, Fault> {
         Ok(0)
     }

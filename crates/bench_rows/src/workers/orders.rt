@@ -19,8 +19,6 @@ impl Function for Whole {
 
     type Key = ();
 
-    type Answer = u64;
-
     type Out = ();
 
     ghost use Rattle.comemo.specs.Meaning.{names};

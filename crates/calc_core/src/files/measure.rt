@@ -24,8 +24,6 @@ impl Function for FileSize {
 
     type Key = (String, ());
 
-    type Answer = MultiAnswer<(), Text>;
-
     type Out = u64;
 
     ghost use Rattle.calc_core.specs.SizeLaws.{size_alike};
@@ -37,14 +35,13 @@ impl Function for FileSize {
       keys = λ j k m output writes r e h. (h.0, size_alike j k m output r e h.1);
       writes = λ key m output V W r same h. (none_alike _ V W same h.0, h.1);
       key_clones = Prim.search rules;
-      answer_clones = Prim.search rules;
     } };
 }
 
 /// The memoized size of the file at a path, in bytes, as the file is now.
 ///
 /// On error the cache is unchanged, and the sink is incomplete. A stored run keeps the file's text, which it shares.
-pub fn size<S: Sink<Call = JoinedCall, Answer = JoinedAnswer>>(
+pub fn size<S: Sink<Call = JoinedCall>>(
     alloc: Global,
     cache: &mut CacheData<FileSize>,
     files: &View<'_, Files>,

@@ -12,7 +12,7 @@ pub end-requires-clause-settled : goal.end-requires-clause-settled
 end-requires-clause-settled g c =
     let run = rw (c.in-Ok-Run.is, c.in-Ok-Run.field-0-is) at c.begin.ensures.run in
     let is = run_seen c.pending.view_is (some_held (g.H.Hold.entries c.args.cache.now) _ run.0).1 in
-    λ output ok w l. named_moved g.met.M.Call.Eq.laws g.met.M.Answer.Eq.laws g.met.M.Key.Eq.laws g.M.Function.naming _ _ _ is.has_key (c.requires.settled output c.into_constraint.result (held_map (g.H.Hold.entries c.args.cache.now) _ _ (λ es began. ran_from began g.In.Input.did g.P.Record.recorded _ c.args.input.now c.into_constraint.result (Ok output) run.1 c.empty-recording.ensures.pairs c.empty-recording.ensures.writes c.empty-recording.ensures.complete c.empty-recording.ensures.early (rw ok at c.func-ran.ensures) c.into_constraint.ensures) run.0) w l)
+    λ output ok w l. named_moved g.met.M.Call.Eq.laws g.met.M.Call.Answer.Eq.laws g.met.M.Key.Eq.laws g.M.Function.naming _ _ _ is.has_key (c.requires.settled output c.into_constraint.result (held_map (g.H.Hold.entries c.args.cache.now) _ _ (λ es began. ran_from began g.In.Input.did g.P.Record.recorded _ c.args.input.now c.into_constraint.result (Ok output) run.1 c.empty-recording.ensures.pairs c.empty-recording.ensures.writes c.empty-recording.ensures.complete c.empty-recording.ensures.early (rw ok at c.func-ran.ensures) c.into_constraint.ensures) run.0) w l)
 
 pub end-requires-clause-stands : goal.end-requires-clause-stands
 end-requires-clause-stands g c =

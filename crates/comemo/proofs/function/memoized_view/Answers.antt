@@ -9,7 +9,7 @@ use Rattle.comemo.proofs.function.memoized_view.Goals as goal
 pub returns-in-Ok-Hit-clause-reply : goal.returns-in-Ok-Hit-clause-reply
 returns-in-Ok-Hit-clause-reply g c =
     let hit = rw (c.in-Ok-Hit.is, c.in-Ok-Hit.field-0-is) at c.look_up.ensures.hit in
-    rw (← c.fork.ensures) (led_from (g.H.Hold.entries c.args.cache.now) (g.H.Hold.entries c.look_up.new.cache) _ _ (λ es es' found. reply_by_hit g.met.T.Call.Eq.laws g.met.T.Answer.Eq.laws es es' found.0 found.1) hit)
+    rw (← c.fork.ensures) (led_from (g.H.Hold.entries c.args.cache.now) (g.H.Hold.entries c.look_up.new.cache) _ _ (λ es es' found. reply_by_hit g.met.T.Call.Eq.laws g.met.T.Call.Answer.Eq.laws es es' found.0 found.1) hit)
 
 pub returns-in-Ok-Hit-clause-right : goal.returns-in-Ok-Hit-clause-right
 returns-in-Ok-Hit-clause-right g c =

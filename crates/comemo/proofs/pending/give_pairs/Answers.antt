@@ -4,7 +4,7 @@ use Rattle.comemo.proofs.pending.give_pairs.Goals as goal
 pub loop-call-preserved : goal.loop-call-preserved
 loop-call-preserved g c =
     let i = c.loop-call.invariant in
-    let p : g.row.S-Call.Denot × g.row.S-Answer.Denot = (c.in-Some.call, c.in-Some.answer) in
+    let p : g.row.S-Call.Denot × g.row.S-Call-Answer.Denot = (c.in-Some.call, c.in-Some.answer) in
     let step = c.in-Some.ensures.steps.0 in
     let so_far = takes_more g.met.S.Sink.joins _ _ _ _ _ _ p step c.in-Ok.ensures.ok i.so_far in
     record {

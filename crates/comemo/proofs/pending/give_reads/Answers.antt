@@ -9,7 +9,7 @@ emit-requires g c =
 pub loop-read-preserved : goal.loop-read-preserved
 loop-read-preserved g c =
     let i = c.loop-read.invariant in
-    let p : g.row.S-Call.Denot × g.row.S-Answer.Denot = c.in-Some.read in
+    let p : g.row.S-Call.Denot × g.row.S-Call-Answer.Denot = c.in-Some.read in
     let step = c.in-Some.ensures.pairs in
     record {
       reads = reads_left g.S.Call.Call.is_write _ _ p step i.reads;

@@ -17,7 +17,7 @@ use Rattle.comemo.proofs.pending.look_hit.Goals as goal
 
 pub returns-in-Ok-None-clause-none : goal.returns-in-Ok-None-clause-none
 returns-in-Ok-None-clause-none g c =
-    let M : Meaning g.row.M-Key.Denot g.row.M-Call.Denot g.row.M-Answer.Denot g.row.M-Out.Denot = record { same_call = g.M.Call.PartialEq.eq; same_answer = g.M.Answer.PartialEq.eq; same_key = g.M.Key.PartialEq.eq; is_write = g.M.Call.Call.is_write; is_clone = g.M.Out.Clone.is_clone; right = IsRight g.M.Function.means g.M.Function.writes; naming = g.M.Function.naming } in
+    let M : Meaning g.row.M-Key.Denot g.row.M-Call.Denot g.row.M-Call-Answer.Denot g.row.M-Out.Denot = record { same_call = g.M.Call.PartialEq.eq; same_answer = g.M.Call.Answer.PartialEq.eq; same_key = g.M.Key.PartialEq.eq; is_write = g.M.Call.Call.is_write; is_clone = g.M.Out.Clone.is_clone; right = IsRight g.M.Function.means g.M.Function.writes; naming = g.M.Function.naming } in
     let none = rw (c.in-Ok-None.is, c.in-Ok-None.field-0-is) at c.look.ensures.found in
     (held_map (g.H.Hold.entries c.args.cache.now) _ _ (λ es n. HasNone-alike M g.met.M.Key.Eq.laws es c.args.key.now (g.In.Input.key_of c.args.input.now) (turned g.met.M.Key.Eq.laws _ _ c.requires) (g.In.Input.answers c.args.input.now) true true n) none, c.look.ensures.same, refl, c.look.ensures.stays)
 
@@ -26,9 +26,9 @@ returns-in-Err-clause-err g c = λ s before. (c.look.ensures.stays, g.met.In.Inp
 
 pub returns-in_ok-output-in-Ok-Some-clause-hit : goal.returns-in_ok-output-in-Ok-Some-clause-hit
 returns-in_ok-output-in-Ok-Some-clause-hit g c =
-    let M : Meaning g.row.M-Key.Denot g.row.M-Call.Denot g.row.M-Answer.Denot g.row.M-Out.Denot = record { same_call = g.M.Call.PartialEq.eq; same_answer = g.M.Answer.PartialEq.eq; same_key = g.M.Key.PartialEq.eq; is_write = g.M.Call.Call.is_write; is_clone = g.M.Out.Clone.is_clone; right = IsRight g.M.Function.means g.M.Function.writes; naming = g.M.Function.naming } in
+    let M : Meaning g.row.M-Key.Denot g.row.M-Call.Denot g.row.M-Call-Answer.Denot g.row.M-Out.Denot = record { same_call = g.M.Call.PartialEq.eq; same_answer = g.M.Call.Answer.PartialEq.eq; same_key = g.M.Key.PartialEq.eq; is_write = g.M.Call.Call.is_write; is_clone = g.M.Out.Clone.is_clone; right = IsRight g.M.Function.means g.M.Function.writes; naming = g.M.Function.naming } in
     let calls = g.met.M.Call.Eq.laws in
-    let answers = g.met.M.Answer.Eq.laws in
+    let answers = g.met.M.Call.Answer.Eq.laws in
     let keys = g.met.M.Key.Eq.laws in
     let o = g.H.Hold.entries c.args.cache.now in
     let o' = g.H.Hold.entries c.give_found.new.cache in
@@ -55,9 +55,9 @@ returns-in_ok-output-in-Ok-Some-clause-hit g c =
 
 pub returns-in_err-output-in-Ok-Some-clause-err : goal.returns-in_err-output-in-Ok-Some-clause-err
 returns-in_err-output-in-Ok-Some-clause-err g c =
-    let M : Meaning g.row.M-Key.Denot g.row.M-Call.Denot g.row.M-Answer.Denot g.row.M-Out.Denot = record { same_call = g.M.Call.PartialEq.eq; same_answer = g.M.Answer.PartialEq.eq; same_key = g.M.Key.PartialEq.eq; is_write = g.M.Call.Call.is_write; is_clone = g.M.Out.Clone.is_clone; right = IsRight g.M.Function.means g.M.Function.writes; naming = g.M.Function.naming } in
+    let M : Meaning g.row.M-Key.Denot g.row.M-Call.Denot g.row.M-Call-Answer.Denot g.row.M-Out.Denot = record { same_call = g.M.Call.PartialEq.eq; same_answer = g.M.Call.Answer.PartialEq.eq; same_key = g.M.Key.PartialEq.eq; is_write = g.M.Call.Call.is_write; is_clone = g.M.Out.Clone.is_clone; right = IsRight g.M.Function.means g.M.Function.writes; naming = g.M.Function.naming } in
     let calls = g.met.M.Call.Eq.laws in
-    let answers = g.met.M.Answer.Eq.laws in
+    let answers = g.met.M.Call.Answer.Eq.laws in
     let keys = g.met.M.Key.Eq.laws in
     let o = g.H.Hold.entries c.args.cache.now in
     let o' = g.H.Hold.entries c.give_found.new.cache in

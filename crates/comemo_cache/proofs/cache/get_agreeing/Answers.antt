@@ -23,11 +23,11 @@ returns-clause-found g c =
     let s = c.args.input.now in
     let did = g.In.Input.did in
     let m = g.In.Input.answers s in
-    gets _ g.met.In.Call.Eq.laws g.met.In.Answer.Eq.laws g.In.Call.Call.is_write g.met.In.Call.Call.same_kind m (g.met.In.Input.alike s) (λ f. did s f.0.now []) (λ f f' call r i reads k.
+    gets _ g.met.In.Call.Eq.laws g.met.In.Call.Answer.Eq.laws g.In.Call.Call.is_write g.met.In.Call.Call.same_kind m (g.met.In.Input.alike s) (λ f. did s f.0.now []) (λ f f' call r i reads k.
     let called = k.called in
-    let own : IsTrue (g.In.Answer.PartialEq.eq (g.In.Input.answers f.0.now k.shown.now) r) = search rules in
+    let own : IsTrue (g.In.Call.Answer.PartialEq.eq (g.In.Input.answers f.0.now k.shown.now) r) = search rules in
     let next : did f.0.now f'.0.now [] = search rules in
-    (joined g.met.In.Answer.Eq.laws (m call) (g.In.Input.answers f.0.now call) r (g.met.In.Input.keeps s f.0.now [] i call reads refl) (subst (λ x. IsTrue (g.In.Answer.PartialEq.eq (g.In.Input.answers f.0.now x) r)) k.shows own), g.met.In.Input.joins s f.0.now f'.0.now [] [] i next))
+    (joined g.met.In.Call.Answer.Eq.laws (m call) (g.In.Input.answers f.0.now call) r (g.met.In.Input.keeps s f.0.now [] i call reads refl) (subst (λ x. IsTrue (g.In.Call.Answer.PartialEq.eq (g.In.Input.answers f.0.now x) r)) k.shows own), g.met.In.Input.joins s f.0.now f'.0.now [] [] i next))
     g.met.K.Eq.laws c.args.tree.now c.args.key.now (All-under g.K.PartialEq.eq c.args.tree.now c.args.key.now (λ e. All (λ p. g.In.Call.Call.is_write p.0 ≡ false) e.path) (λ k d l _. c.requires.reads k d l)) c.reveal_tree.ensures _ _ (g.met.In.Input.starts s) _ c.get.result c.get.ensures.asked
 
 pub returns-clause-asked : goal.returns-clause-asked
@@ -35,11 +35,11 @@ returns-clause-asked g c =
     let s = c.args.input.now in
     let did = g.In.Input.did in
     let m = g.In.Input.answers s in
-    asks_value _ g.met.In.Call.Eq.laws g.met.In.Answer.Eq.laws g.In.Call.Call.is_write g.met.In.Call.Call.same_kind m (g.met.In.Input.alike s) (λ f. did s f.0.now []) (λ f f' call r i reads k.
+    asks_value _ g.met.In.Call.Eq.laws g.met.In.Call.Answer.Eq.laws g.In.Call.Call.is_write g.met.In.Call.Call.same_kind m (g.met.In.Input.alike s) (λ f. did s f.0.now []) (λ f f' call r i reads k.
     let called = k.called in
-    let own : IsTrue (g.In.Answer.PartialEq.eq (g.In.Input.answers f.0.now k.shown.now) r) = search rules in
+    let own : IsTrue (g.In.Call.Answer.PartialEq.eq (g.In.Input.answers f.0.now k.shown.now) r) = search rules in
     let next : did f.0.now f'.0.now [] = search rules in
-    (joined g.met.In.Answer.Eq.laws (m call) (g.In.Input.answers f.0.now call) r (g.met.In.Input.keeps s f.0.now [] i call reads refl) (subst (λ x. IsTrue (g.In.Answer.PartialEq.eq (g.In.Input.answers f.0.now x) r)) k.shows own), g.met.In.Input.joins s f.0.now f'.0.now [] [] i next))
+    (joined g.met.In.Call.Answer.Eq.laws (m call) (g.In.Input.answers f.0.now call) r (g.met.In.Input.keeps s f.0.now [] i call reads refl) (subst (λ x. IsTrue (g.In.Call.Answer.PartialEq.eq (g.In.Input.answers f.0.now x) r)) k.shows own), g.met.In.Input.joins s f.0.now f'.0.now [] [] i next))
     g.met.K.Eq.laws c.args.tree.now c.args.key.now (All-under g.K.PartialEq.eq c.args.tree.now c.args.key.now (λ e. All (λ p. g.In.Call.Call.is_write p.0 ≡ false) e.path) (λ k d l _. c.requires.reads k d l)) c.reveal_tree.ensures _ _ (g.met.In.Input.starts s) _ c.get.result c.get.ensures.asked
 
 pub returns-clause-err : goal.returns-clause-err
@@ -47,9 +47,9 @@ returns-clause-err g c =
     let s = c.args.input.now in
     let did = g.In.Input.did in
     let m = g.In.Input.answers s in
-    refuses_answer _ g.met.In.Call.Eq.laws g.met.In.Answer.Eq.laws g.In.Call.Call.is_write g.met.In.Call.Call.same_kind m (g.met.In.Input.alike s) (λ f. did s f.0.now []) (λ f f' call r i reads k.
+    refuses_answer _ g.met.In.Call.Eq.laws g.met.In.Call.Answer.Eq.laws g.In.Call.Call.is_write g.met.In.Call.Call.same_kind m (g.met.In.Input.alike s) (λ f. did s f.0.now []) (λ f f' call r i reads k.
     let called = k.called in
-    let own : IsTrue (g.In.Answer.PartialEq.eq (g.In.Input.answers f.0.now k.shown.now) r) = search rules in
+    let own : IsTrue (g.In.Call.Answer.PartialEq.eq (g.In.Input.answers f.0.now k.shown.now) r) = search rules in
     let next : did f.0.now f'.0.now [] = search rules in
-    (joined g.met.In.Answer.Eq.laws (m call) (g.In.Input.answers f.0.now call) r (g.met.In.Input.keeps s f.0.now [] i call reads refl) (subst (λ x. IsTrue (g.In.Answer.PartialEq.eq (g.In.Input.answers f.0.now x) r)) k.shows own), g.met.In.Input.joins s f.0.now f'.0.now [] [] i next))
+    (joined g.met.In.Call.Answer.Eq.laws (m call) (g.In.Input.answers f.0.now call) r (g.met.In.Input.keeps s f.0.now [] i call reads refl) (subst (λ x. IsTrue (g.In.Call.Answer.PartialEq.eq (g.In.Input.answers f.0.now x) r)) k.shows own), g.met.In.Input.joins s f.0.now f'.0.now [] [] i next))
     g.met.K.Eq.laws c.args.tree.now c.args.key.now (All-under g.K.PartialEq.eq c.args.tree.now c.args.key.now (λ e. All (λ p. g.In.Call.Call.is_write p.0 ≡ false) e.path) (λ k d l _. c.requires.reads k d l)) c.reveal_tree.ensures _ _ (g.met.In.Input.starts s) c.get.result c.get.ensures.refused

@@ -24,11 +24,11 @@ returns-clause-found g c =
     let s = c.args.input.now in
     let did = g.In.Input.did in
     let m = g.In.Input.answers s in
-    gets _ g.met.In.Call.Eq.laws g.met.In.Answer.Eq.laws g.In.Call.Call.is_write g.met.In.Call.Call.same_kind m (g.met.In.Input.alike s) (λ f. did s f.0.now []) (λ f f' call r i reads k.
+    gets _ g.met.In.Call.Eq.laws g.met.In.Call.Answer.Eq.laws g.In.Call.Call.is_write g.met.In.Call.Call.same_kind m (g.met.In.Input.alike s) (λ f. did s f.0.now []) (λ f f' call r i reads k.
     let called = k.called in
-    let own : IsTrue (g.In.Answer.PartialEq.eq (g.In.Input.answers f.0.now k.shown.now) r) = search rules in
+    let own : IsTrue (g.In.Call.Answer.PartialEq.eq (g.In.Input.answers f.0.now k.shown.now) r) = search rules in
     let next : did f.0.now f'.0.now [] = search rules in
-    (joined g.met.In.Answer.Eq.laws (m call) (g.In.Input.answers f.0.now call) r (g.met.In.Input.keeps s f.0.now [] i call reads refl) (subst (λ x. IsTrue (g.In.Answer.PartialEq.eq (g.In.Input.answers f.0.now x) r)) k.shows own), g.met.In.Input.joins s f.0.now f'.0.now [] [] i next))
+    (joined g.met.In.Call.Answer.Eq.laws (m call) (g.In.Input.answers f.0.now call) r (g.met.In.Input.keeps s f.0.now [] i call reads refl) (subst (λ x. IsTrue (g.In.Call.Answer.PartialEq.eq (g.In.Input.answers f.0.now x) r)) k.shows own), g.met.In.Input.joins s f.0.now f'.0.now [] [] i next))
     g.met.K.Eq.laws c.args.tree.now c.args.key.now (All-under g.K.PartialEq.eq c.args.tree.now c.args.key.now (λ e. All (λ p. g.In.Call.Call.is_write p.0 ≡ false) e.path) (λ k d l _. c.requires.reads k d l)) c.reveal_tree.ensures _ _ (g.met.In.Input.starts s) _ c.get.result c.get.ensures.asked
 
 pub returns-clause-noted : goal.returns-clause-noted
@@ -38,15 +38,15 @@ returns-clause-noted g c =
     let m = g.In.Input.answers s in
     let kept = get_keeps _ (λ f f'. f'.1.ghost_name ≡ f.1.ghost_name) (λ f. refl) (λ f f' f'' h k. k ∙ h) (λ f f' x r k. let called = k.called in search rules) _ _ _ _ _ _ c.get.result c.get.ensures.asked c.get.ensures.refused in
     let name = sym kept in
-    notes_value _ g.met.In.Call.Eq.laws g.met.In.Answer.Eq.laws g.In.Call.Call.is_write g.met.In.Call.Call.same_kind m (g.met.In.Input.alike s) (λ f. did s f.0.now []) (λ f f' call r i reads k.
+    notes_value _ g.met.In.Call.Eq.laws g.met.In.Call.Answer.Eq.laws g.In.Call.Call.is_write g.met.In.Call.Call.same_kind m (g.met.In.Input.alike s) (λ f. did s f.0.now []) (λ f f' call r i reads k.
     let called = k.called in
-    let own : IsTrue (g.In.Answer.PartialEq.eq (g.In.Input.answers f.0.now k.shown.now) r) = search rules in
+    let own : IsTrue (g.In.Call.Answer.PartialEq.eq (g.In.Input.answers f.0.now k.shown.now) r) = search rules in
     let next : did f.0.now f'.0.now [] = search rules in
-    (joined g.met.In.Answer.Eq.laws (m call) (g.In.Input.answers f.0.now call) r (g.met.In.Input.keeps s f.0.now [] i call reads refl) (subst (λ x. IsTrue (g.In.Answer.PartialEq.eq (g.In.Input.answers f.0.now x) r)) k.shows own), g.met.In.Input.joins s f.0.now f'.0.now [] [] i next))
+    (joined g.met.In.Call.Answer.Eq.laws (m call) (g.In.Input.answers f.0.now call) r (g.met.In.Input.keeps s f.0.now [] i call reads refl) (subst (λ x. IsTrue (g.In.Call.Answer.PartialEq.eq (g.In.Input.answers f.0.now x) r)) k.shows own), g.met.In.Input.joins s f.0.now f'.0.now [] [] i next))
     (λ f. f.1.now.items) (λ f f' call r k.
     let called = k.called in
-    let copied : (copy : _ × _) × (f'.1.now.items ≡ f.1.now.items ++ copy ∷ []) × g.In.Call.Clone.is_clone k.shown.now copy.0 × g.In.Answer.Clone.is_clone r copy.1 = search rules in
-    (copied.0, copied.1, subst (λ x. IsTrue (g.In.Call.PartialEq.eq x copied.0.0)) k.shows (g.met.In.Call.Call.clones k.shown.now copied.0.0 copied.2), c.requires.clones r copied.0.1 copied.3))
+    let copied : (copy : _ × _) × (f'.1.now.items ≡ f.1.now.items ++ copy ∷ []) × g.In.Call.Clone.is_clone k.shown.now copy.0 × g.In.Call.Answer.Clone.is_clone r copy.1 = search rules in
+    (copied.0, copied.1, subst (λ x. IsTrue (g.In.Call.PartialEq.eq x copied.0.0)) k.shows (g.met.In.Call.Call.clones k.shown.now copied.0.0 copied.2), g.met.In.Call.Call.answer_clones r copied.0.1 copied.3))
     g.K.PartialEq.eq c.args.tree.now c.args.key.now (All-under g.K.PartialEq.eq c.args.tree.now c.args.key.now (λ e. All (λ p. g.In.Call.Call.is_write p.0 ≡ false) e.path) (λ k d l _. c.requires.reads k d l)) _ _ (g.met.In.Input.starts s) c.requires.nothing _ c.get.result c.get.ensures.asked _ (search (rules, name))
 
 pub returns-clause-err : goal.returns-clause-err
@@ -54,9 +54,9 @@ returns-clause-err g c =
     let s = c.args.input.now in
     let did = g.In.Input.did in
     let m = g.In.Input.answers s in
-    refuses_answer _ g.met.In.Call.Eq.laws g.met.In.Answer.Eq.laws g.In.Call.Call.is_write g.met.In.Call.Call.same_kind m (g.met.In.Input.alike s) (λ f. did s f.0.now []) (λ f f' call r i reads k.
+    refuses_answer _ g.met.In.Call.Eq.laws g.met.In.Call.Answer.Eq.laws g.In.Call.Call.is_write g.met.In.Call.Call.same_kind m (g.met.In.Input.alike s) (λ f. did s f.0.now []) (λ f f' call r i reads k.
     let called = k.called in
-    let own : IsTrue (g.In.Answer.PartialEq.eq (g.In.Input.answers f.0.now k.shown.now) r) = search rules in
+    let own : IsTrue (g.In.Call.Answer.PartialEq.eq (g.In.Input.answers f.0.now k.shown.now) r) = search rules in
     let next : did f.0.now f'.0.now [] = search rules in
-    (joined g.met.In.Answer.Eq.laws (m call) (g.In.Input.answers f.0.now call) r (g.met.In.Input.keeps s f.0.now [] i call reads refl) (subst (λ x. IsTrue (g.In.Answer.PartialEq.eq (g.In.Input.answers f.0.now x) r)) k.shows own), g.met.In.Input.joins s f.0.now f'.0.now [] [] i next))
+    (joined g.met.In.Call.Answer.Eq.laws (m call) (g.In.Input.answers f.0.now call) r (g.met.In.Input.keeps s f.0.now [] i call reads refl) (subst (λ x. IsTrue (g.In.Call.Answer.PartialEq.eq (g.In.Input.answers f.0.now x) r)) k.shows own), g.met.In.Input.joins s f.0.now f'.0.now [] [] i next))
     g.met.K.Eq.laws c.args.tree.now c.args.key.now (All-under g.K.PartialEq.eq c.args.tree.now c.args.key.now (λ e. All (λ p. g.In.Call.Call.is_write p.0 ≡ false) e.path) (λ k d l _. c.requires.reads k d l)) c.reveal_tree.ensures _ _ (g.met.In.Input.starts s) c.get.result c.get.ensures.refused

@@ -19,18 +19,18 @@ pub invariant_of-self : goal.invariant_of-self
 invariant_of-self g c =
     let i = c.self.inside in
     let hit = rw c.fork.ensures at (of_hit c.look_up.result _ c.in-Ok-Hit.output _ _ c.in-Ok-Hit.is c.in-Ok-Hit.field-0-is c.look_up.ensures.hit) in
-    held_keeps _ g.T.Call.Call.touches g.met.T.Call.Eq.laws g.met.T.Answer.Eq.laws (g.H.Hold.entries c.args.cache.now) (g.H.Hold.entries c.args.cache.now) (g.H.Hold.entries c.look_up.new.cache) _ (g.met.T.Track.alike i.view) i.recording c.look_up.new.sink c.self.invariant (λ output writes d. c.requires.alone c.args.key.now (g.T.Track.answers i.view) output writes d.0) {E = ⊥} ⊥ (Ok _) (led_from (g.H.Hold.entries c.args.cache.now) (g.H.Hold.entries c.look_up.new.cache) _ _ (λ es es' found. reply_by_hit g.met.T.Call.Eq.laws g.met.T.Answer.Eq.laws es es' found.0 found.1) hit) tt
+    held_keeps _ g.T.Call.Call.touches g.met.T.Call.Eq.laws g.met.T.Call.Answer.Eq.laws (g.H.Hold.entries c.args.cache.now) (g.H.Hold.entries c.args.cache.now) (g.H.Hold.entries c.look_up.new.cache) _ (g.met.T.Track.alike i.view) i.recording c.look_up.new.sink c.self.invariant (λ output writes d. c.requires.alone c.args.key.now (g.T.Track.answers i.view) output writes d.0) {E = ⊥} ⊥ (Ok _) (led_from (g.H.Hold.entries c.args.cache.now) (g.H.Hold.entries c.look_up.new.cache) _ _ (λ es es' found. reply_by_hit g.met.T.Call.Eq.laws g.met.T.Call.Answer.Eq.laws es es' found.0 found.1) hit) tt
 
 pub returns-in-Ok-Hit-clause-tells : goal.returns-in-Ok-Hit-clause-tells
 returns-in-Ok-Hit-clause-tells g c =
     let i = c.self.inside in
     let hit = (some_led (g.H.Hold.entries c.args.cache.now) (g.H.Hold.entries c.look_up.new.cache) _ (rw c.fork.ensures at (of_hit c.look_up.result _ c.in-Ok-Hit.output _ _ c.in-Ok-Hit.is c.in-Ok-Hit.field-0-is c.look_up.ensures.hit))).2.0 in
-    rw (← c.self.view_is) (own_given (record { same_call = g.T.Call.PartialEq.eq; same_answer = g.T.Answer.PartialEq.eq; same_key = g.G.Key.PartialEq.eq; is_write = g.T.Call.Call.is_write; is_clone = g.G.Out.Clone.is_clone; right = IsRight g.G.Function.means g.G.Function.writes; naming = g.G.Function.naming }) g.met.T.Call.Eq.laws g.met.T.Answer.Eq.laws (g.T.Track.answers i.view) (g.met.T.Track.alike i.view) c.self.invariant.agrees hit.pairs hit.writes hit.agrees (gives_itself g.met.T.Call.Eq.laws g.met.T.Answer.Eq.laws hit.pairs hit.writes hit.are_sent) _ refl (λ n r a. (hit.stands n r a).1))
+    rw (← c.self.view_is) (own_given (record { same_call = g.T.Call.PartialEq.eq; same_answer = g.T.Call.Answer.PartialEq.eq; same_key = g.G.Key.PartialEq.eq; is_write = g.T.Call.Call.is_write; is_clone = g.G.Out.Clone.is_clone; right = IsRight g.G.Function.means g.G.Function.writes; naming = g.G.Function.naming }) g.met.T.Call.Eq.laws g.met.T.Call.Answer.Eq.laws (g.T.Track.answers i.view) (g.met.T.Track.alike i.view) c.self.invariant.agrees hit.pairs hit.writes hit.agrees (gives_itself g.met.T.Call.Eq.laws g.met.T.Call.Answer.Eq.laws hit.pairs hit.writes hit.are_sent) _ refl (λ n r a. (hit.stands n r a).1))
 
 pub returns-in-Ok-Hit-clause-hit : goal.returns-in-Ok-Hit-clause-hit
 returns-in-Ok-Hit-clause-hit g c =
     let hit = rw c.fork.ensures at (of_hit c.look_up.result _ c.in-Ok-Hit.output _ _ c.in-Ok-Hit.is c.in-Ok-Hit.field-0-is c.look_up.ensures.hit) in
-    (_, refl, refl, rw (← c.self.view_is) (led_from (g.H.Hold.entries c.args.cache.now) (g.H.Hold.entries c.look_up.new.cache) _ _ (λ es es' found. reply_by_hit g.met.T.Call.Eq.laws g.met.T.Answer.Eq.laws es es' found.0 found.1) hit))
+    (_, refl, refl, rw (← c.self.view_is) (led_from (g.H.Hold.entries c.args.cache.now) (g.H.Hold.entries c.look_up.new.cache) _ _ (λ es es' found. reply_by_hit g.met.T.Call.Eq.laws g.met.T.Call.Answer.Eq.laws es es' found.0 found.1) hit))
 
 pub returns-clause-tells : goal.returns-clause-tells
 returns-clause-tells g c = λ u r told.

@@ -6,18 +6,18 @@ use Rattle.comemo.proofs.function.Recorder.call_reply.Goals as goal
 pub invariant_of-self : goal.invariant_of-self
 invariant_of-self g c =
     let i = c.self.inside in
-    held_keeps _ g.T.Call.Call.touches g.met.T.Call.Eq.laws g.met.T.Answer.Eq.laws _ _ _ _ (g.met.T.Track.alike i.view) i.recording c.memoized_view.new.sink c.self.invariant (λ output writes d. c.requires.alone c.args.key (g.T.Track.answers i.view) output writes d.0) _ c.memoized_view.result c.memoized_view.ensures.reply c.memoized_view.ensures.err
+    held_keeps _ g.T.Call.Call.touches g.met.T.Call.Eq.laws g.met.T.Call.Answer.Eq.laws _ _ _ _ (g.met.T.Track.alike i.view) i.recording c.memoized_view.new.sink c.self.invariant (λ output writes d. c.requires.alone c.args.key (g.T.Track.answers i.view) output writes d.0) _ c.memoized_view.result c.memoized_view.ensures.reply c.memoized_view.ensures.err
 
 pub invariant_of-self-2 : goal.invariant_of-self-2
 invariant_of-self-2 g c =
     let i = c.self.inside in
-    held_keeps _ g.T.Call.Call.touches g.met.T.Call.Eq.laws g.met.T.Answer.Eq.laws _ _ _ _ (g.met.T.Track.alike i.view) i.recording c.memoized_view.new.sink c.self.invariant (λ output writes d. c.requires.alone c.args.key (g.T.Track.answers i.view) output writes d.0) _ c.memoized_view.result c.memoized_view.ensures.reply c.memoized_view.ensures.err
+    held_keeps _ g.T.Call.Call.touches g.met.T.Call.Eq.laws g.met.T.Call.Answer.Eq.laws _ _ _ _ (g.met.T.Track.alike i.view) i.recording c.memoized_view.new.sink c.self.invariant (λ output writes d. c.requires.alone c.args.key (g.T.Track.answers i.view) output writes d.0) _ c.memoized_view.result c.memoized_view.ensures.reply c.memoized_view.ensures.err
 
 pub returns-clause-tells : goal.returns-clause-tells
 returns-clause-tells g c =
     let i = c.self.inside in
     let k = (some_by (g.H.Hold.entries c.args.cache.now) (g.H.Hold.entries c.args.cache.now) (g.H.Hold.entries c.memoized_view.new.cache) _ c.in_ok-reply.ensures.reply).3 in
-    let t = tells_output _ g.met.T.Call.Eq.laws g.met.T.Answer.Eq.laws _ _ _ _ (g.met.T.Track.alike i.view) refl c.self.invariant.agrees {P = λ output m. g.G.Function.means c.args.key m output} c.in_ok-reply.reply k (λ n d. d.1) in
+    let t = tells_output _ g.met.T.Call.Eq.laws g.met.T.Call.Answer.Eq.laws _ _ _ _ (g.met.T.Track.alike i.view) refl c.self.invariant.agrees {P = λ output m. g.G.Function.means c.args.key m output} c.in_ok-reply.reply k (λ n d. d.1) in
     rw (← c.self.view_is) (record { same_value = t.same_value; before = t.before; told = t.told; complete = t.complete; fault = tt })
 
 pub returns-in_err-reply-clause-tells : goal.returns-in_err-reply-clause-tells

@@ -12,7 +12,7 @@ use Rattle.comemo_cache.specs.Meaning.{IsRight}
 use Rattle.comemo.proofs.parts_of_both.RecorderMut+BothMut+A+B.call_mut_second.Goals as goal
 
 -- both values
-abbrev parts : (g : given.Over) → Parts g.row.A.Denot g.row.B.Denot g.row.A-Call.Denot g.row.B-Call.Denot g.row.A-Answer.Denot g.row.B-Answer.Denot
+abbrev parts : (g : given.Over) → Parts g.row.A.Denot g.row.B.Denot g.row.A-Call.Denot g.row.B-Call.Denot g.row.A-Call-Answer.Denot g.row.B-Call-Answer.Denot
 parts g = record {
   first_answers = g.A.Track.answers;
   second_answers = g.B.Track.answers;
@@ -24,16 +24,16 @@ parts g = record {
   second_touches = g.B.Call.Call.touches;
   first_calls = g.A.Call.PartialEq.eq;
   second_calls = g.B.Call.PartialEq.eq;
-  first_likes = g.A.Answer.PartialEq.eq;
-  second_likes = g.B.Answer.PartialEq.eq;
+  first_likes = g.A.Call.Answer.PartialEq.eq;
+  second_likes = g.B.Call.Answer.PartialEq.eq;
   calls = (calls.ghosts g.row.A-Call g.row.B-Call g.A.Call.PartialEq g.A.Call.PartialEq-dict g.B.Call.PartialEq g.B.Call.PartialEq-dict).eq;
-  likes = (answers.ghosts g.row.A-Answer g.row.B-Answer g.A.Answer.PartialEq g.A.Answer.PartialEq-dict g.B.Answer.PartialEq g.B.Answer.PartialEq-dict).eq;
+  likes = (answers.ghosts g.row.A-Call-Answer g.row.B-Call-Answer g.A.Call.Answer.PartialEq g.A.Call.Answer.PartialEq-dict g.B.Call.Answer.PartialEq g.B.Call.Answer.PartialEq-dict).eq;
   by_calls = record { firsts = λ x y. refl; seconds = λ x y. refl; first_second = λ x y. refl; second_first = λ x y. refl };
   by_likes = record { firsts = λ x y. refl; seconds = λ x y. refl; first_second = λ x y. refl; second_first = λ x y. refl };
   first_equal = g.met.A.Call.Eq.laws;
   second_equal = g.met.B.Call.Eq.laws;
-  first_alike = g.met.A.Answer.Eq.laws;
-  second_alike = g.met.B.Answer.Eq.laws;
+  first_alike = g.met.A.Call.Answer.Eq.laws;
+  second_alike = g.met.B.Call.Answer.Eq.laws;
   first_kind = g.met.A.Call.Call.same_kind;
   second_kind = g.met.B.Call.Call.same_kind;
   first_respects = g.met.A.Track.alike;

@@ -28,9 +28,9 @@ returns-then-ne-clause-ok g c =
     let pairs = ap (λ (s : Recording _ _). s.pairs) (sym c.self.view_is) ∙ sym c.slots-slot-items.ensures ∙ parted in (
       λ h. let f : false ≡ true = h in cc,
       λ agrees.
-          let recorded = Agrees-at g.R.PartialEq.eq m (remaining (take i slots)) (c.in-Some.call, c.in-Some.recorded) (remaining (drop (i + 1) slots)) (subst (λ ps. Agrees g.R.PartialEq.eq m ps) pairs agrees) in
+          let recorded = Agrees-at g.C.Answer.PartialEq.eq m (remaining (take i slots)) (c.in-Some.call, c.in-Some.recorded) (remaining (drop (i + 1) slots)) (subst (λ ps. Agrees g.C.Answer.PartialEq.eq m ps) pairs agrees) in
           let read = All-at (λ p. g.C.Call.is_write p.0 ≡ false) (remaining (take i slots)) (c.in-Some.call, c.in-Some.recorded) (remaining (drop (i + 1) slots)) (rw (sym parted ∙ c.slots-slot-items.ensures) c.self.invariant.all_reads) in
-          let same : g.R.PartialEq.eq c.in_ok-ask.field-0 c.in-Some.recorded ≡ true = joined g.met.R.Eq.laws _ _ _ (turned g.met.R.Eq.laws _ _ (c.in_ok-ask.ensures read)) recorded in
+          let same : g.C.Answer.PartialEq.eq c.in_ok-ask.field-0 c.in-Some.recorded ≡ true = joined g.met.C.Answer.Eq.laws _ _ _ (turned g.met.C.Answer.Eq.laws _ _ (c.in_ok-ask.ensures read)) recorded in
           sym (c.if-ne.ensures ∙ ap not same),
     )
 
@@ -39,7 +39,7 @@ loop-slot-preserved g c =
     let slots = c.slots-slot-items.result.now in
     let i = c.loop-slot.slot-index in
     let slot = c.slot-item.result in
-    let same = g.R.PartialEq.eq in
+    let same = g.C.Answer.PartialEq.eq in
     let m = g.T.Track.answers c.args.value.now in
     elim c.match-slot.branch [
       | in-Some+in_ok-ask+else-ne w ↦
@@ -47,7 +47,7 @@ loop-slot-preserved g c =
           let parted = remaining_at slots i slot _ c.loop-slot-test.true c.slot-item.is w.in-Some.is in
           let read = All-at (λ p. g.C.Call.is_write p.0 ≡ false) (remaining (take i slots)) (w.in-Some.call, w.in-Some.recorded) (remaining (drop (i + 1) slots)) (rw (sym parted ∙ c.slots-slot-items.ensures) c.self.invariant.all_reads) in
           let is_same : same w.in_ok-ask.field-0 w.in-Some.recorded ≡ true = search rules in
-          subst (λ ps. Agrees same m ps) (sym more) (Agrees-push same m (remaining (take i slots)) (w.in-Some.call, w.in-Some.recorded) c.loop-slot.invariant (joined g.met.R.Eq.laws _ _ _ (w.in_ok-ask.ensures read) is_same))
+          subst (λ ps. Agrees same m ps) (sym more) (Agrees-push same m (remaining (take i slots)) (w.in-Some.call, w.in-Some.recorded) c.loop-slot.invariant (joined g.met.C.Answer.Eq.laws _ _ _ (w.in_ok-ask.ensures read) is_same))
       | in_default w ↦ subst (λ ps. Agrees same m ps) (sym (slot_less slots i slot c.loop-slot-test.true c.slot-item.is (λ q e. w.in_default.not-Some q e))) c.loop-slot.invariant
     ]
 
@@ -55,4 +55,4 @@ pub returns-clause-ok : goal.returns-clause-ok
 returns-clause-ok g c =
     let slots = c.slots-slot-items.result.now in
     let pairs = ap remaining (take_all c.loop-slot.slot-index slots (omega arith)) ∙ c.slots-slot-items.ensures ∙ ap (λ (s : Recording _ _). s.pairs) c.self.view_is in
-    (λ _. subst (λ ps. Agrees g.R.PartialEq.eq (g.T.Track.answers c.args.value.now) ps) pairs c.loop-slot.invariant, λ _. refl)
+    (λ _. subst (λ ps. Agrees g.C.Answer.PartialEq.eq (g.T.Track.answers c.args.value.now) ps) pairs c.loop-slot.invariant, λ _. refl)

@@ -5,4 +5,4 @@ use Rattle.comemo_track.proofs.constraint.Constraint.validate.Given as goal
 
 -- the pairs of the slots so far agree
 abbrev pub invariant-loop-slot : goal.invariant-loop-slot
-invariant-loop-slot g l = Agrees g.R.PartialEq.eq (g.T.Track.answers l.value) (remaining (take l.slot-index l.slot-items))
+invariant-loop-slot g l = Agrees g.C.Answer.PartialEq.eq (g.T.Track.answers l.value) (remaining (take l.slot-index l.slot-items))
