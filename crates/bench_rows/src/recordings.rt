@@ -19,8 +19,8 @@ struct Taken {
 fn record(
     recording: &mut Constraint<Numbered>,
     tally: &mut Tally,
-    first: (u8, u64),
-    second: (u8, u64),
+    first: (u8, u8),
+    second: (u8, u8),
     written: Option<u8>,
 ) -> Taken {
     let first = recording.emit(read(first.0), Some(first.1)).is_ok();
@@ -53,7 +53,7 @@ fn what_is_absorbed_comes_after(alloc: Global, tally: &mut Tally, own_write: Opt
     }
     tally.hold(left.is_whole() == is_absorbed);
     let (mut reads, writes) = left.into_parts();
-    let pairs: &[(bool, u8, u64)] = &[
+    let pairs: &[(bool, u8, u8)] = &[
         (own.first, b'a', 1),
         (own.second, b'b', 2),
         (is_absorbed && other.first && !own.second, b'b', 9),

@@ -17,7 +17,7 @@ pub struct Numbered {
 }
 
 impl Call for Numbered {
-    type Answer = u64;
+    type Answer = u8;
 
     ghost is_write = { λ call. call.writes };
 

@@ -9,7 +9,7 @@ ghost use Rattle.comemo.specs.Cache.{Entries, Stands};
 ghost use Rattle.comemo.specs.Storing.{Stores};
 ghost use Rattle.comemo.specs.Held.{Held, Leads, Stays};
 
-use comemo::internal::{Found, Input, InsertError, Meant, Peeked, Reads, Shared};
+use comemo::internal::{AnswerOf, Found, Input, InsertError, Meant, Peeked, Reads, Shared};
 use comemo::{CacheData, Call, Explanation, Function, Hold};
 use std::alloc::{AllocError, Global};
 use std::sync::Wait;

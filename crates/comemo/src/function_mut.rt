@@ -100,7 +100,7 @@ pub trait Records {
     ghost began: { Self → Recording Self.Call Self.Call.Answer
         → (Lent Self.Of Self.Call Self.Call.Answer → Type 0) → Type 0 };
 
-    // wherever such a run was begun, what its recorder is at last agrees
+    // wherever such a run was begun, the recorder's last state agrees
     ghost agrees_after: { Self → Recording Self.Call Self.Call.Answer → Self → Type 0 };
 
     // what a run learns from a question, a write or a call, which had this result
@@ -458,7 +458,7 @@ where
             });
         }
         Ok(Begun::Run(mut pending)) => {
-            let (ran, recording) = run_recorded::<M, T>(alloc, &key, value, needs);
+            let (ran, recording) = run_recorded::<M, T, N>(alloc, &key, value, needs);
             pending.recording = recording;
             pending.end(cache, sink, ran)
         }

@@ -12,7 +12,7 @@ pub use comemo_cache::{
     register_evictor,
 };
 pub use comemo_track::{
-    Breaking, CallMap, First, Hashed, Input, Keyed, KeyedMut, MappedSink, Multi, Second,
+    AnswerOf, Breaking, CallMap, First, Hashed, Input, Keyed, KeyedMut, MappedSink, Multi, Second,
     TrackedMut, TrackedMutWith, TrackedWith, Written,
 };
 pub use comemo_tree::{Asks, CallTree, Keep, Settled, TreeOp, TreeReply};

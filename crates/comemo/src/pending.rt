@@ -169,7 +169,7 @@ impl<M: Function> Pending<M> {
 
     /// The run's recording: the sink of what the run asks.
     pub fn recording(&mut self) -> &mut Constraint<M::Call>
-        ensures* writes_back { sem 𝓛 (Lends (the_row M.row M.Call.row M.Key.row M.Call.Answer.row M.Out.row M.Function.own M.Call.Call.own M.Call.Clone.own M.Call.PartialEq.own M.Call.Hash.own M.Key.Clone.own M.Key.PartialEq.own M.Key.Hash.own M.Call.Answer.Clone.own M.Call.Answer.Ord.own M.Call.Answer.PartialEq.own M.Call.Answer.PartialOrd.own M.Out.Clone.own) (recording_row M.Call.row M.Call.Answer.row M.Call.Call.own M.Call.Clone.own M.Call.PartialEq.own M.Call.Hash.own) self.entry result (λ w. record self.old { recording = w })) }
+        ensures* writes_back { sem 𝓛 (Lends (the_row M.row M.Call.row M.Key.row M.Out.row M.Call.Answer.row M.Function.own M.Call.Call.own M.Call.Clone.own M.Call.PartialEq.own M.Call.Hash.own M.Call.Answer.Clone.own M.Call.Answer.Ord.own M.Call.Answer.PartialEq.own M.Call.Answer.PartialOrd.own M.Key.Clone.own M.Key.PartialEq.own M.Key.Hash.own M.Out.Clone.own) (recording_row M.Call.row M.Call.Answer.row M.Call.Call.own M.Call.Clone.own M.Call.PartialEq.own M.Call.Hash.own M.Call.Answer.Clone.own M.Call.Answer.Ord.own M.Call.Answer.PartialEq.own M.Call.Answer.PartialOrd.own) self.entry result (λ w. record self.old { recording = w })) }
         ensures value { result.now ≡ self.old.recording }
     {
         &mut self.recording

@@ -213,8 +213,8 @@ fn a_fault_of_a_run_is_told_to_its_caller(rt: HostRuntime) {
     let faults: &[(bool, Fault)] = &[(true, Fault::Memory), (false, Fault::Incomplete)];
     for (hands_on, fault) in faults {
         let of_closure = is_told_of_closure(alloc, *fault);
-        let of_function = is_told::<Failing>(alloc, &mut refused, *hands_on, *fault);
-        let of_called = is_told::<Calling>(alloc, &mut kept, *hands_on, *fault);
+        let of_function = is_told::<Failing, _>(alloc, &mut refused, *hands_on, *fault);
+        let of_called = is_told::<Calling, _>(alloc, &mut kept, *hands_on, *fault);
         let of_first = is_told_of_part(alloc, (true, *hands_on), *fault);
         let of_second = is_told_of_part(alloc, (false, *hands_on), *fault);
         assert!(rt; of_closure, "for {fault:?}");
