@@ -54,11 +54,7 @@ pub trait Run<T: Track, N>: Function<Call = T::Call> {
     ///
     /// The output must be right for all answers that agree with the recording. `Incomplete` may be returned only if the
     /// recording is incomplete.
-    fn run(
-        key: &Self::Key,
-        of: &mut Recorder<'_, T>,
-        needs: &mut N,
-    ) -> Result<Self::Out, Fault>
+    fn run(key: &Self::Key, of: &mut Recorder<'_, T>, needs: &mut N) -> Result<Self::Out, Fault>
         ensures same { of.new.value ≡ of.old.value }
         ensures right { IfOk result (λ output. (m : T.Call → T.Call.Answer)
             → ⟦<T as Told>⟧.fits of.new.recording m → Self.means key.now m output) }

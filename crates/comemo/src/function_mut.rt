@@ -192,11 +192,7 @@ pub struct RecorderMut<'a, 'b, T: Track> {
 
 impl<'a, 'b, T: Track> RecorderMut<'a, 'b, T> {
     /// A recorder of what is asked of this value and written to it, into this recording. Does not allocate.
-    pub fn new(
-        alloc: Global,
-        value: &'a mut T,
-        recording: &'b mut Constraint<T::Call>,
-    ) -> Self
+    pub fn new(alloc: Global, value: &'a mut T, recording: &'b mut Constraint<T::Call>) -> Self
         ensures value { result.value.now ≡ value.old }
         ensures same_value { result.value.ghost_name ≡ value.entry.ghost_name }
         ensures recording { result.recording.now ≡ recording.old }

@@ -111,11 +111,7 @@ impl<'a, S: Sink<Call = M::To>, M: CallMap> Sink for MappedSink<'a, S, M> {
 
     ghost room = { λ s. S.room s.sink.now };
 
-    fn emit(
-        &mut self,
-        call: M::From,
-        answer: Option<AnswerOf<M::From>>,
-    ) -> Result<bool, AllocError>
+    fn emit(&mut self, call: M::From, answer: Option<AnswerOf<M::From>>) -> Result<bool, AllocError>
         requires answered { is_none answer ≡ M.From.is_write call }
         ensures ok { OnOk result (MapsTook S.took M.maps M.maps_answer self.old self.new
             (sent_pairs call answer) (sent_writes call answer)) }

@@ -229,11 +229,7 @@ impl<S: Sink> Sink for &mut S {
 
     ghost room = { λ s. S.room s.now };
 
-    fn emit(
-        &mut self,
-        call: S::Call,
-        answer: Option<AnswerOf<S::Call>>,
-    ) -> Result<bool, AllocError>
+    fn emit(&mut self, call: S::Call, answer: Option<AnswerOf<S::Call>>) -> Result<bool, AllocError>
         requires answered { is_none answer ≡ S.Call.is_write call }
         ensures ok { OnOk result
             (S.took self.old.now self.new.now (sent_pairs call answer) (sent_writes call answer)

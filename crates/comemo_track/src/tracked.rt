@@ -203,7 +203,10 @@ impl<'a, T: Track> Input for Tracked<'a, T> {
 ///
 /// A function of its own, since the checker follows a loan through two references to a type parameter, but not to a
 /// view.
-fn call_behind<I: Input>(input: &mut &mut I, call: &I::Call) -> Result<AnswerOf<I::Call>, AllocError>
+fn call_behind<I: Input>(
+    input: &mut &mut I,
+    call: &I::Call,
+) -> Result<AnswerOf<I::Call>, AllocError>
     requires { I.Call.is_write call.now ≡ false }
     ensures answer { IfOk result
         (λ answer. IsTrue (I.Call.Answer.eq (I.answers input.old.now call.now) answer)) }
