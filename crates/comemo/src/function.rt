@@ -25,12 +25,13 @@ pub trait Told: Track {
     ghost fits: { Recording Self.Call Self.Call.Answer → (Self.Call → Self.Call.Answer) → Type 0 };
 
     // the second's recording is the first's after it took these pairs and these writes
-    ghost took: { Recorded Self Self.Call Self.Call.Answer → Recorded Self Self.Call Self.Call.Answer
+    ghost took: { Recorded Self Self.Call Self.Call.Answer
+        → Recorded Self Self.Call Self.Call.Answer
         → List (Self.Call × Self.Call.Answer) → List Self.Call → Type 0 };
 
     // it is the first's after it took a prefix of pairs that the value's answers agree with, and became incomplete
-    ghost broke_off: { Recorded Self Self.Call Self.Call.Answer → Recorded Self Self.Call Self.Call.Answer
-        → Type 0 };
+    ghost broke_off: { Recorded Self Self.Call Self.Call.Answer
+        → Recorded Self Self.Call Self.Call.Answer → Type 0 };
 }
 
 impl<T: Track> Told for T {

@@ -32,7 +32,8 @@ pub trait ToldMut: Track {
     ghost agrees: { Lent Self Self.Call Self.Call.Answer → Type 0 };
 
     // what became of what a recorder was lent
-    ghost goes: { Lent Self Self.Call Self.Call.Answer → Lent Self Self.Call Self.Call.Answer → Type 0 };
+    ghost goes: { Lent Self Self.Call Self.Call.Answer
+        → Lent Self Self.Call Self.Call.Answer → Type 0 };
 
     // the second recording is the first after it took these pairs and these writes
     ghost took: { Recording Self.Call Self.Call.Answer → Recording Self.Call Self.Call.Answer
@@ -40,7 +41,8 @@ pub trait ToldMut: Track {
 }
 
 impl<T: Track> ToldMut for T {
-    ghost agrees = { HasBegun (Done T.wrote T.Call.is_write T.Call.touches T.Call.Answer.eq T.answers)
+    ghost agrees = { HasBegun
+        (Done T.wrote T.Call.is_write T.Call.touches T.Call.Answer.eq T.answers)
         T.Call.Answer.eq T.answers };
 
     ghost goes = { Goes (Done T.wrote T.Call.is_write T.Call.touches T.Call.Answer.eq T.answers)
