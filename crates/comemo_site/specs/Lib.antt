@@ -1,5 +1,7 @@
 pub mod Html
+pub mod Lines
 pub mod Pages
+pub mod Parsing
 pub mod Publishing
 pub mod Reasons
 pub mod Reports

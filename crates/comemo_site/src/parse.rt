@@ -11,8 +11,10 @@
 //! | an empty line | the end of a paragraph or of a list |
 //! | any other | words of a paragraph |
 //!
-//! A page's name has no spaces: `include me too` is words.
-ghost use Rattle.std.specs.Prelude.{◌≡◌, string_bytes, IfOk};
+//! A page's name has no spaces: `include me too` is words. `specs/Lines.antt` defines the blocks of a source.
+ghost use Rattle.std.specs.Prelude.{◌≡◌, ℕ, List, [], ◌∷◌, ◌++◌, false, true, string_bytes, IfOk, MatchOption};
+ghost use Rattle.comemo_site.specs.Lines.{Part, Contents, Items, Words, begins, included, is_name, names, past, part_of, part_blocks, pages_of, blocks_of};
+ghost use Rattle.comemo_site.specs.Parsing.{part_in, ending, whole};
 ghost use Rattle.comemo_site.specs.Sources.{title_of};
 
 use crate::block::{Block, Blocks, Plain};
@@ -34,17 +36,38 @@ enum Line<'a> {
     Words(&'a str),
 }
 
-/// The word after a beginning of a line; `None` if the line begins otherwise or goes on after the word.
-fn word_after<'a>(line: &'a str, start: &str) -> Option<&'a str> {
-    let word = line.strip_prefix(start)?.trim_start();
-    if word.is_empty() || word.contains(char::is_whitespace) {
+/// What follows a mark at the start of a line; `None` if the line begins otherwise.
+fn after<'a>(line: &'a str, mark: &str) -> Option<&'a str>
+    ensures { MatchOption result (begins mark.now line.now ≡ false)
+        (λ words. (begins mark.now line.now ≡ true) × (words.now ≡ past mark.now line.now)) }
+{
+    let words = line.strip_prefix(mark)?;
+    Some(words.trim_start())
+}
+
+/// Whether a text is one word.
+fn is_name(text: &str) -> bool
+    ensures { result ≡ is_name text.now }
+{
+    !text.is_empty() && !text.chars().any(char::is_whitespace)
+}
+
+/// The word after a mark; `None` if the line begins otherwise or goes on after the word.
+fn name_after<'a>(line: &'a str, mark: &str) -> Option<&'a str>
+    ensures { MatchOption result (names mark.now line.now ≡ false)
+        (λ name. (names mark.now line.now ≡ true) × (name.now ≡ past mark.now line.now)) }
+{
+    let name = after(line, mark)?;
+    if !is_name(name) {
         return None;
     }
-    Some(word)
+    Some(name)
 }
 
 /// What a line says.
-fn line_of(line: &str) -> Line<'_> {
+fn line_of(line: &str) -> Line<'_>
+    ensures { part_in result ≡ part_of line.now }
+{
     let line = line.trim();
     if line.is_empty() {
         return Line::Empty;
@@ -52,22 +75,55 @@ fn line_of(line: &str) -> Line<'_> {
     if line == "toc" {
         return Line::Contents;
     }
-    if let Some(words) = line.strip_prefix("# ") {
-        return Line::Heading(words.trim_start());
+    if let Some(words) = after(line, "# ") {
+        return Line::Heading(words);
     }
-    if let Some(words) = line.strip_prefix("## ") {
-        return Line::Subheading(words.trim_start());
+    if let Some(words) = after(line, "## ") {
+        return Line::Subheading(words);
     }
-    if let Some(words) = line.strip_prefix("- ") {
-        return Line::Item(words.trim_start());
+    if let Some(words) = after(line, "- ") {
+        return Line::Item(words);
     }
-    if let Some(name) = word_after(line, "include ") {
+    if let Some(name) = name_after(line, "include ") {
         return Line::Include(name);
     }
-    if let Some(name) = word_after(line, "link ") {
+    if let Some(name) = name_after(line, "link ") {
         return Line::Link(name);
     }
     Line::Words(line)
+}
+
+/// Appends the name of the page that a line includes, if it includes one.
+fn push_page(alloc: Global, pages: &mut Vec<Text>, line: &str) -> Result<(), AllocError>
+    ensures { IfOk result (λ _. pages.new.items ≡ pages.old.items ++ included (part_of line.now)) }
+{
+    match line_of(line) {
+        Line::Include(name) => {
+            let name = Text::from_str(alloc, name)?;
+            Ok(pages.push(name)?)
+        }
+        _ => Ok(()),
+    }
+}
+
+/// The names of the pages that a source includes, in order.
+fn pages_in(alloc: Global, source: &str) -> Result<Vec<Text>, AllocError>
+    ensures { IfOk result (λ pages. pages.items ≡ pages_of source.now) }
+{
+    let mut pages = Vec::new(alloc);
+    for line in source.lines() {
+        push_page(alloc, &mut pages, line)?;
+    }
+    Ok(pages)
+}
+
+/// What has not ended.
+#[derive(Clone, Copy)]
+enum Unended {
+    Nothing,
+    /// A paragraph, which has the parser's words.
+    Paragraph,
+    List,
 }
 
 /// The blocks so far.
@@ -75,115 +131,141 @@ fn line_of(line: &str) -> Line<'_> {
 struct Parser {
     alloc: Global,
     blocks: Vec<Block>,
-    /// The words of a paragraph that has not ended; empty if there is none.
+    unended: Unended,
+    /// The words of a paragraph that has not ended.
     words: String,
-    /// Whether a list has not ended.
-    is_list: bool,
 }
 
 impl Parser {
     /// Nothing so far. Does not allocate.
-    fn new(alloc: Global) -> Self {
+    fn new(alloc: Global) -> Self
+        ensures empty { result.blocks.items ≡ [] }
+        ensures unended { result.unended ≡ Unended.Nothing }
+    {
         Parser {
             alloc,
             blocks: Vec::new(alloc),
+            unended: Unended::Nothing,
             words: String::new(alloc),
-            is_list: false,
         }
     }
 
     /// Appends a block.
-    fn push(&mut self, block: Block) -> Result<(), AllocError> {
+    fn push(&mut self, block: Block) -> Result<(), AllocError>
+        ensures appended { IfOk result (λ _.
+            self.new.blocks.items ≡ self.old.blocks.items ++ block ∷ []) }
+        ensures unended { self.new.unended ≡ self.old.unended }
+        ensures words { self.new.words ≡ self.old.words }
+    {
         Ok(self.blocks.push(block)?)
     }
 
-    /// Ends a paragraph.
-    fn end_paragraph(&mut self) -> Result<(), AllocError> {
-        if self.words.is_empty() {
-            return Ok(());
+    /// Ends a paragraph or a list.
+    fn end(&mut self) -> Result<(), AllocError>
+        ensures appended { IfOk result (λ _. self.new.blocks.items
+            ≡ self.old.blocks.items ++ ending self.old.unended (string_bytes self.old.words)) }
+        ensures unended { self.new.unended ≡ Unended.Nothing }
+    {
+        let unended = self.unended;
+        self.unended = Unended::Nothing;
+        match unended {
+            Unended::Nothing => Ok(()),
+            Unended::Paragraph => {
+                let words = Text::from_str(self.alloc, self.words.as_str())?;
+                self.push(Block::Plain(Plain::Paragraph(words)))
+            }
+            Unended::List => self.push(Block::Plain(Plain::ListEnd)),
         }
-        let words = Text::from_str(self.alloc, self.words.as_str())?;
-        self.words.clear();
-        self.push(Block::Plain(Plain::Paragraph(words)))
     }
 
-    /// Ends a paragraph and a list.
-    fn end(&mut self) -> Result<(), AllocError> {
-        self.end_paragraph()?;
-        if self.is_list {
-            self.is_list = false;
-            self.push(Block::Plain(Plain::ListEnd))?;
-        }
-        Ok(())
+    /// Ends a paragraph or a list, and appends a block.
+    fn push_single(&mut self, block: Block) -> Result<(), AllocError>
+        ensures appended { IfOk result (λ _. self.new.blocks.items
+            ≡ self.old.blocks.items ++ ending self.old.unended (string_bytes self.old.words) ++ block ∷ []) }
+        ensures unended { IfOk result (λ _. self.new.unended ≡ Unended.Nothing) }
+    {
+        self.end()?;
+        self.push(block)
     }
 
     /// Appends an item, in a list.
-    fn push_item(&mut self, words: &str) -> Result<(), AllocError> {
-        self.end_paragraph()?;
-        if !self.is_list {
-            self.is_list = true;
-            self.push(Block::Plain(Plain::ListStart))?;
+    fn push_item(&mut self, words: &str) -> Result<(), AllocError>
+        ensures { IfOk result (λ _. (pages : List (List ℕ)) (parts : List Part)
+            → whole pages self.new parts ≡ whole pages self.old (Items (words.now ∷ []) ∷ parts)) }
+    {
+        match self.unended {
+            Unended::List => {}
+            Unended::Nothing | Unended::Paragraph => {
+                self.push_single(Block::Plain(Plain::ListStart))?;
+                self.unended = Unended::List;
+            }
         }
         let words = Text::from_str(self.alloc, words)?;
         self.push(Block::Plain(Plain::Item(words)))
     }
 
     /// Appends words to a paragraph.
-    fn push_words(&mut self, words: &str) -> Result<(), AllocError> {
-        if self.is_list {
-            self.end()?;
-        }
-        if !self.words.is_empty() {
-            self.words.push('\n')?;
+    fn push_words(&mut self, words: &str) -> Result<(), AllocError>
+        ensures { IfOk result (λ _. (pages : List (List ℕ)) (parts : List Part)
+            → whole pages self.new parts ≡ whole pages self.old (Words words.now ∷ parts)) }
+    {
+        match self.unended {
+            Unended::Paragraph => self.words.push('\n')?,
+            Unended::Nothing | Unended::List => {
+                self.end()?;
+                self.words.clear();
+                self.unended = Unended::Paragraph;
+            }
         }
         self.words.push_str(words)
     }
 
     /// Appends a list of the pages that the source includes; nothing if it includes none.
-    fn push_contents(&mut self, source: &str) -> Result<(), AllocError> {
-        let mut is_begun = false;
-        for line in source.lines() {
-            if let Line::Include(name) = line_of(line) {
-                if !is_begun {
-                    is_begun = true;
-                    self.push(Block::Plain(Plain::ListStart))?;
-                }
-                let name = Text::from_str(self.alloc, name)?;
-                self.push(Block::Entry(name))?;
-            }
+    fn push_contents(&mut self, source: &str) -> Result<(), AllocError>
+        ensures appended { IfOk result (λ _. self.new.blocks.items
+            ≡ self.old.blocks.items ++ ending self.old.unended (string_bytes self.old.words)
+            ++ part_blocks (pages_of source.now) Contents) }
+        ensures unended { IfOk result (λ _. self.new.unended ≡ Unended.Nothing) }
+    {
+        self.end()?;
+        let pages = pages_in(self.alloc, source)?;
+        if pages.is_empty() {
+            return Ok(());
         }
-        if is_begun {
-            self.push(Block::Plain(Plain::ListEnd))?;
+        self.push(Block::Plain(Plain::ListStart))?;
+        for page in pages {
+            self.push(Block::Entry(page))?;
         }
-        Ok(())
+        self.push(Block::Plain(Plain::ListEnd))
     }
 
     /// Appends what a line of the source says.
-    fn push_line(&mut self, line: Line<'_>, source: &str) -> Result<(), AllocError> {
+    fn push_line(&mut self, line: Line<'_>, source: &str) -> Result<(), AllocError>
+        ensures { IfOk result (λ _. (parts : List Part)
+            → whole (pages_of source.now) self.new parts
+            ≡ whole (pages_of source.now) self.old (part_in line.entry ∷ parts)) }
+    {
         match line {
-            Line::Item(words) => return self.push_item(words),
-            Line::Words(words) => return self.push_words(words),
-            _ => self.end()?,
-        }
-        match line {
+            Line::Empty => self.end(),
+            Line::Contents => self.push_contents(source),
             Line::Heading(words) => {
                 let words = Text::from_str(self.alloc, words)?;
-                self.push(Block::Plain(Plain::Heading(words)))
+                self.push_single(Block::Plain(Plain::Heading(words)))
             }
             Line::Subheading(words) => {
                 let words = Text::from_str(self.alloc, words)?;
-                self.push(Block::Plain(Plain::Subheading(words)))
+                self.push_single(Block::Plain(Plain::Subheading(words)))
             }
             Line::Include(name) => {
                 let name = Text::from_str(self.alloc, name)?;
-                self.push(Block::Include(name))
+                self.push_single(Block::Include(name))
             }
             Line::Link(name) => {
                 let name = Text::from_str(self.alloc, name)?;
-                self.push(Block::Link(name))
+                self.push_single(Block::Link(name))
             }
-            Line::Contents => self.push_contents(source),
-            Line::Empty | Line::Item(_) | Line::Words(_) => Ok(()),
+            Line::Item(words) => self.push_item(words),
+            Line::Words(words) => self.push_words(words),
         }
     }
 }
@@ -202,7 +284,8 @@ fn title_in_blocks(alloc: Global, name: &str, blocks: &[Block]) -> Result<Text, 
 
 /// The page of a name that has this source.
 pub fn parse(alloc: Global, name: &str, source: &str) -> Result<Page, AllocError>
-    ensures { IfOk result (λ page. page.title ≡ title_of name.now page.blocks) }
+    ensures title { IfOk result (λ page. page.title ≡ title_of name.now page.blocks) }
+    ensures body { IfOk result (λ page. page.blocks ≡ blocks_of source.now) }
 {
     let mut parser = Parser::new(alloc);
     for line in source.lines() {
