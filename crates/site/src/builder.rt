@@ -1,20 +1,21 @@
 //! Builds: from the files of pages to those of documents.
 ghost use Rattle.std.specs.Prelude.{◌<◌};
 
+use crate::basis::{Basis, Changed};
 use crate::command::Request;
-use crate::folder::{Found, Listing, list};
+use crate::folder::{Found, Known};
 use crate::output;
 use anyhow::{Context, Result};
 use comemo::{Cache, Fault};
 use comemo_site::names::page_name;
 use comemo_site::parse::parse;
-use comemo_site::publish::{Published, Reads, Settings, SharedBuilt, is_reached, publish_all};
+use comemo_site::publish::{Published, Settings, SharedBuilt, publish_all};
 use comemo_site::report::{Summary, warning_line};
 use comemo_site::site::{Site, SiteCall};
 use comemo_site::tally::Tally;
 use comemo_site::text::Text;
 use std::alloc::Global;
-use std::collections::{BTreeMap, BTreeSet, HashMap};
+use std::collections::{BTreeMap, BTreeSet};
 use std::rt::Runtime;
 use std::sync::Wait;
 use std::thread::Threads;
@@ -39,7 +40,7 @@ struct Owned {
     /// The question for its title, which its document shows too.
     title: SiteCall,
     /// What its text and warnings rest on; `None` if its document is not written.
-    reads: Option<Reads>,
+    basis: Option<Basis>,
 }
 
 /// The pages as they were last read, and what is kept of them.
@@ -50,7 +51,7 @@ pub struct Builder<'a> {
     site: Site,
     shared: SharedBuilt,
     /// The files as they were when they were last read.
-    known: Listing,
+    known: Known,
     /// The files that could not be read.
     broken: BTreeSet<String>,
     /// The pages by their names.
@@ -95,7 +96,7 @@ impl<'a> Builder<'a> {
             explains,
             site: Site::new(alloc),
             shared: (Cache::new(alloc), Cache::new(alloc)),
-            known: HashMap::new(alloc),
+            known: Known::new(alloc),
             broken: BTreeSet::new(alloc),
             pages: BTreeMap::new(alloc),
             is_begun: false,
@@ -111,7 +112,7 @@ impl<'a> Builder<'a> {
     }
 
     /// Drops the page of a file that is gone or cannot be read.
-    fn forget(&mut self, alloc: Global, path: &str, changed: &mut Vec<SiteCall>) -> Result<()> {
+    fn forget(&mut self, alloc: Global, path: &str, changed: &mut Changed) -> Result<()> {
         self.broken.remove(path);
         let Some(name) = page_name(path) else {
             return Ok(());
@@ -167,7 +168,7 @@ impl<'a> Builder<'a> {
         &mut self,
         rt: &R,
         path: &str,
-        changed: &mut Vec<SiteCall>,
+        changed: &mut Changed,
     ) -> Result<()> {
         let alloc = rt.alloc();
         let Some(name) = page_name(path) else {
@@ -189,53 +190,30 @@ impl<'a> Builder<'a> {
             changed.push(SiteCall::BlocksOf(own.clone()?))?;
         }
         self.site.set(String::from_str(alloc, name)?, page)?;
-        let reads = match self.pages.remove(name) {
-            Some(page) => page.reads,
+        let basis = match self.pages.remove(name) {
+            Some(page) => page.basis,
             None => None,
         };
         let owned = Owned {
             path: String::from_str(alloc, path)?,
             title: SiteCall::TitleOf(own.clone()?),
             name: own,
-            reads,
+            basis,
         };
         self.pages.insert(String::from_str(alloc, name)?, owned)?;
         Ok(())
     }
 
-    /// The files that are gone, and those that are new or have another stamp, in order.
-    fn differing<R: AllocGlobal>(
-        &self,
-        rt: &R,
-        files: &Listing,
-    ) -> Result<(Vec<String>, Vec<String>)> {
-        let mut gone = Vec::new(rt.alloc());
-        let mut fresh = Vec::new(rt.alloc());
-        for path in self.known.keys() {
-            if !files.contains_key(path) {
-                gone.push(path.clone()?)?;
-            }
-        }
-        for (path, stamp) in files {
-            if self.known.get(path) != Some(stamp) {
-                fresh.push(path.clone()?)?;
-            }
-        }
-        gone.sort()?;
-        fresh.sort()?;
-        Ok((gone, fresh))
+    /// Looks at the folder of the pages. Fails if it cannot be read.
+    pub fn look<R: Runtime + AllocGlobal>(&mut self, rt: &R) -> Result<Found> {
+        self.known.look(rt, self.request.source)
     }
 
     /// Reads what changed in the folder, and lists the calls that the site answers otherwise since.
-    fn update<R: Runtime + AllocGlobal>(
-        &mut self,
-        rt: &R,
-        gone: &[String],
-        fresh: &[String],
-    ) -> Result<Vec<SiteCall>> {
+    fn update<R: Runtime + AllocGlobal>(&mut self, rt: &R, found: &Found) -> Result<Changed> {
         let alloc = rt.alloc();
-        let mut changed = Vec::new(alloc);
-        for path in gone {
+        let mut changed = Changed::new(alloc);
+        for path in &found.gone {
             self.forget(alloc, path.as_str(), &mut changed)?;
         }
         // A file that could not be read is tried again.
@@ -243,7 +221,7 @@ impl<'a> Builder<'a> {
         for path in &broken {
             self.read(rt, path.as_str(), &mut changed)?;
         }
-        for path in fresh {
+        for path in found.fresh.keys() {
             if !broken.contains(path) {
                 self.read(rt, path.as_str(), &mut changed)?;
             }
@@ -252,14 +230,14 @@ impl<'a> Builder<'a> {
     }
 
     /// The names of the pages whose documents may be others after these calls changed, or were not written.
-    fn due<R: AllocGlobal>(&mut self, rt: &R, changed: &[SiteCall]) -> Result<Vec<Text>> {
+    fn due<R: AllocGlobal>(&mut self, rt: &R, changed: &Changed) -> Result<Vec<Text>> {
         let mut names = Vec::new(rt.alloc());
         for page in self.pages.values() {
-            let is_due = match &page.reads {
-                Some(reads) => {
-                    changed.len() > FEW
-                        || changed.contains(&page.title)
-                        || is_reached(reads, changed)
+            let is_due = match &page.basis {
+                Some(basis) => {
+                    changed.calls().len() > FEW
+                        || changed.calls().contains(&page.title)
+                        || basis.is_reached(changed)
                 }
                 None => true,
             };
@@ -273,9 +251,9 @@ impl<'a> Builder<'a> {
     }
 
     /// Keeps what the document of a page rests on; `None` if it is not written.
-    fn keep(&mut self, name: &str, reads: Option<Reads>) {
+    fn keep(&mut self, name: &str, basis: Option<Basis>) {
         if let Some(page) = self.pages.get_mut(name) {
-            page.reads = reads;
+            page.basis = basis;
         }
     }
 
@@ -300,7 +278,8 @@ impl<'a> Builder<'a> {
                 return self.fail(rt, what.as_str());
             }
         }
-        self.keep(name.as_str(), Some(page.reads));
+        let basis = Basis::new(rt.alloc(), page.reads)?;
+        self.keep(name.as_str(), Some(basis));
         Ok(())
     }
 
@@ -335,7 +314,7 @@ impl<'a> Builder<'a> {
     fn publish<R: Runtime + AllocGlobal + Threads + Wait + Sync>(
         &mut self,
         rt: &R,
-        changed: &[SiteCall],
+        changed: &Changed,
     ) -> Result<Tally> {
         let alloc = rt.alloc();
         let names = self.due(rt, changed)?;
@@ -380,20 +359,18 @@ impl<'a> Builder<'a> {
         rt: &R,
         found: Found,
     ) -> Result<Option<(u64, Tally)>> {
-        let Found { files, problems } = found;
-        let (gone, fresh) = self.differing(rt, &files)?;
-        let count = gone.len().saturating_add(fresh.len());
+        let count = found.gone.len().saturating_add(found.fresh.len());
         if self.is_begun && count == 0 {
             return Ok(None);
         }
         self.is_begun = true;
-        self.known = files;
         self.summary = Summary::new();
-        for problem in &problems {
+        for problem in &found.problems {
             self.fail(rt, problem.as_str())?;
         }
-        let changed = self.update(rt, gone.as_slice(), fresh.as_slice())?;
-        let tally = self.publish(rt, changed.as_slice())?;
+        let changed = self.update(rt, &found)?;
+        self.known.keep(found)?;
+        let tally = self.publish(rt, &changed)?;
         Ok(Some((u64::try_from(count).unwrap_or(u64::MAX), tally)))
     }
 }
@@ -404,7 +381,8 @@ pub fn build<R: Runtime + AllocGlobal + Threads + Wait + Sync>(
     request: Request<'_>,
 ) -> Result<u8> {
     let mut builder = Builder::new(rt, request, false);
-    builder.round(rt, list(rt, request.source)?)?;
+    let found = builder.look(rt)?;
+    builder.round(rt, found)?;
     let line = builder.summary.line(rt.alloc())?;
     println!(rt; "{line}").context("standard output")?;
     Ok(if builder.summary.failed == 0 { 0 } else { 1 })

@@ -2,7 +2,6 @@
 
 use crate::builder::{Builder, complain};
 use crate::command::Request;
-use crate::folder::list;
 use anyhow::{Context, Result};
 use comemo_site::report::round_line;
 use std::rt::Runtime;
@@ -56,7 +55,7 @@ impl Rounds {
         builder: &mut Builder<'_>,
     ) -> Result<()> {
         let start = Instant::now(rt)?;
-        let found = match list(rt, builder.request.source) {
+        let found = match builder.look(rt) {
             Ok(found) => found,
             Err(error) => {
                 if !self.is_lost {
