@@ -90,9 +90,7 @@ impl Function for NotesThree {
     ghost laws = { exact_laws (Prim.search rules) };
 }
 
-impl RunMut<Book> for NotesThree {
-    type Needs = ();
-
+impl RunMut<Book, ()> for NotesThree {
     fn run(n: &u64, book: &mut RecorderMut<'_, '_, Book>, _needs: &mut ()) -> Result<u64, Fault> {
         book.write(NotebookCall::Note(1))?;
         book.write(NotebookCall::Note(2))?;

@@ -32,9 +32,7 @@ impl Function for Dump {
         (λ x y h. Prim.search rules) (λ x y h. Prim.search rules) (λ x y h. Prim.search rules)) };
 }
 
-impl RunMut<Emitter> for Dump {
-    type Needs = Global;
-
+impl RunMut<Emitter, Global> for Dump {
     fn run(
         text: &String,
         emitter: &mut RecorderMut<'_, '_, Emitter>,
@@ -220,9 +218,7 @@ impl Function for AddsThree {
     ghost laws = { exact_laws (Prim.search rules) };
 }
 
-impl RunMut<Counter> for AddsThree {
-    type Needs = ();
-
+impl RunMut<Counter, ()> for AddsThree {
     fn run(
         _key: &(),
         counter: &mut RecorderMut<'_, '_, Counter>,
@@ -254,9 +250,7 @@ impl Function for AddsByAnother {
     ghost laws = { exact_laws (Prim.search rules) };
 }
 
-impl RunMut<Counter> for AddsByAnother {
-    type Needs = CacheData<AddsThree>;
-
+impl RunMut<Counter, CacheData<AddsThree>> for AddsByAnother {
     fn run(
         _number: &u64,
         counter: &mut RecorderMut<'_, '_, Counter>,

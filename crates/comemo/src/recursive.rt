@@ -143,10 +143,10 @@ impl<'a, T: Track> Recorder<'a, T> {
 
     /// As `call`, for a function that calls itself: `Incomplete` is returned as `Memory`, since the fault may end a run
     /// whose own recording is complete.
-    pub fn call_other<G: Run<T>, H: Hold<G>>(
+    pub fn call_other<G: Run<T, N>, H: Hold<G>, N>(
         &mut self,
         cache: &mut H,
-        needs: &mut G::Needs,
+        needs: &mut N,
         key: G::Key,
     ) -> Result<G::Out, Fault>
         requires { WritesNone G.writes }

@@ -9,7 +9,7 @@ use std::alloc::Global;
 use std::sync::{Arc, Wait};
 
 /// Caches that one call evicts: a cache, none, or pairs and triples of such. So one call evicts all that a function
-/// needs (`Function::Needs`).
+/// needs.
 pub trait Caches {
     /// What an eviction with this bound may leave.
     ghost evicts: { ℕ → Self → Self → Type 0 };

@@ -27,9 +27,7 @@ impl Function for Adds {
     ghost laws = { Prim.search rules };
 }
 
-impl RunMut<Counter> for Adds {
-    type Needs = ();
-
+impl RunMut<Counter, ()> for Adds {
     fn run(
         n: &u64,
         counter: &mut RecorderMut<'_, '_, Counter>,
@@ -62,9 +60,7 @@ impl Function for AddsTwice {
     ghost laws = { exact_laws (Prim.search rules) };
 }
 
-impl RunMut<Counter> for AddsTwice {
-    type Needs = CacheData<Adds>;
-
+impl RunMut<Counter, CacheData<Adds>> for AddsTwice {
     fn run(
         n: &u64,
         counter: &mut RecorderMut<'_, '_, Counter>,

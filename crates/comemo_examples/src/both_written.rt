@@ -31,9 +31,7 @@ impl Function for NotesAndAdds {
     ghost laws = { exact_laws (Prim.search rules) };
 }
 
-impl<'a> RunMut<BothMut<'a, Counter, Notebook>> for NotesAndAdds {
-    type Needs = CacheData<Adds>;
-
+impl<'a> RunMut<BothMut<'a, Counter, Notebook>, CacheData<Adds>> for NotesAndAdds {
     fn run(
         n: &u64,
         both: &mut RecorderMut<'_, '_, BothMut<'a, Counter, Notebook>>,

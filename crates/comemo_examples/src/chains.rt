@@ -111,9 +111,7 @@ impl Function for IsInChain {
     ghost laws = { Prim.search rules };
 }
 
-impl<'a> Run<Chain<'a>> for IsInChain {
-    type Needs = ();
-
+impl<'a> Run<Chain<'a>, ()> for IsInChain {
     fn run(n: &u32, chain: &mut Recorder<'_, Chain<'a>>, _needs: &mut ()) -> Result<bool, Fault> {
         let is = chain.ask(ChainCall::Contains(*n))?;
         Ok(is)

@@ -21,9 +21,7 @@ impl Function for Double {
     ghost laws = { Prim.search rules };
 }
 
-impl Run<()> for Double {
-    type Needs = ();
-
+impl Run<(), ()> for Double {
     fn run(n: &u32, _of: &mut Recorder<'_, ()>, _needs: &mut ()) -> Result<u32, Fault> {
         Ok(n.wrapping_add(*n))
     }

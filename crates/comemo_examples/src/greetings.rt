@@ -22,9 +22,7 @@ impl Function for World {
     ghost laws = { Prim.search rules };
 }
 
-impl Run<()> for World {
-    type Needs = Global;
-
+impl Run<(), Global> for World {
     fn run(_key: &(), _of: &mut Recorder<'_, ()>, alloc: &mut Global) -> Result<String, Fault> {
         Ok(String::from_str(*alloc, "The world is big")?)
     }
@@ -72,9 +70,7 @@ impl Function for SaysHello {
     ghost laws = { Prim.search rules };
 }
 
-impl Run<Greeting> for SaysHello {
-    type Needs = ();
-
+impl Run<Greeting, ()> for SaysHello {
     fn run(_key: &(), text: &mut Recorder<'_, Greeting>, _needs: &mut ()) -> Result<bool, Fault> {
         let is = text.ask(())?;
         Ok(is)

@@ -92,9 +92,7 @@ impl Function for Selfie {
     ghost laws = { Prim.search rules };
 }
 
-impl Run<Text> for Selfie {
-    type Needs = ();
-
+impl Run<Text, ()> for Selfie {
     fn run(_key: &(), text: &mut Recorder<'_, Text>, _needs: &mut ()) -> Result<String, Fault> {
         // The answer to this question is a text, so the other branch does not occur.
         let TextAnswer::Text(itself) = text.ask(TextCall::Itself)? else {
@@ -121,9 +119,7 @@ impl Function for IsLong {
     ghost laws = { Prim.search rules };
 }
 
-impl Run<Text> for IsLong {
-    type Needs = ();
-
+impl Run<Text, ()> for IsLong {
     fn run(_key: &(), text: &mut Recorder<'_, Text>, _needs: &mut ()) -> Result<bool, Fault> {
         // The answer to this question is a length, so the other branch does not occur.
         let TextAnswer::Length(length) = text.ask(TextCall::LengthPlus(5))? else {

@@ -28,9 +28,7 @@ impl Function for Bump {
     ghost laws = { exact_laws (Prim.search rules) };
 }
 
-impl RunMut<Counter> for Bump {
-    type Needs = ();
-
+impl RunMut<Counter, ()> for Bump {
     fn run(
         k: &u64,
         counter: &mut RecorderMut<'_, '_, Counter>,
@@ -63,9 +61,7 @@ impl Function for Readback {
     ghost laws = { exact_laws (Prim.search rules) };
 }
 
-impl RunMut<Counter> for Readback {
-    type Needs = ();
-
+impl RunMut<Counter, ()> for Readback {
     fn run(
         k: &u64,
         counter: &mut RecorderMut<'_, '_, Counter>,
@@ -100,9 +96,7 @@ impl<H: Hold<Bump>> Function for Twice<H> {
     ghost laws = { exact_laws (Prim.search rules) };
 }
 
-impl<H: Hold<Bump>> RunMut<Counter> for Twice<H> {
-    type Needs = H;
-
+impl<H: Hold<Bump>> RunMut<Counter, H> for Twice<H> {
     fn run(
         k: &u64,
         counter: &mut RecorderMut<'_, '_, Counter>,
@@ -136,9 +130,7 @@ impl Function for AddsAndGets {
     ghost laws = { exact_laws (Prim.search rules) };
 }
 
-impl<'a> RunMut<BothMut<'a, Counter, Counter>> for AddsAndGets {
-    type Needs = ();
-
+impl<'a> RunMut<BothMut<'a, Counter, Counter>, ()> for AddsAndGets {
     fn run(
         _key: &(),
         both: &mut RecorderMut<'_, '_, BothMut<'a, Counter, Counter>>,

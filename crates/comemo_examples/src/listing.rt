@@ -35,9 +35,7 @@ impl Function for Listing {
     } };
 }
 
-impl RunMut<Log> for Listing {
-    type Needs = ();
-
+impl RunMut<Log, ()> for Listing {
     fn run(
         texts: &Vec<String>,
         log: &mut RecorderMut<'_, '_, Log>,

@@ -93,9 +93,7 @@ impl<L: Loader> Function for Contents<L> {
     ghost laws = { Prim.search (rules, each_same, same_bytes, equal_bytes) };
 }
 
-impl<L: Loader> Run<Library<L>> for Contents<L> {
-    type Needs = ();
-
+impl<L: Loader> Run<Library<L>, ()> for Contents<L> {
     fn run(path: &String, of: &mut Recorder<'_, Library<L>>, _: &mut ()) -> Result<Vec<u8>, Fault> {
         let bytes = of.ask(LibraryCall::Load(path.clone()?))?;
         Ok(bytes)

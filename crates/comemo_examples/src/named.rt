@@ -30,9 +30,7 @@ impl Function for Sum {
     ghost laws = { Prim.search rules };
 }
 
-impl Run<Context> for Sum {
-    type Needs = ContextCall;
-
+impl Run<Context, ContextCall> for Sum {
     fn run(
         _key: &(),
         context: &mut Recorder<'_, Context>,
@@ -78,9 +76,7 @@ impl Function for IsOver {
     ghost laws = { Prim.search rules };
 }
 
-impl Run<Context> for IsOver {
-    type Needs = (CacheData<Sum>, ContextCall);
-
+impl Run<Context, (CacheData<Sum>, ContextCall)> for IsOver {
     fn run(
         n: &u64,
         context: &mut Recorder<'_, Context>,

@@ -24,9 +24,7 @@ impl Function for Identity {
     ghost laws = { Prim.search rules };
 }
 
-impl Run<()> for Identity {
-    type Needs = ();
-
+impl Run<(), ()> for Identity {
     fn run(n: &u64, _of: &mut Recorder<'_, ()>, _needs: &mut ()) -> Result<u64, Fault> {
         Ok(*n)
     }
@@ -49,9 +47,7 @@ impl Function for Sum {
     ghost laws = { Prim.search rules };
 }
 
-impl Run<()> for Sum {
-    type Needs = ();
-
+impl Run<(), ()> for Sum {
     fn run(key: &(u32, u32), _of: &mut Recorder<'_, ()>, _needs: &mut ()) -> Result<u32, Fault> {
         Ok(key.0.wrapping_add(key.1))
     }
@@ -85,9 +81,7 @@ impl Function for SumBelow {
     ghost laws = { Prim.search rules };
 }
 
-impl Run<()> for SumBelow {
-    type Needs = ();
-
+impl Run<(), ()> for SumBelow {
     fn run(n: &u32, _of: &mut Recorder<'_, ()>, _needs: &mut ()) -> Result<u64, Fault> {
         Ok(sum_below(*n))
     }
@@ -122,9 +116,7 @@ impl Function for DoubleFlat {
     ghost laws = { Prim.search rules };
 }
 
-impl Run<()> for DoubleFlat {
-    type Needs = ();
-
+impl Run<(), ()> for DoubleFlat {
     fn run(n: &Flat, _of: &mut Recorder<'_, ()>, _needs: &mut ()) -> Result<u32, Fault> {
         Ok(n.0.wrapping_add(n.0))
     }

@@ -34,9 +34,7 @@ impl Function for Either {
     ghost laws = { Prim.search rules };
 }
 
-impl Run<Town> for Either {
-    type Needs = Turn;
-
+impl Run<Town, Turn> for Either {
     fn run(_key: &(), town: &mut Recorder<'_, Town>, turn: &mut Turn) -> Result<u64, Fault> {
         match turn {
             Turn::People => town.ask(TownCall::People),
@@ -66,9 +64,7 @@ impl Function for Both {
     ghost laws = { Prim.search rules };
 }
 
-impl Run<Town> for Both {
-    type Needs = Turn;
-
+impl Run<Town, Turn> for Both {
     fn run(_key: &(), town: &mut Recorder<'_, Town>, turn: &mut Turn) -> Result<(u64, u64), Fault> {
         match turn {
             Turn::People => {
@@ -105,9 +101,7 @@ impl Function for Exceeds {
     ghost laws = { Prim.search rules };
 }
 
-impl Run<Town> for Exceeds {
-    type Needs = ();
-
+impl Run<Town, ()> for Exceeds {
     fn run(n: &u64, town: &mut Recorder<'_, Town>, _needs: &mut ()) -> Result<bool, Fault> {
         let people = town.ask(TownCall::People)?;
         Ok(people > *n || town.ask(TownCall::Degrees)? > *n)

@@ -35,9 +35,7 @@ impl Function for TallyWarmth {
     ghost laws = { exact_laws (Prim.search rules) };
 }
 
-impl<'a> RunMut<ReadAndWrite<'a, Town, Counter>> for TallyWarmth {
-    type Needs = CacheData<Warmth>;
-
+impl<'a> RunMut<ReadAndWrite<'a, Town, Counter>, CacheData<Warmth>> for TallyWarmth {
     fn run(
         _: &(),
         both: &mut RecorderMut<'_, '_, ReadAndWrite<'a, Town, Counter>>,
@@ -73,9 +71,7 @@ impl Function for AddsDegrees {
     ghost laws = { exact_laws (Prim.search rules) };
 }
 
-impl<'a> RunMut<ReadAndWrite<'a, Town, Counter>> for AddsDegrees {
-    type Needs = ();
-
+impl<'a> RunMut<ReadAndWrite<'a, Town, Counter>, ()> for AddsDegrees {
     fn run(
         _: &(),
         both: &mut RecorderMut<'_, '_, ReadAndWrite<'a, Town, Counter>>,
@@ -112,9 +108,7 @@ impl Function for AddsOneMore {
     ghost laws = { exact_laws (Prim.search rules) };
 }
 
-impl<'a> RunMut<ReadAndWrite<'a, Town, Counter>> for AddsOneMore {
-    type Needs = CacheData<Adds>;
-
+impl<'a> RunMut<ReadAndWrite<'a, Town, Counter>, CacheData<Adds>> for AddsOneMore {
     fn run(
         _: &(),
         both: &mut RecorderMut<'_, '_, ReadAndWrite<'a, Town, Counter>>,

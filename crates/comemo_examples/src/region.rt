@@ -99,9 +99,7 @@ impl Function for Warmest {
     ghost laws = { Prim.search rules };
 }
 
-impl<'a> Run<Region<'a>> for Warmest {
-    type Needs = ();
-
+impl<'a> Run<Region<'a>, ()> for Warmest {
     fn run(_: &(), region: &mut Recorder<'_, Region<'a>>, _: &mut ()) -> Result<u64, Fault> {
         let coast = region.ask(RegionCall::Coast(TownCall::Degrees))?;
         let river = region.ask(RegionCall::River(TownCall::Degrees))?;

@@ -27,9 +27,7 @@ impl Function for IsWarmer {
     ghost laws = { Prim.search rules };
 }
 
-impl<'a> Run<Both<'a, Town, Town>> for IsWarmer {
-    type Needs = ();
-
+impl<'a> Run<Both<'a, Town, Town>, ()> for IsWarmer {
     fn run(
         _: &(),
         towns: &mut Recorder<'_, Both<'a, Town, Town>>,
@@ -65,9 +63,7 @@ impl Function for Lead {
     ghost laws = { Prim.search rules };
 }
 
-impl<'a> Run<Both<'a, Town, Town>> for Lead {
-    type Needs = CacheData<Warmth>;
-
+impl<'a> Run<Both<'a, Town, Town>, CacheData<Warmth>> for Lead {
     fn run(
         _key: &(),
         towns: &mut Recorder<'_, Both<'a, Town, Town>>,

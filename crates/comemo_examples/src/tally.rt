@@ -29,9 +29,7 @@ impl Function for Tally {
     ghost laws = { exact_laws (Prim.search rules) };
 }
 
-impl<'a> RunMut<BothMut<'a, Town, Counter>> for Tally {
-    type Needs = ();
-
+impl<'a> RunMut<BothMut<'a, Town, Counter>, ()> for Tally {
     fn run(
         _: &(),
         both: &mut RecorderMut<'_, '_, BothMut<'a, Town, Counter>>,

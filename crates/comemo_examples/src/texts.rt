@@ -21,9 +21,7 @@ impl Function for Same {
     ghost laws = { Prim.search rules };
 }
 
-impl Run<()> for Same {
-    type Needs = ();
-
+impl Run<(), ()> for Same {
     fn run(text: &String, _of: &mut Recorder<'_, ()>, _needs: &mut ()) -> Result<String, Fault> {
         Ok(text.clone()?)
     }

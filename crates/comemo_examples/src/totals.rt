@@ -106,9 +106,7 @@ impl Function for NotesTotals {
     ghost laws = { exact_laws (Prim.search rules) };
 }
 
-impl<'a> RunMut<ReadAndWrite<'a, Cells, Notebook>> for NotesTotals {
-    type Needs = CacheData<RunningTotal>;
-
+impl<'a> RunMut<ReadAndWrite<'a, Cells, Notebook>, CacheData<RunningTotal>> for NotesTotals {
     fn run(
         count: &u32,
         both: &mut RecorderMut<'_, '_, ReadAndWrite<'a, Cells, Notebook>>,

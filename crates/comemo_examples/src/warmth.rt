@@ -24,9 +24,7 @@ impl Function for Warmth {
     ghost laws = { Prim.search rules };
 }
 
-impl Run<Town> for Warmth {
-    type Needs = ();
-
+impl Run<Town, ()> for Warmth {
     fn run(_key: &(), town: &mut Recorder<'_, Town>, _needs: &mut ()) -> Result<u64, Fault> {
         let degrees = town.ask(TownCall::Degrees)?;
         Ok(degrees)

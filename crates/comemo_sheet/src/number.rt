@@ -32,9 +32,7 @@ impl Function for NumberIn {
     }) };
 }
 
-impl Run<Sheet> for NumberIn {
-    type Needs = ();
-
+impl Run<Sheet, ()> for NumberIn {
     fn run(name: &String, sheet: &mut Recorder<'_, Sheet>, _needs: &mut ()) -> Result<i64, Fault> {
         let content = sheet.ask(SheetCall::Cell(name.clone()?))?;
         Ok(content.number())

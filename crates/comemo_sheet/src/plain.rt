@@ -42,9 +42,7 @@ impl Function for PlainNumber {
     }) };
 }
 
-impl Run<Sheet> for PlainNumber {
-    type Needs = ();
-
+impl Run<Sheet, ()> for PlainNumber {
     fn run(
         name: &String,
         sheet: &mut Recorder<'_, Sheet>,

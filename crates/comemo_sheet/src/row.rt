@@ -32,9 +32,7 @@ impl Function for RowTotal {
     }) };
 }
 
-impl Run<Sheet> for RowTotal {
-    type Needs = ();
-
+impl Run<Sheet, ()> for RowTotal {
     fn run(
         names: &Vec<String>,
         sheet: &mut Recorder<'_, Sheet>,

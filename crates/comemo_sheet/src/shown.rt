@@ -55,9 +55,7 @@ impl<H> Function for Shown<H> {
     }) };
 }
 
-impl<'a, H: Hold<NumberIn>> Run<Both<'a, Sheet, Settings>> for Shown<H> {
-    type Needs = H;
-
+impl<'a, H: Hold<NumberIn>> Run<Both<'a, Sheet, Settings>, H> for Shown<H> {
     fn run(
         name: &String,
         both: &mut Recorder<'_, Both<'a, Sheet, Settings>>,

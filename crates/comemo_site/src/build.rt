@@ -160,9 +160,7 @@ impl Function for Publish {
     ghost laws = { exact_laws (Prim.search (rules, answer_clones)) };
 }
 
-impl<'a> RunMut<ReadAndWrite<'a, Site, Log>> for Publish {
-    type Needs = (Global, Built);
-
+impl<'a> RunMut<ReadAndWrite<'a, Site, Log>, (Global, Built)> for Publish {
     fn run(
         key: &(Text, u64),
         both: &mut RecorderMut<'_, '_, ReadAndWrite<'a, Site, Log>>,

@@ -40,9 +40,7 @@ impl Function for Link {
     ghost laws = { exact_laws (Prim.search (rules, answer_clones)) };
 }
 
-impl<'a> RunMut<ReadAndWrite<'a, Site, Log>> for Link {
-    type Needs = (Global, CacheData<Title>);
-
+impl<'a> RunMut<ReadAndWrite<'a, Site, Log>, (Global, CacheData<Title>)> for Link {
     fn run(
         name: &Text,
         both: &mut RecorderMut<'_, '_, ReadAndWrite<'a, Site, Log>>,

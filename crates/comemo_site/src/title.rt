@@ -26,9 +26,7 @@ impl Function for Title {
     ghost laws = { Prim.search (rules, answer_clones) };
 }
 
-impl Run<Site> for Title {
-    type Needs = ();
-
+impl Run<Site, ()> for Title {
     #[tactic(auto, using(crate::specs::SiteLaws::title_alike))]
     fn run(
         key: &(Text, ()),

@@ -27,9 +27,7 @@ impl Function for NotesThree {
     ghost laws = { exact_laws (Prim.search rules) };
 }
 
-impl RunMut<Notebook> for NotesThree {
-    type Needs = ();
-
+impl RunMut<Notebook, ()> for NotesThree {
     fn run(
         n: &u64,
         book: &mut RecorderMut<'_, '_, Notebook>,

@@ -25,9 +25,7 @@ impl Function for Coat {
     ghost laws = { Prim.search rules };
 }
 
-impl Run<Weather> for Coat {
-    type Needs = ();
-
+impl Run<Weather, ()> for Coat {
     fn run(least: &u64, of: &mut Recorder<'_, Weather>, _needs: &mut ()) -> Result<bool, Fault> {
         let degrees = of.ask(WeatherCall::Degrees)?;
         Ok(degrees < *least)
