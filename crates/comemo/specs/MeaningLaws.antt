@@ -3,6 +3,7 @@ use Rattle.std.proofs.Common.{◌≡◌, ◌∙◌, Bool, List, [], ◌∷◌, I
 use Rattle.std.specs.Bool.{⊤}
 use Rattle.comemo_cache.specs.Meaning.{IsRight, SameWrites}
 use Rattle.comemo_cache.specs.Cache.{FunctionLaws}
+use Rattle.comemo_base.specs.Answers.{Respects}
 use Rattle.comemo.specs.Function.{Laws}
 
 -- if there are no writes, there are no equal ones
@@ -52,6 +53,19 @@ reads_laws {eq = eq} l = record {
   key_clones = l.key_clones;
   answer_clones = l.answer_clones;
 }
+
+-- the laws of a function that writes nothing and whose output is f of its key and the answers: a clone of an output is that
+-- output, clones of keys and of answers are equal, and f treats equal keys alike
+pub output_laws : {C R K O : Type 0} {eq : C → C → Bool} {same : R → R → Bool} {eqk : K → K → Bool} {key_clone : K → K → Type 0} {answer_clone : R → R → Type 0} {cloned : O → O → Type 0} {f : K → (C → R) → O}
+    → ((a b : O) → cloned a b → b ≡ a) → ((x y : K) → key_clone x y → IsTrue (eqk x y)) → ((x y : R) → answer_clone x y → IsTrue (same x y))
+    → ((j k : K) (m : C → R) → Respects eq same m → IsTrue (eqk j k) → f j m ≡ f k m)
+    → FunctionLaws eq same eqk key_clone answer_clone cloned (IsRight (λ key m output. output ≡ f key m) (λ _ _ _ W. W ≡ []))
+output_laws outputs key_clones answer_clones keys = reads_laws (record {
+  outputs = λ key m a b respects is right. outputs a b is ∙ right;
+  keys = λ j k m output respects is right. right ∙ keys j k m respects is;
+  key_clones = key_clones;
+  answer_clones = answer_clones;
+})
 
 -- the laws of a function that is what it writes, whatever it gives
 pub writing_laws : {C R K O : Type 0} {eq : C → C → Bool} {same : R → R → Bool} {eqk : K → K → Bool} {key_clone : K → K → Type 0} {answer_clone : R → R → Type 0} {cloned : O → O → Type 0} {writes : K → (C → R) → O → List C → Type 0} → FunctionLaws eq same eqk key_clone answer_clone cloned writes → FunctionLaws eq same eqk key_clone answer_clone cloned (IsRight (λ _ _ _. ⊤) writes)

@@ -2,6 +2,7 @@
 ghost use Rattle.std.specs.Prelude.{◌≡◌, ◌+◌, ◌%◌, ◌^◌, [], ◌∷◌};
 ghost use Rattle.std.proofs.Common.{rules};
 ghost use Rattle.comemo.specs.MeaningLaws.{exact_laws};
+ghost use Rattle.comemo_examples.specs.declared.counter.CounterCall.TheVariants.{Add};
 
 use crate::{Counter, CounterCall};
 use comemo::{CacheData, Fault, Function, RecorderMut, RunMut};
@@ -18,8 +19,6 @@ impl Function for Adds {
 
     type Out = u64;
 
-    ghost use Rattle.comemo_examples.specs.declared.counter.CounterCall.TheVariants.{Add};
-
     ghost means = { λ n _ out. out ≡ (n + 1) % 2 ^ 64 };
 
     ghost writes = { λ n _ _ W. W ≡ Add n ∷ Add 1 ∷ [] };
@@ -28,11 +27,7 @@ impl Function for Adds {
 }
 
 impl RunMut<Counter, ()> for Adds {
-    fn run(
-        n: &u64,
-        counter: &mut RecorderMut<'_, '_, Counter>,
-        _needs: &mut (),
-    ) -> Result<u64, Fault> {
+    fn run(n: &u64, counter: &mut RecorderMut<'_, '_, Counter>, _: &mut ()) -> Result<u64, Fault> {
         counter.write(CounterCall::Add(*n))?;
         counter.write(CounterCall::Add(1))?;
         Ok(n.wrapping_add(1))
@@ -50,8 +45,6 @@ impl Function for AddsTwice {
     type Answer = u64;
 
     type Out = u64;
-
-    ghost use Rattle.comemo_examples.specs.declared.counter.CounterCall.TheVariants.{Add};
 
     ghost means = { λ n _ out. out ≡ (n + 2) % 2 ^ 64 };
 

@@ -38,7 +38,7 @@ impl Function for BothPass {
 }
 
 impl Run<Town, ()> for BothPass {
-    fn run(n: &u64, town: &mut Recorder<'_, Town>, _needs: &mut ()) -> Result<bool, Fault> {
+    fn run(n: &u64, town: &mut Recorder<'_, Town>, _: &mut ()) -> Result<bool, Fault> {
         let (people, degrees) = people_and_degrees(town)?;
         Ok(people.min(degrees) > *n)
     }

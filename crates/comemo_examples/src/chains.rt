@@ -112,7 +112,7 @@ impl Function for IsInChain {
 }
 
 impl<'a> Run<Chain<'a>, ()> for IsInChain {
-    fn run(n: &u32, chain: &mut Recorder<'_, Chain<'a>>, _needs: &mut ()) -> Result<bool, Fault> {
+    fn run(n: &u32, chain: &mut Recorder<'_, Chain<'a>>, _: &mut ()) -> Result<bool, Fault> {
         let is = chain.ask(ChainCall::Contains(*n))?;
         Ok(is)
     }

@@ -22,7 +22,7 @@ impl Function for Double {
 }
 
 impl Run<(), ()> for Double {
-    fn run(n: &u32, _of: &mut Recorder<'_, ()>, _needs: &mut ()) -> Result<u32, Fault> {
+    fn run(n: &u32, _: &mut Recorder<'_, ()>, _: &mut ()) -> Result<u32, Fault> {
         Ok(n.wrapping_add(*n))
     }
 }

@@ -23,7 +23,7 @@ impl Function for World {
 }
 
 impl Run<(), Global> for World {
-    fn run(_key: &(), _of: &mut Recorder<'_, ()>, alloc: &mut Global) -> Result<String, Fault> {
+    fn run(_: &(), _: &mut Recorder<'_, ()>, alloc: &mut Global) -> Result<String, Fault> {
         Ok(String::from_str(*alloc, "The world is big")?)
     }
 }
@@ -71,7 +71,7 @@ impl Function for SaysHello {
 }
 
 impl Run<Greeting, ()> for SaysHello {
-    fn run(_key: &(), text: &mut Recorder<'_, Greeting>, _needs: &mut ()) -> Result<bool, Fault> {
+    fn run(_: &(), text: &mut Recorder<'_, Greeting>, _: &mut ()) -> Result<bool, Fault> {
         let is = text.ask(())?;
         Ok(is)
     }

@@ -93,7 +93,7 @@ impl Function for Selfie {
 }
 
 impl Run<Text, ()> for Selfie {
-    fn run(_key: &(), text: &mut Recorder<'_, Text>, _needs: &mut ()) -> Result<String, Fault> {
+    fn run(_: &(), text: &mut Recorder<'_, Text>, _: &mut ()) -> Result<String, Fault> {
         // The answer to this question is a text, so the other branch does not occur.
         let TextAnswer::Text(itself) = text.ask(TextCall::Itself)? else {
             unreachable!();
@@ -120,7 +120,7 @@ impl Function for IsLong {
 }
 
 impl Run<Text, ()> for IsLong {
-    fn run(_key: &(), text: &mut Recorder<'_, Text>, _needs: &mut ()) -> Result<bool, Fault> {
+    fn run(_: &(), text: &mut Recorder<'_, Text>, _: &mut ()) -> Result<bool, Fault> {
         // The answer to this question is a length, so the other branch does not occur.
         let TextAnswer::Length(length) = text.ask(TextCall::LengthPlus(5))? else {
             unreachable!();

@@ -2,6 +2,8 @@
 ghost use Rattle.std.specs.Prelude.{◌≡◌, [], ◌∷◌, ⊤};
 ghost use Rattle.std.proofs.Common.{rules};
 ghost use Rattle.comemo.specs.MeaningLaws.{exact_laws};
+ghost use Rattle.comemo_examples.specs.declared.counter.CounterCall.TheVariants.{Get, Add};
+ghost use Rattle.comemo.specs.Multi.{first_call, second_call, second_answer};
 
 use crate::{Counter, CounterCall};
 use comemo::{BothMut, Fault, Function, Hold, MultiAnswer, MultiCall, RecorderMut, RunMut};
@@ -19,8 +21,6 @@ impl Function for Bump {
 
     type Out = u64;
 
-    ghost use Rattle.comemo_examples.specs.declared.counter.CounterCall.TheVariants.{Get, Add};
-
     ghost means = { λ _ m out. out ≡ m Get };
 
     ghost writes = { λ k _ _ W. W ≡ Add k ∷ [] };
@@ -29,11 +29,7 @@ impl Function for Bump {
 }
 
 impl RunMut<Counter, ()> for Bump {
-    fn run(
-        k: &u64,
-        counter: &mut RecorderMut<'_, '_, Counter>,
-        _needs: &mut (),
-    ) -> Result<u64, Fault> {
+    fn run(k: &u64, counter: &mut RecorderMut<'_, '_, Counter>, _: &mut ()) -> Result<u64, Fault> {
         let number = counter.ask(CounterCall::Get)?;
         counter.write(CounterCall::Add(*k))?;
         Ok(number)
@@ -52,8 +48,6 @@ impl Function for Readback {
 
     type Out = u64;
 
-    ghost use Rattle.comemo_examples.specs.declared.counter.CounterCall.TheVariants.{Add};
-
     ghost means = { λ _ _ _. ⊤ };
 
     ghost writes = { λ k _ _ W. W ≡ Add k ∷ [] };
@@ -62,11 +56,7 @@ impl Function for Readback {
 }
 
 impl RunMut<Counter, ()> for Readback {
-    fn run(
-        k: &u64,
-        counter: &mut RecorderMut<'_, '_, Counter>,
-        _needs: &mut (),
-    ) -> Result<u64, Fault> {
+    fn run(k: &u64, counter: &mut RecorderMut<'_, '_, Counter>, _: &mut ()) -> Result<u64, Fault> {
         counter.write(CounterCall::Add(*k))?;
         let number = counter.ask(CounterCall::Get)?;
         Ok(number)
@@ -86,8 +76,6 @@ impl<H: Hold<Bump>> Function for Twice<H> {
     type Answer = u64;
 
     type Out = u64;
-
-    ghost use Rattle.comemo_examples.specs.declared.counter.CounterCall.TheVariants.{Add};
 
     ghost means = { λ _ _ _. ⊤ };
 
@@ -120,9 +108,6 @@ impl Function for AddsAndGets {
 
     type Out = u64;
 
-    ghost use Rattle.comemo.specs.Multi.{first_call, second_call, second_answer};
-    ghost use Rattle.comemo_examples.specs.declared.counter.CounterCall.TheVariants.{Get, Add};
-
     ghost means = { λ _ m out. m (second_call Get) ≡ second_answer out };
 
     ghost writes = { λ _ _ _ W. W ≡ first_call (Add 1) ∷ [] };
@@ -132,9 +117,9 @@ impl Function for AddsAndGets {
 
 impl<'a> RunMut<BothMut<'a, Counter, Counter>, ()> for AddsAndGets {
     fn run(
-        _key: &(),
+        _: &(),
         both: &mut RecorderMut<'_, '_, BothMut<'a, Counter, Counter>>,
-        _needs: &mut (),
+        _: &mut (),
     ) -> Result<u64, Fault> {
         both.write(MultiCall::A(CounterCall::Add(1)))?;
         match both.ask(MultiCall::B(CounterCall::Get))? {

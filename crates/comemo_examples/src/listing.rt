@@ -39,7 +39,7 @@ impl RunMut<Log, ()> for Listing {
     fn run(
         texts: &Vec<String>,
         log: &mut RecorderMut<'_, '_, Log>,
-        _needs: &mut (),
+        _: &mut (),
     ) -> Result<(), Fault> {
         for text in texts {
             log.write(LogCall::Line(text.clone()?))?;

@@ -2,6 +2,7 @@
 ghost use Rattle.std.specs.Prelude.{◌≡◌, ◌+◌, ◌%◌, ◌^◌, ⊤, nat_lt};
 ghost use Rattle.std.proofs.Common.{rules};
 ghost use Rattle.comemo.specs.Meaning.{names};
+ghost use Rattle.comemo_examples.specs.declared.contexts.ContextCall.TheVariants.{Location, Styles};
 
 use crate::{Context, ContextCall};
 use comemo::{CacheData, Fault, Function, Recorder, Run};
@@ -20,8 +21,6 @@ impl Function for Sum {
 
     type Out = u64;
 
-    ghost use Rattle.comemo_examples.specs.declared.contexts.ContextCall.TheVariants.{Location, Styles};
-
     ghost means = { λ _ m out. out ≡ (m Location + m Styles) % 2 ^ 64 };
 
     // both calls are asked, whatever the answers are
@@ -32,7 +31,7 @@ impl Function for Sum {
 
 impl Run<Context, ContextCall> for Sum {
     fn run(
-        _key: &(),
+        _: &(),
         context: &mut Recorder<'_, Context>,
         first: &mut ContextCall,
     ) -> Result<u64, Fault> {
@@ -65,8 +64,6 @@ impl Function for IsOver {
     type Answer = u64;
 
     type Out = bool;
-
-    ghost use Rattle.comemo_examples.specs.declared.contexts.ContextCall.TheVariants.{Location, Styles};
 
     ghost means = { λ n m out. out ≡ nat_lt n ((m Location + m Styles) % 2 ^ 64) };
 

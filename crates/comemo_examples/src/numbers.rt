@@ -25,7 +25,7 @@ impl Function for Identity {
 }
 
 impl Run<(), ()> for Identity {
-    fn run(n: &u64, _of: &mut Recorder<'_, ()>, _needs: &mut ()) -> Result<u64, Fault> {
+    fn run(n: &u64, _: &mut Recorder<'_, ()>, _: &mut ()) -> Result<u64, Fault> {
         Ok(*n)
     }
 }
@@ -48,7 +48,7 @@ impl Function for Sum {
 }
 
 impl Run<(), ()> for Sum {
-    fn run(key: &(u32, u32), _of: &mut Recorder<'_, ()>, _needs: &mut ()) -> Result<u32, Fault> {
+    fn run(key: &(u32, u32), _: &mut Recorder<'_, ()>, _: &mut ()) -> Result<u32, Fault> {
         Ok(key.0.wrapping_add(key.1))
     }
 }
@@ -82,7 +82,7 @@ impl Function for SumBelow {
 }
 
 impl Run<(), ()> for SumBelow {
-    fn run(n: &u32, _of: &mut Recorder<'_, ()>, _needs: &mut ()) -> Result<u64, Fault> {
+    fn run(n: &u32, _: &mut Recorder<'_, ()>, _: &mut ()) -> Result<u64, Fault> {
         Ok(sum_below(*n))
     }
 }
@@ -117,7 +117,7 @@ impl Function for DoubleFlat {
 }
 
 impl Run<(), ()> for DoubleFlat {
-    fn run(n: &Flat, _of: &mut Recorder<'_, ()>, _needs: &mut ()) -> Result<u32, Fault> {
+    fn run(n: &Flat, _: &mut Recorder<'_, ()>, _: &mut ()) -> Result<u32, Fault> {
         Ok(n.0.wrapping_add(n.0))
     }
 }

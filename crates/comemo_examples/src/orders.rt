@@ -1,6 +1,7 @@
 //! Functions whose runs differ in which questions they ask, or in which order. No argument settles that.
 ghost use Rattle.std.specs.Prelude.{◌≡◌, ◌||◌, ⊤, nat_lt};
 ghost use Rattle.std.proofs.Common.{rules};
+ghost use Rattle.comemo_examples.specs.declared.town.TownCall.TheVariants.{People, Degrees};
 
 use crate::{Town, TownCall};
 use comemo::{Fault, Function, Recorder, Run};
@@ -35,7 +36,7 @@ impl Function for Either {
 }
 
 impl Run<Town, Turn> for Either {
-    fn run(_key: &(), town: &mut Recorder<'_, Town>, turn: &mut Turn) -> Result<u64, Fault> {
+    fn run(_: &(), town: &mut Recorder<'_, Town>, turn: &mut Turn) -> Result<u64, Fault> {
         match turn {
             Turn::People => town.ask(TownCall::People),
             Turn::Degrees => town.ask(TownCall::Degrees),
@@ -57,15 +58,13 @@ impl Function for Both {
 
     type Out = (u64, u64);
 
-    ghost use Rattle.comemo_examples.specs.declared.town.TownCall.TheVariants.{People, Degrees};
-
     ghost means = { λ _ m out. out ≡ (m People, m Degrees) };
 
     ghost laws = { Prim.search rules };
 }
 
 impl Run<Town, Turn> for Both {
-    fn run(_key: &(), town: &mut Recorder<'_, Town>, turn: &mut Turn) -> Result<(u64, u64), Fault> {
+    fn run(_: &(), town: &mut Recorder<'_, Town>, turn: &mut Turn) -> Result<(u64, u64), Fault> {
         match turn {
             Turn::People => {
                 let people = town.ask(TownCall::People)?;
@@ -94,15 +93,13 @@ impl Function for Exceeds {
 
     type Out = bool;
 
-    ghost use Rattle.comemo_examples.specs.declared.town.TownCall.TheVariants.{People, Degrees};
-
     ghost means = { λ n m out. out ≡ (nat_lt n (m People) || nat_lt n (m Degrees)) };
 
     ghost laws = { Prim.search rules };
 }
 
 impl Run<Town, ()> for Exceeds {
-    fn run(n: &u64, town: &mut Recorder<'_, Town>, _needs: &mut ()) -> Result<bool, Fault> {
+    fn run(n: &u64, town: &mut Recorder<'_, Town>, _: &mut ()) -> Result<bool, Fault> {
         let people = town.ask(TownCall::People)?;
         Ok(people > *n || town.ask(TownCall::Degrees)? > *n)
     }

@@ -27,7 +27,7 @@ impl Function for Passes {
 }
 
 impl Run<Town, ()> for Passes {
-    fn run(n: &u64, town: &mut Recorder<'_, Town>, _needs: &mut ()) -> Result<bool, Fault> {
+    fn run(n: &u64, town: &mut Recorder<'_, Town>, _: &mut ()) -> Result<bool, Fault> {
         let people = town.ask(TownCall::People)?;
         let degrees = town.ask(TownCall::Degrees)?;
         Ok(people.max(degrees) > *n)

@@ -2,6 +2,9 @@
 ghost use Rattle.std.specs.Prelude.{◌≡◌, ◌+◌, ◌%◌, ◌^◌, [], ◌∷◌};
 ghost use Rattle.std.proofs.Common.{rules};
 ghost use Rattle.comemo.specs.MeaningLaws.{exact_laws};
+ghost use Rattle.comemo.specs.Multi.{OnParts, second_call};
+ghost use Rattle.comemo_examples.specs.declared.town.TownCall.TheVariants.{Degrees};
+ghost use Rattle.comemo_examples.specs.declared.counter.CounterCall.TheVariants.{Add, Get};
 
 use crate::adding::Adds;
 use crate::warmth::Warmth;
@@ -23,10 +26,6 @@ impl Function for TallyWarmth {
     type Answer = MultiAnswer<u64, u64>;
 
     type Out = u64;
-
-    ghost use Rattle.comemo.specs.Multi.{OnParts, second_call};
-    ghost use Rattle.comemo_examples.specs.declared.town.TownCall.TheVariants.{Degrees};
-    ghost use Rattle.comemo_examples.specs.declared.counter.CounterCall.TheVariants.{Add};
 
     ghost means = { λ _ m out. OnParts m (λ town _. out ≡ town Degrees) };
 
@@ -58,10 +57,6 @@ impl Function for AddsDegrees {
     type Answer = MultiAnswer<u64, u64>;
 
     type Out = u64;
-
-    ghost use Rattle.comemo.specs.Multi.{OnParts, second_call};
-    ghost use Rattle.comemo_examples.specs.declared.town.TownCall.TheVariants.{Degrees};
-    ghost use Rattle.comemo_examples.specs.declared.counter.CounterCall.TheVariants.{Get, Add};
 
     ghost means = { λ _ m out. OnParts m (λ _ counter. out ≡ counter Get) };
 
@@ -95,10 +90,6 @@ impl Function for AddsOneMore {
     type Answer = MultiAnswer<u64, u64>;
 
     type Out = u64;
-
-    ghost use Rattle.comemo.specs.Multi.{OnParts, second_call};
-    ghost use Rattle.comemo_examples.specs.declared.town.TownCall.TheVariants.{Degrees};
-    ghost use Rattle.comemo_examples.specs.declared.counter.CounterCall.TheVariants.{Add};
 
     ghost means = { λ _ m out. OnParts m (λ town _. out ≡ (town Degrees + 1) % 2 ^ 64) };
 

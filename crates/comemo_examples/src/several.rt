@@ -1,6 +1,8 @@
 //! Functions of two tracked values.
 ghost use Rattle.std.specs.Prelude.{◌≡◌, ◌-◌, nat_lt};
 ghost use Rattle.std.proofs.Common.{rules};
+ghost use Rattle.comemo.specs.Multi.{OnParts};
+ghost use Rattle.comemo_examples.specs.declared.town.TownCall.TheVariants.{Degrees};
 
 use crate::warmth::Warmth;
 use crate::{Town, TownCall};
@@ -17,9 +19,6 @@ impl Function for IsWarmer {
     type Answer = MultiAnswer<u64, u64>;
 
     type Out = bool;
-
-    ghost use Rattle.comemo.specs.Multi.{OnParts};
-    ghost use Rattle.comemo_examples.specs.declared.town.TownCall.TheVariants.{Degrees};
 
     ghost means = { λ _ m out.
         OnParts m (λ one other. out ≡ nat_lt (other Degrees) (one Degrees)) };
@@ -54,9 +53,6 @@ impl Function for Lead {
 
     type Out = u64;
 
-    ghost use Rattle.comemo.specs.Multi.{OnParts};
-    ghost use Rattle.comemo_examples.specs.declared.town.TownCall.TheVariants.{Degrees};
-
     ghost means = { λ _ m out.
         OnParts m (λ one other. out ≡ one Degrees - other Degrees) };
 
@@ -65,7 +61,7 @@ impl Function for Lead {
 
 impl<'a> Run<Both<'a, Town, Town>, CacheData<Warmth>> for Lead {
     fn run(
-        _key: &(),
+        _: &(),
         towns: &mut Recorder<'_, Both<'a, Town, Town>>,
         kept: &mut CacheData<Warmth>,
     ) -> Result<u64, Fault> {

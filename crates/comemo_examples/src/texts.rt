@@ -22,7 +22,7 @@ impl Function for Same {
 }
 
 impl Run<(), ()> for Same {
-    fn run(text: &String, _of: &mut Recorder<'_, ()>, _needs: &mut ()) -> Result<String, Fault> {
+    fn run(text: &String, _: &mut Recorder<'_, ()>, _: &mut ()) -> Result<String, Fault> {
         Ok(text.clone()?)
     }
 }

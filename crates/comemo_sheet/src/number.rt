@@ -1,7 +1,7 @@
 //! The number that a cell holds: a memoized function of a text and a tracked value.
 ghost use Rattle.std.specs.Prelude.{◌≡◌};
-ghost use Rattle.comemo.specs.MeaningLaws.{reads_laws};
-ghost use Rattle.std.proofs.Common.{rules, ◌∙◌};
+ghost use Rattle.comemo.specs.MeaningLaws.{output_laws};
+ghost use Rattle.std.proofs.Common.{rules};
 ghost use Rattle.comemo_sheet.specs.Sheets.{number_in};
 ghost use Rattle.comemo_sheet.specs.SheetLaws.{content_clones, number_alike};
 ghost use Rattle.comemo_sheet.specs.declared.sheet.SheetCall.TheVariants.{Cell};
@@ -23,17 +23,12 @@ impl Function for NumberIn {
 
     ghost means = { λ name m out. out ≡ number_in (m (Cell name)) };
 
-    ghost laws = { reads_laws (record {
-      outputs = λ key m a b r c right. Prim.search rules;
-      keys = λ j k m output r e right.
-          right ∙ number_alike (m (Cell j)) (m (Cell k)) (r (Cell j) (Cell k) e);
-      key_clones = Prim.search rules;
-      answer_clones = content_clones;
-    }) };
+    ghost laws = { output_laws (Prim.search rules) (Prim.search rules) content_clones
+        (λ j k m r e. number_alike (m (Cell j)) (m (Cell k)) (r (Cell j) (Cell k) e)) };
 }
 
 impl Run<Sheet, ()> for NumberIn {
-    fn run(name: &String, sheet: &mut Recorder<'_, Sheet>, _needs: &mut ()) -> Result<i64, Fault> {
+    fn run(name: &String, sheet: &mut Recorder<'_, Sheet>, _: &mut ()) -> Result<i64, Fault> {
         let content = sheet.ask(SheetCall::Cell(name.clone()?))?;
         Ok(content.number())
     }

@@ -1,7 +1,7 @@
 //! The number of a cell, or why it has none: a memoized function that may fail.
 ghost use Rattle.std.specs.Prelude.{◌≡◌};
-ghost use Rattle.comemo.specs.MeaningLaws.{reads_laws};
-ghost use Rattle.std.proofs.Common.{rules, ◌∙◌};
+ghost use Rattle.comemo.specs.MeaningLaws.{output_laws};
+ghost use Rattle.std.proofs.Common.{rules};
 ghost use Rattle.comemo_sheet.specs.Plain.{plain_number};
 ghost use Rattle.comemo_sheet.specs.SheetLaws.{content_clones};
 ghost use Rattle.comemo_sheet.specs.PlainLaws.{plain_alike};
@@ -33,20 +33,15 @@ impl Function for PlainNumber {
 
     ghost means = { λ name m out. out ≡ plain_number (m (Cell name)) };
 
-    ghost laws = { reads_laws (record {
-      outputs = λ key m a b r c right. Prim.search rules;
-      keys = λ j k m output r e right.
-          right ∙ plain_alike (m (Cell j)) (m (Cell k)) (r (Cell j) (Cell k) e);
-      key_clones = Prim.search rules;
-      answer_clones = content_clones;
-    }) };
+    ghost laws = { output_laws (Prim.search rules) (Prim.search rules) content_clones
+        (λ j k m r e. plain_alike (m (Cell j)) (m (Cell k)) (r (Cell j) (Cell k) e)) };
 }
 
 impl Run<Sheet, ()> for PlainNumber {
     fn run(
         name: &String,
         sheet: &mut Recorder<'_, Sheet>,
-        _needs: &mut (),
+        _: &mut (),
     ) -> Result<Result<i64, NoNumber>, Fault> {
         let content = sheet.ask(SheetCall::Cell(name.clone()?))?;
         Ok(plain(&content))

@@ -1,7 +1,7 @@
 //! The value of a cell by the totals of ranges, and the total of a range by the values of cells: two functions that
 //! call each other, each through its own cache.
 ghost use Rattle.std.specs.Prelude.{◌≡◌, Some, pos};
-ghost use Rattle.comemo.specs.MeaningLaws.{reads_laws};
+ghost use Rattle.comemo.specs.MeaningLaws.{output_laws};
 ghost use Rattle.std.proofs.Common.{rules};
 ghost use Rattle.comemo.specs.Recursive.{TellsOwn};
 ghost use Rattle.comemo.proofs.Texts.{texts_clone};
@@ -40,13 +40,9 @@ impl Function for RangeTotal {
     ghost means = { λ range m out.
         out ≡ sum_of (value_of m range.limit) (Some (pos 0)) range.names.items };
 
-    ghost laws = { reads_laws (record {
-      outputs = λ key m a b r c right. Prim.search rules;
-      keys = λ j k m output r e right.
-          Prim.search (rules, range_alike m r j.limit j.names.items k.names.items);
-      key_clones = λ x y h. Prim.search (rules, texts_clone);
-      answer_clones = content_clones;
-    }) };
+    ghost laws = { output_laws (Prim.search rules) (λ x y h. Prim.search (rules, texts_clone))
+        content_clones
+        (λ j k m r e. Prim.search (rules, range_alike m r j.limit j.names.items k.names.items)) };
 }
 
 /// The caches of both functions. The first also serves `valued`, which has the same meaning.

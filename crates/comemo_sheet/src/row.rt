@@ -1,7 +1,7 @@
 //! The total of a row of cells: a memoized function that asks in a loop.
 ghost use Rattle.std.specs.Prelude.{◌≡◌};
-ghost use Rattle.comemo.specs.MeaningLaws.{reads_laws};
-ghost use Rattle.std.proofs.Common.{rules, ◌∙◌};
+ghost use Rattle.comemo.specs.MeaningLaws.{output_laws};
+ghost use Rattle.std.proofs.Common.{rules};
 ghost use Rattle.comemo_sheet.specs.Totals.{plus, total_of};
 ghost use Rattle.comemo_sheet.specs.SheetLaws.{content_clones};
 ghost use Rattle.comemo_sheet.specs.TotalLaws.{total_alike};
@@ -24,20 +24,12 @@ impl Function for RowTotal {
 
     ghost means = { λ names m out. out ≡ total_of m names.items };
 
-    ghost laws = { reads_laws (record {
-      outputs = λ key m a b r c right. Prim.search rules;
-      keys = λ j k m output r e right. right ∙ total_alike m r j.items k.items e;
-      key_clones = λ x y h. texts_clone x.items y.items h.0;
-      answer_clones = content_clones;
-    }) };
+    ghost laws = { output_laws (Prim.search rules) (λ x y h. texts_clone x.items y.items h.0)
+        content_clones (λ j k m r e. total_alike m r j.items k.items e) };
 }
 
 impl Run<Sheet, ()> for RowTotal {
-    fn run(
-        names: &Vec<String>,
-        sheet: &mut Recorder<'_, Sheet>,
-        _needs: &mut (),
-    ) -> Result<i64, Fault> {
+    fn run(names: &Vec<String>, sheet: &mut Recorder<'_, Sheet>, _: &mut ()) -> Result<i64, Fault> {
         let mut total: i64 = 0;
         for name in names {
             let content = sheet.ask(SheetCall::Cell(name.clone()?))?;

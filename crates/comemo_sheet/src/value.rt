@@ -1,7 +1,7 @@
 //! The value of a cell by the cells that it refers to: a function that calls itself through its own cache.
 ghost use Rattle.std.specs.Prelude.{◌≡◌, IfOk};
-ghost use Rattle.comemo.specs.MeaningLaws.{reads_laws};
-ghost use Rattle.std.proofs.Common.{rules, ◌∙◌};
+ghost use Rattle.comemo.specs.MeaningLaws.{output_laws};
+ghost use Rattle.std.proofs.Common.{rules};
 ghost use Rattle.comemo.specs.Recursive.{TellsOwn};
 ghost use Rattle.comemo_sheet.specs.Sheets.{cell_answer};
 ghost use Rattle.comemo_sheet.specs.Values.{both, value_of};
@@ -31,12 +31,8 @@ impl Function for Value {
 
     ghost means = { λ key m out. out ≡ value_of m key.1 key.0 };
 
-    ghost laws = { reads_laws (record {
-      outputs = λ key m a b r c right. Prim.search rules;
-      keys = λ j k m output r e right. Prim.search (rules, value_alike m r j.1 j.0 k.0);
-      key_clones = Prim.search rules;
-      answer_clones = content_clones;
-    }) };
+    ghost laws = { output_laws (Prim.search rules) (Prim.search rules) content_clones
+        (λ j k m r e. Prim.search (rules, value_alike m r j.1 j.0 k.0)) };
 }
 
 /// The sum of two values; `None` if one of them is.

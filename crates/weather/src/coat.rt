@@ -26,7 +26,7 @@ impl Function for Coat {
 }
 
 impl Run<Weather, ()> for Coat {
-    fn run(least: &u64, of: &mut Recorder<'_, Weather>, _needs: &mut ()) -> Result<bool, Fault> {
+    fn run(least: &u64, of: &mut Recorder<'_, Weather>, _: &mut ()) -> Result<bool, Fault> {
         let degrees = of.ask(WeatherCall::Degrees)?;
         Ok(degrees < *least)
     }
