@@ -111,7 +111,8 @@ impl Function for CallingOfPart {
     ghost laws = { Prim.search rules };
 }
 
-impl<'a> Run<Both<'a, Context, Context>, (CacheData<Failing>, CacheData<Refused>)> for CallingOfPart {
+impl<'a> Run<Both<'a, Context, Context>, (CacheData<Failing>, CacheData<Refused>)>
+    for CallingOfPart {
     fn run(
         key: &(bool, bool),
         of: &mut Recorder<'_, Both<'a, Context, Context>>,
