@@ -5,7 +5,7 @@ use comemo::{CacheData, Fault, How, Reply, Run, Track, memoized};
 use std::alloc::Global;
 
 /// Calls a function that needs nothing, outside of any run.
-pub(crate) fn call<F: Run<T, Needs = ()>, T: Track>(
+pub(crate) fn call<F: Run<T, ()>, T: Track>(
     alloc: Global,
     cache: &mut CacheData<F>,
     key: F::Key,

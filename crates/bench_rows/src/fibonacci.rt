@@ -11,11 +11,9 @@ use std::alloc::Global;
 pub struct Fibonacci;
 
 impl Function for Fibonacci {
-    type Call = ();
-
     type Key = u64;
 
-    type Answer = ();
+    type Of = ();
 
     type Out = u64;
 

@@ -10,11 +10,9 @@ use std::alloc::{AllocError, Global};
 struct AnyText;
 
 impl Function for AnyText {
-    type Call = PlaceCall;
-
     type Key = ();
 
-    type Answer = PlaceAnswer;
+    type Of = Place;
 
     type Out = String;
 

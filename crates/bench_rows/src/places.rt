@@ -12,11 +12,9 @@ use std::alloc::{AllocError, Global};
 pub(crate) struct AnySaid;
 
 impl Function for AnySaid {
-    type Call = PlaceCall;
-
     type Key = ();
 
-    type Answer = PlaceAnswer;
+    type Of = Place;
 
     type Out = String;
 

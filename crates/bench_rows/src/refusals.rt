@@ -75,9 +75,7 @@ struct NotesThree;
 impl Function for NotesThree {
     type Key = u64;
 
-    type Call = NotebookCall;
-
-    type Answer = u64;
+    type Of = Book;
 
     type Out = u64;
 
@@ -90,9 +88,7 @@ impl Function for NotesThree {
     ghost laws = { exact_laws (Prim.search rules) };
 }
 
-impl RunMut<Book> for NotesThree {
-    type Needs = ();
-
+impl RunMut<Book, ()> for NotesThree {
     fn run(n: &u64, book: &mut RecorderMut<'_, '_, Book>, _needs: &mut ()) -> Result<u64, Fault> {
         book.write(NotebookCall::Note(1))?;
         book.write(NotebookCall::Note(2))?;

@@ -5,7 +5,7 @@ ghost use Rattle.std.proofs.Common.{rules};
 ghost use Rattle.comemo.specs.Steps.{IsStep};
 
 use comemo::internal::{Meant, Step};
-use comemo::{Call, Function};
+use comemo::{Call, Function, Track};
 use std::alloc::{AllocError, Global};
 use std::hash::Hash;
 
@@ -50,15 +50,33 @@ pub(crate) fn write(number: u8) -> Numbered
     Numbered { number, writes }
 }
 
+/// A value that answers each read with its number.
+#[derive(Drop)]
+pub struct Echo;
+
+impl Track for Echo {
+    type Call = Numbered;
+
+    type Answer = u8;
+
+    ghost answers = { λ _ call. call.number };
+
+    ghost alike = { λ s x y h. Prim.search rules };
+
+    ghost clones = { λ x y h. Prim.search rules };
+
+    fn ask(&self, call: &Numbered) -> Result<u8, AllocError> {
+        Ok(call.number)
+    }
+}
+
 /// A function for which every output and all writes are right.
 pub struct Anything;
 
 impl Function for Anything {
-    type Call = Numbered;
-
     type Key = u8;
 
-    type Answer = u8;
+    type Of = Echo;
 
     type Out = u32;
 

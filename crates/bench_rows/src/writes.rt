@@ -16,9 +16,7 @@ struct Dump;
 impl Function for Dump {
     type Key = String;
 
-    type Call = EmitterCall;
-
-    type Answer = ();
+    type Of = Emitter;
 
     type Out = ();
 
@@ -29,12 +27,10 @@ impl Function for Dump {
     ghost writes = { λ text _ _ W. EmitsWithOne text W };
 
     ghost laws = { writing_laws (emitting_laws (λ x y h. Prim.search rules)
-        (λ x y h. Prim.search rules) (λ x y h. Prim.search rules) (λ x y h. Prim.search rules)) };
+        (λ x y h. Prim.search rules) (λ x y h. Prim.search rules)) };
 }
 
-impl RunMut<Emitter> for Dump {
-    type Needs = Global;
-
+impl RunMut<Emitter, Global> for Dump {
     fn run(
         text: &String,
         emitter: &mut RecorderMut<'_, '_, Emitter>,
@@ -205,9 +201,7 @@ struct AddsThree;
 impl Function for AddsThree {
     type Key = ();
 
-    type Call = CounterCall;
-
-    type Answer = u64;
+    type Of = Counter;
 
     type Out = ();
 
@@ -220,9 +214,7 @@ impl Function for AddsThree {
     ghost laws = { exact_laws (Prim.search rules) };
 }
 
-impl RunMut<Counter> for AddsThree {
-    type Needs = ();
-
+impl RunMut<Counter, ()> for AddsThree {
     fn run(
         _key: &(),
         counter: &mut RecorderMut<'_, '_, Counter>,
@@ -239,9 +231,7 @@ struct AddsByAnother;
 impl Function for AddsByAnother {
     type Key = u64;
 
-    type Call = CounterCall;
-
-    type Answer = u64;
+    type Of = Counter;
 
     type Out = ();
 
@@ -254,9 +244,7 @@ impl Function for AddsByAnother {
     ghost laws = { exact_laws (Prim.search rules) };
 }
 
-impl RunMut<Counter> for AddsByAnother {
-    type Needs = CacheData<AddsThree>;
-
+impl RunMut<Counter, CacheData<AddsThree>> for AddsByAnother {
     fn run(
         _number: &u64,
         counter: &mut RecorderMut<'_, '_, Counter>,

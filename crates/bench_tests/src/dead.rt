@@ -9,8 +9,8 @@ ghost use Rattle.comemo.specs.Cache.{Entries, Stands};
 ghost use Rattle.comemo.specs.Storing.{Stores};
 ghost use Rattle.comemo.specs.Held.{Held, Leads, Stays};
 
-use comemo::internal::{Found, Input, InsertError, Meant, Peeked, Reads, Shared};
-use comemo::{CacheData, Call, Explanation, Function, Hold};
+use comemo::internal::{Found, Input, InsertError, Meant, Memo, Peeked, Reads, Shared};
+use comemo::{CacheData, Call, Explanation, Hold};
 use std::alloc::{AllocError, Global};
 use std::sync::Wait;
 
@@ -24,13 +24,13 @@ pub enum Step {
 
 /// A holder of a shared cache of which one step is dead.
 #[derive(Drop)]
-pub struct Dead<'a, M: Function, R: Wait> {
+pub struct Dead<'a, M: Memo, R: Wait> {
     pub alloc: Global,
     pub held: Shared<'a, M, R>,
     pub dead: Step,
 }
 
-impl<M: Function, R: Wait> Hold<M> for Dead<'_, M, R> {
+impl<M: Memo, R: Wait> Hold<M> for Dead<'_, M, R> {
     ghost entries = { λ _. None };
 
     fn look<In: Input<Call = M::Call, Key = M::Key, Answer = M::Answer>>(

@@ -9,21 +9,21 @@ ghost use Rattle.comemo.specs.Cache.{Entries, Stands};
 ghost use Rattle.comemo.specs.Storing.{Stores};
 ghost use Rattle.comemo.specs.Held.{Held, Leads, Stays};
 
-use comemo::internal::{Found, Input, InsertError, Meant, Peeked, Reads, Shared};
-use comemo::{Cache, Call, Explanation, Function, Hold};
+use comemo::internal::{Found, Input, InsertError, Meant, Memo, Peeked, Reads, Shared};
+use comemo::{Cache, Call, Explanation, Hold};
 use std::alloc::{AllocError, Global};
 use std::sync::Wait;
 
 /// A holder of a shared cache which evicts it after each look-up, as another thread might.
 #[derive(Drop)]
-pub struct Overtaken<'a, M: Function, R: Wait> {
+pub struct Overtaken<'a, M: Memo, R: Wait> {
     pub cache: &'a Cache<M>,
     pub held: Shared<'a, M, R>,
     pub rt: &'a R,
     pub max_age: usize,
 }
 
-impl<M: Function, R: Wait> Hold<M> for Overtaken<'_, M, R> {
+impl<M: Memo, R: Wait> Hold<M> for Overtaken<'_, M, R> {
     ghost entries = { λ _. None };
 
     fn look<In: Input<Call = M::Call, Key = M::Key, Answer = M::Answer>>(

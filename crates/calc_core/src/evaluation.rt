@@ -54,11 +54,9 @@ use std::alloc::Global;
 pub struct Eval;
 
 impl Function for Eval {
-    type Call = MultiCall<(), FileCall>;
-
     type Key = (Text, ());
 
-    type Answer = MultiAnswer<(), Text>;
+    type Of = Both<'static, (), Files>;
 
     type Out = Outcome;
 
@@ -71,7 +69,6 @@ impl Function for Eval {
       keys = λ j k m output writes r e h. (h.0, Prim.search (rules, h.1));
       writes = λ key m output V W r same h. (none_alike _ V W same h.0, h.1);
       key_clones = Prim.search rules;
-      answer_clones = Prim.search rules;
     } };
 }
 

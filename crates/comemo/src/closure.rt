@@ -8,7 +8,7 @@ ghost use Rattle.comemo_cache.specs.Held.{Held, Leads, LeadsBy};
 ghost use Rattle.comemo.specs.Closure.{Starts, Ran, RanTo, Ended, IsFault, IsBroken};
 
 use crate::pending::{Begun, Calling, Fault, How, Invoked, Reply, begin};
-use comemo_cache::cache::{Function, Meant};
+use comemo_cache::function::{Meant, Memo};
 use comemo_cache::hold::Hold;
 use comemo_track::constraint::Constraint;
 use comemo_track::input::Input;
@@ -58,7 +58,7 @@ impl<C: Call, R: Clone + Ord> Record for Constraint<C, R> {
 
 /// How a call whose run is a closure goes, for contracts, as `⟦<M as Does<H, In, S, P>>⟧.ran`: by the closure's
 /// precondition or postcondition. There is nothing to implement.
-pub trait Does<H, In, S, P>: Function
+pub trait Does<H, In, S, P>: Memo
 where
     H: Hold<Self>,
     In: Input<Call = Self::Call, Key = Self::Key, Answer = Self::Answer>,
@@ -89,7 +89,7 @@ where
     ghost breaks: { Deed In P Self.Out → Bool → H → H → In → In → S → S → Type 0 };
 }
 
-impl<M: Function, H, In, S, P> Does<H, In, S, P> for M
+impl<M: Memo, H, In, S, P> Does<H, In, S, P> for M
 where
     H: Hold<M>,
     In: Input<Call = M::Call, Key = M::Key, Answer = M::Answer>,
@@ -137,7 +137,7 @@ where
 ///
 /// All that the closure asks must go to its recording. Unless that is late, the output must be right for all answers
 /// that agree with it. With `enabled` false there is no look-up, and nothing is stored.
-pub fn memoize<M: Function, H: Hold<M>, In, S, P, F>(
+pub fn memoize<M: Memo, H: Hold<M>, In, S, P, F>(
     alloc: Global,
     cache: &mut H,
     input: &mut In,

@@ -10,7 +10,7 @@ ghost use Rattle.comemo_track.specs.Sending.{Asks, BreaksOff};
 ghost use Rattle.comemo.specs.Function.{Recorded, Fits, Tells, WritesNone, SettlesRun};
 
 use crate::pending::{Begun, Fault, How, Pending, Reply, look_up};
-use comemo_cache::cache::{Function, Meant};
+use comemo_cache::function::{Meant, Memo};
 use comemo_cache::hold::Hold;
 use comemo_track::constraint::Constraint;
 use comemo_track::input::Keyed;
@@ -46,21 +46,15 @@ impl<T: Track> Told for T {
 ///
 /// The value may borrow: several values as one, by `Both` or a struct of the user's. The meaning names no value, so the
 /// cache outlives it. A function that calls itself has no `Run`.
-pub trait Run<T: Track>: Function<Call = T::Call, Answer = T::Answer> {
-    /// What a run needs besides its arguments: the caches of the functions that it calls, or `()`.
-    ///
-    /// They can't hold the function's own cache, which the checker refuses.
-    type Needs;
-
+///
+/// `N` is what a run needs besides its arguments: the caches of the functions that it calls, or `()`. They can't hold
+/// the function's own cache, which the checker refuses.
+pub trait Run<T: Track, N>: Memo<Call = T::Call, Answer = T::Answer> {
     /// Does the function, and asks the value through the recorder.
     ///
     /// The output must be right for all answers that agree with the recording. `Incomplete` may be returned only if the
     /// recording is incomplete.
-    fn run(
-        key: &Self::Key,
-        of: &mut Recorder<'_, T>,
-        needs: &mut Self::Needs,
-    ) -> Result<Self::Out, Fault>
+    fn run(key: &Self::Key, of: &mut Recorder<'_, T>, needs: &mut N) -> Result<Self::Out, Fault>
         ensures same { of.new.value ≡ of.old.value }
         ensures right { IfOk result (λ output. (m : T.Call → T.Answer)
             → ⟦<T as Told>⟧.fits of.new.recording m → Self.means key.now m output) }
@@ -122,10 +116,10 @@ impl<'a, T: Track> Recorder<'a, T> {
 
     /// Calls another memoized function of the same value, as `memoized_with`, with the recording as its sink. After a
     /// fault the run can't be finished.
-    pub fn call<G: Run<T>, H: Hold<G>>(
+    pub fn call<G: Run<T, N>, H: Hold<G>, N>(
         &mut self,
         cache: &mut H,
-        needs: &mut G::Needs,
+        needs: &mut N,
         key: G::Key,
     ) -> Result<G::Out, Fault>
         requires { WritesNone G.writes }
@@ -143,10 +137,10 @@ impl<'a, T: Track> Recorder<'a, T> {
     }
 
     /// As `call`, with the reply. With `enabled` false it neither looks up nor stores.
-    pub fn call_reply<G: Run<T>, H: Hold<G>>(
+    pub fn call_reply<G: Run<T, N>, H: Hold<G>, N>(
         &mut self,
         cache: &mut H,
-        needs: &mut G::Needs,
+        needs: &mut N,
         key: G::Key,
         enabled: bool,
     ) -> Result<Reply<G::Out>, Fault>
@@ -175,7 +169,7 @@ impl<'a, T: Track> Recorder<'a, T> {
 
 /// How a call goes that takes a holder and a sink from these to those, for contracts, as
 /// `⟦<M as Answering<H, T, S>>⟧.replies`. There is nothing to implement.
-pub trait Answering<H, T, S>: Function<Call = T::Call, Answer = T::Answer>
+pub trait Answering<H, T, S>: Memo<Call = T::Call, Answer = T::Answer>
 where
     H: Hold<Self>,
     T: Track,
@@ -191,7 +185,7 @@ where
     ghost fails: { Bool → Self.Key → T → H → S → S → Fault → Type 0 };
 }
 
-impl<M: Function<Call = T::Call, Answer = T::Answer>, H, T, S> Answering<H, T, S> for M
+impl<M: Memo<Call = T::Call, Answer = T::Answer>, H, T, S> Answering<H, T, S> for M
 where
     H: Hold<M>,
     T: Track,
@@ -211,10 +205,10 @@ where
 ///
 /// The sink takes what was asked: it is the recording of the outer run, or `Top`. With `enabled` false there is no
 /// look-up, and nothing is stored.
-pub fn memoized_with<M: Run<T>, H: Hold<M>, T: Track, S>(
+pub fn memoized_with<M: Run<T, N>, H: Hold<M>, N, T: Track, S>(
     alloc: Global,
     cache: &mut H,
-    needs: &mut M::Needs,
+    needs: &mut N,
     key: M::Key,
     of: &T,
     sink: &mut S,
@@ -236,10 +230,10 @@ where
 }
 
 /// As `memoized_with`, for a view of the value.
-pub(crate) fn memoized_view<M: Run<T>, H: Hold<M>, T: Track, S>(
+pub(crate) fn memoized_view<M: Run<T, N>, H: Hold<M>, N, T: Track, S>(
     alloc: Global,
     cache: &mut H,
-    needs: &mut M::Needs,
+    needs: &mut N,
     key: M::Key,
     of: &View<'_, T>,
     sink: &mut S,
@@ -276,10 +270,10 @@ where
 
 /// Runs a function under the cache's clone of the key. Not inlined, so that a hit makes no room for a run.
 #[inline(never)]
-fn run_kept<M: Run<T>, H: Hold<M>, T: Track, S: Sink<Call = T::Call, Answer = T::Answer>>(
+fn run_kept<M: Run<T, N>, H: Hold<M>, N, T: Track, S: Sink<Call = T::Call, Answer = T::Answer>>(
     alloc: Global,
     cache: &mut H,
-    needs: &mut M::Needs,
+    needs: &mut N,
     key: M::Key,
     of: &View<'_, T>,
     sink: &mut S,
@@ -313,7 +307,7 @@ fn run_kept<M: Run<T>, H: Hold<M>, T: Track, S: Sink<Call = T::Call, Answer = T:
 }
 
 /// Calls a memoized function without needs, outside of any run. A hit of an entry of age 0 clones no path.
-pub fn memoized<M: Run<T, Needs = ()>, H: Hold<M>, T: Track>(
+pub fn memoized<M: Run<T, ()>, H: Hold<M>, T: Track>(
     alloc: Global,
     cache: &mut H,
     key: M::Key,

@@ -17,7 +17,7 @@ ghost use Rattle.comemo_track.specs.Sending.{Asks, BreaksOff, SpoiledAfter, Took
 
 use crate::function::{Run, Told, memoized_view};
 use crate::pending::{Begun, Fault, How, Reply, begin};
-use comemo_cache::cache::{Function, Meant};
+use comemo_cache::function::{Meant, Memo};
 use comemo_cache::hold::Hold;
 use comemo_track::constraint::Constraint;
 use comemo_track::input::KeyedMut;
@@ -259,10 +259,10 @@ impl<'a, 'b, T: Track> RecorderMut<'a, 'b, T> {
 
     /// Calls another memoized function of the same value, which only reads, and records what it asked, as
     /// `Recorder::call`.
-    pub fn call<G: Run<T>, H: Hold<G>>(
+    pub fn call<G: Run<T, N>, H: Hold<G>, N>(
         &mut self,
         cache: &mut H,
-        needs: &mut G::Needs,
+        needs: &mut N,
         key: G::Key,
     ) -> Result<G::Out, Fault>
         requires reads { WritesNone G.writes }
@@ -290,10 +290,10 @@ impl<'a, 'b, T: Track> RecorderMut<'a, 'b, T> {
 
     /// Calls another memoized function of the same value, as `memoized_mut_with`, with the recording as its sink. After
     /// a fault the run can't be finished.
-    pub fn call_mut<G: RunMut<T>, H: Hold<G>>(
+    pub fn call_mut<G: RunMut<T, N>, H: Hold<G>, N>(
         &mut self,
         cache: &mut H,
-        needs: &mut G::Needs,
+        needs: &mut N,
         key: G::Key,
     ) -> Result<G::Out, Fault>
         requires agrees { ⟦<Self as Records>⟧.agrees self.old }
@@ -327,11 +327,9 @@ impl<'a, 'b, T: Track> RecorderMut<'a, 'b, T> {
 
 /// How a function that also writes is done, on a tracked value. Its `writes` states which writes are right.
 ///
-/// The value may borrow: several values as one, by `BothMut` or `ReadAndWrite`, or the user's own type.
-pub trait RunMut<T: Track>: Function<Call = T::Call, Answer = T::Answer> {
-    /// What a run needs besides its arguments: the caches of the functions that it calls, or `()`.
-    type Needs;
-
+/// The value may borrow: several values as one, by `BothMut` or `ReadAndWrite`, or the user's own type. `N` is what a run
+/// needs, as with `Run`.
+pub trait RunMut<T: Track, N>: Memo<Call = T::Call, Answer = T::Answer> {
     /// Does the function, and asks the value and writes to it through the recorder.
     ///
     /// Output and writes must be right for all answers that agree with the recording. `Incomplete` may be returned only
@@ -339,7 +337,7 @@ pub trait RunMut<T: Track>: Function<Call = T::Call, Answer = T::Answer> {
     fn run(
         key: &Self::Key,
         of: &mut RecorderMut<'_, '_, T>,
-        needs: &mut Self::Needs,
+        needs: &mut N,
     ) -> Result<Self::Out, Fault>
         requires begins { of.now.recording.now.writes ≡ [] }
         requires agrees { ⟦<T as ToldMut>⟧.agrees (lent of.now.value of.now.recording) }
@@ -356,11 +354,11 @@ pub trait RunMut<T: Track>: Function<Call = T::Call, Answer = T::Answer> {
 }
 
 /// Runs a function on a value. Returns the run's result, and its recording.
-fn run_recorded<M: RunMut<T>, T: Track>(
+fn run_recorded<M: RunMut<T, N>, T: Track, N>(
     alloc: Global,
     key: &M::Key,
     of: &mut T,
-    needs: &mut M::Needs,
+    needs: &mut N,
 ) -> (Result<M::Out, Fault>, Constraint<T::Call, T::Answer>)
     ensures right { IfOk result.0 (λ output. (m : T.Call → T.Answer)
         → ⟦<T as Told>⟧.fits result.1 m
@@ -389,7 +387,7 @@ fn run_recorded<M: RunMut<T>, T: Track>(
 
 /// How a call of a function that writes goes, from these states to those, for contracts, as
 /// `⟦<M as AnsweringMut<H, T, S>>⟧.replies`. There is nothing to implement.
-pub trait AnsweringMut<H, T, S>: Function<Call = T::Call, Answer = T::Answer>
+pub trait AnsweringMut<H, T, S>: Memo<Call = T::Call, Answer = T::Answer>
 where
     H: Hold<Self>,
     T: Track,
@@ -408,7 +406,7 @@ where
     ghost breaks: { Bool → Self.Key → T → T → H → H → S → S → Type 0 };
 }
 
-impl<M: Function<Call = T::Call, Answer = T::Answer>, H, T, S> AnsweringMut<H, T, S> for M
+impl<M: Memo<Call = T::Call, Answer = T::Answer>, H, T, S> AnsweringMut<H, T, S> for M
 where
     H: Hold<M>,
     T: Track,
@@ -432,10 +430,10 @@ where
 
 /// Calls a memoized function that writes: does the writes of an entry that agrees and returns its output, or runs the
 /// function and stores the run. Sink and `enabled` are as in `memoized_with`.
-pub fn memoized_mut_with<M: RunMut<T>, H: Hold<M>, T: Track, S>(
+pub fn memoized_mut_with<M: RunMut<T, N>, H: Hold<M>, N, T: Track, S>(
     alloc: Global,
     cache: &mut H,
-    needs: &mut M::Needs,
+    needs: &mut N,
     key: M::Key,
     of: &mut T,
     sink: &mut S,
@@ -470,7 +468,7 @@ where
             });
         }
         Ok(Begun::Run(mut pending)) => {
-            let (ran, recording) = run_recorded::<M, T>(alloc, &key, value, needs);
+            let (ran, recording) = run_recorded::<M, T, N>(alloc, &key, value, needs);
             pending.recording = recording;
             pending.end(cache, sink, ran)
         }
@@ -479,7 +477,7 @@ where
 }
 
 /// Calls a memoized function that writes and has no needs, outside of any run.
-pub fn memoized_mut<M: RunMut<T, Needs = ()>, H: Hold<M>, T: Track>(
+pub fn memoized_mut<M: RunMut<T, ()>, H: Hold<M>, T: Track>(
     alloc: Global,
     cache: &mut H,
     key: M::Key,

@@ -9,7 +9,7 @@ ghost use Rattle.comemo.specs.Function.{Tells, OnPart, WritesNone};
 
 use crate::function::{Recorder, Run, Told, memoized_view};
 use crate::pending::{Fault, Reply};
-use comemo_cache::cache::Meant;
+use comemo_cache::function::Meant;
 use comemo_cache::hold::Hold;
 use comemo_track::both::Both;
 use comemo_track::mapped::{CallMap, MappedSink};
@@ -18,10 +18,10 @@ use comemo_track::track::{Track, View};
 
 impl<'a, T: Track> Recorder<'a, T> {
     /// As `call`, for a function of a part of the value: what it asked is recorded, renamed by a map.
-    fn call_through<A: Track, G: Run<A>, H: Hold<G>, P>(
+    fn call_through<A: Track, G: Run<A, N>, H: Hold<G>, N, P>(
         &mut self,
         cache: &mut H,
-        needs: &mut G::Needs,
+        needs: &mut N,
         key: G::Key,
         of: &View<'_, A>,
         map: P,
@@ -97,10 +97,10 @@ impl<'a, 'b, A: Track, B: Track> Recorder<'a, Both<'b, A, B>> {
     }
 
     /// Calls a memoized function of the first value, and records what it asked, as `call`.
-    pub fn call_first<G: Run<A>, H: Hold<G>>(
+    pub fn call_first<G: Run<A, N>, H: Hold<G>, N>(
         &mut self,
         cache: &mut H,
-        needs: &mut G::Needs,
+        needs: &mut N,
         key: G::Key,
     ) -> Result<G::Out, Fault>
         requires { WritesNone G.writes }
@@ -120,10 +120,10 @@ impl<'a, 'b, A: Track, B: Track> Recorder<'a, Both<'b, A, B>> {
     }
 
     /// Calls a memoized function of the second value, and records what it asked, as `call`.
-    pub fn call_second<G: Run<B>, H: Hold<G>>(
+    pub fn call_second<G: Run<B, N>, H: Hold<G>, N>(
         &mut self,
         cache: &mut H,
-        needs: &mut G::Needs,
+        needs: &mut N,
         key: G::Key,
     ) -> Result<G::Out, Fault>
         requires { WritesNone G.writes }

@@ -11,7 +11,7 @@ ghost use Rattle.comemo_track.specs.Sending.{Asks};
 use crate::function::{Run, memoized_view};
 use crate::function_mut::{RecorderMut, Records, RunMut, Writes, memoized_mut_with};
 use crate::pending::{Fault, Reply};
-use comemo_cache::cache::Meant;
+use comemo_cache::function::Meant;
 use comemo_cache::hold::Hold;
 use comemo_track::mapped::MappedSink;
 use comemo_track::multi::{First, Second};
@@ -87,10 +87,10 @@ impl<'a, 'b, 'c, A: Track, B: Track> RecorderMut<'a, 'b, ReadAndWrite<'c, A, B>>
     }
 
     /// Calls a memoized function of the first value, which only reads, and records its calls, as `RecorderMut::call`.
-    pub fn call_first<G: Run<A>, H: Hold<G>>(
+    pub fn call_first<G: Run<A, N>, H: Hold<G>, N>(
         &mut self,
         cache: &mut H,
-        needs: &mut G::Needs,
+        needs: &mut N,
         key: G::Key,
     ) -> Result<G::Out, Fault>
         requires reads { WritesNone G.writes }
@@ -120,10 +120,10 @@ impl<'a, 'b, 'c, A: Track, B: Track> RecorderMut<'a, 'b, ReadAndWrite<'c, A, B>>
 
     /// Calls a memoized function of the second value, which may write, and records its calls and writes, as
     /// `RecorderMut::call_mut`.
-    pub fn call_mut_second<G: RunMut<B>, H: Hold<G>>(
+    pub fn call_mut_second<G: RunMut<B, N>, H: Hold<G>, N>(
         &mut self,
         cache: &mut H,
-        needs: &mut G::Needs,
+        needs: &mut N,
         key: G::Key,
     ) -> Result<G::Out, Fault>
         requires agrees { ⟦<Self as Records>⟧.agrees self.old }

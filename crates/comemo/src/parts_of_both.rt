@@ -12,7 +12,7 @@ ghost use Rattle.comemo_track.specs.Sending.{Asks};
 use crate::function::{Answering, Run, memoized_with};
 use crate::function_mut::{RecorderMut, Records, RunMut, Writes, memoized_mut_with};
 use crate::pending::{Fault, Reply};
-use comemo_cache::cache::Meant;
+use comemo_cache::function::Meant;
 use comemo_cache::hold::Hold;
 use comemo_track::both_mut::BothMut;
 use comemo_track::mapped::MappedSink;
@@ -113,10 +113,10 @@ impl<'a, 'b, 'c, A: Track, B: Track> RecorderMut<'a, 'b, BothMut<'c, A, B>> {
     }
 
     /// Calls a memoized function of the first value, which only reads, and records its calls, as `RecorderMut::call`.
-    pub fn call_first<G: Run<A>, H: Hold<G>>(
+    pub fn call_first<G: Run<A, N>, H: Hold<G>, N>(
         &mut self,
         cache: &mut H,
-        needs: &mut G::Needs,
+        needs: &mut N,
         key: G::Key,
     ) -> Result<G::Out, Fault>
         requires reads { WritesNone G.writes }
@@ -145,10 +145,10 @@ impl<'a, 'b, 'c, A: Track, B: Track> RecorderMut<'a, 'b, BothMut<'c, A, B>> {
     }
 
     /// Calls a memoized function of the second value, which only reads, and records its calls, as `RecorderMut::call`.
-    pub fn call_second<G: Run<B>, H: Hold<G>>(
+    pub fn call_second<G: Run<B, N>, H: Hold<G>, N>(
         &mut self,
         cache: &mut H,
-        needs: &mut G::Needs,
+        needs: &mut N,
         key: G::Key,
     ) -> Result<G::Out, Fault>
         requires reads { WritesNone G.writes }
@@ -178,10 +178,10 @@ impl<'a, 'b, 'c, A: Track, B: Track> RecorderMut<'a, 'b, BothMut<'c, A, B>> {
 
     /// Calls a memoized function of the first value, which may write, and records its calls and writes, as
     /// `RecorderMut::call_mut`.
-    pub fn call_mut_first<G: RunMut<A>, H: Hold<G>>(
+    pub fn call_mut_first<G: RunMut<A, N>, H: Hold<G>, N>(
         &mut self,
         cache: &mut H,
-        needs: &mut G::Needs,
+        needs: &mut N,
         key: G::Key,
     ) -> Result<G::Out, Fault>
         requires agrees { ⟦<Self as Records>⟧.agrees self.old }
@@ -223,10 +223,10 @@ impl<'a, 'b, 'c, A: Track, B: Track> RecorderMut<'a, 'b, BothMut<'c, A, B>> {
 
     /// Calls a memoized function of the second value, which may write, and records its calls and writes, as
     /// `RecorderMut::call_mut`.
-    pub fn call_mut_second<G: RunMut<B>, H: Hold<G>>(
+    pub fn call_mut_second<G: RunMut<B, N>, H: Hold<G>, N>(
         &mut self,
         cache: &mut H,
-        needs: &mut G::Needs,
+        needs: &mut N,
         key: G::Key,
     ) -> Result<G::Out, Fault>
         requires agrees { ⟦<Self as Records>⟧.agrees self.old }
@@ -268,10 +268,10 @@ impl<'a, 'b, 'c, A: Track, B: Track> RecorderMut<'a, 'b, BothMut<'c, A, B>> {
 }
 
 /// Calls a memoized function that only reads, of a value that is lent to be written.
-fn memoized_part<G: Run<T>, H: Hold<G>, T: Track, S>(
+fn memoized_part<G: Run<T, N>, H: Hold<G>, N, T: Track, S>(
     alloc: Global,
     cache: &mut H,
-    needs: &mut G::Needs,
+    needs: &mut N,
     key: G::Key,
     of: &mut T,
     sink: &mut S,

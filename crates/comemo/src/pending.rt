@@ -13,7 +13,8 @@ ghost use Rattle.comemo.specs.Finish.{Ends, Gives, Finished, BreaksOffRun};
 ghost use Rattle.comemo_cache.specs.Held.{Held, Leads, Stays};
 
 use comemo_base::{CallSequence, InsertError};
-use comemo_cache::cache::{Found, Function, Meant, Peeked};
+use comemo_cache::cache::{Found, Peeked};
+use comemo_cache::function::{Meant, Memo};
 use comemo_cache::hold::Hold;
 use comemo_track::constraint::Constraint;
 use comemo_track::input::Input;
@@ -98,7 +99,7 @@ impl<In: Input> Invoked for In {
 
 /// How a call goes that takes a holder, an input and a sink from these to those, for contracts, as
 /// `⟦<M as Calling<H, In, S>>⟧.hits`. There is nothing to implement.
-pub trait Calling<H, In, S>: Function
+pub trait Calling<H, In, S>: Memo
 where
     H: Hold<Self>,
     In: Input<Call = Self::Call, Key = Self::Key, Answer = Self::Answer>,
@@ -119,7 +120,7 @@ where
     ghost fails: { Bool → H → H → In → In → S → S → Fault → Type 0 };
 }
 
-impl<M: Function, H, In, S> Calling<H, In, S> for M
+impl<M: Memo, H, In, S> Calling<H, In, S> for M
 where
     H: Hold<M>,
     In: Input<Call = M::Call, Key = M::Key, Answer = M::Answer>,
@@ -145,14 +146,14 @@ where
 
 /// A run of a memoized function that began. It must be finished or given up, and can't be dropped. It holds no part of
 /// the cache.
-pub struct Pending<M: Function> {
+pub struct Pending<M: Memo> {
     pub(crate) alloc: Global,
     pub(crate) key: M::Key,
     pub(crate) enabled: bool,
     pub(crate) recording: Constraint<M::Call, M::Answer>,
 }
 
-impl<M: Function> Model for Pending<M> {
+impl<M: Memo> Model for Pending<M> {
     ghost use Rattle.comemo.specs.Begin.{PendingRun, run_code};
 
     ghost Value = { PendingRun M.Key M.Call M.Answer };
@@ -162,14 +163,14 @@ impl<M: Function> Model for Pending<M> {
     ghost view = { λ s. record { key = s.key; enabled = s.enabled; recording = s.recording } };
 }
 
-impl<M: Function> Pending<M> {
+impl<M: Memo> Pending<M> {
     ghost use Rattle.std.specs.Borrow.{sem, Lends};
     ghost use Rattle.comemo.specs.contracts.pending.Pending.{the_row};
     ghost use Rattle.comemo_track.specs.contracts.constraint.Constraint.{the_row as recording_row};
 
     /// The run's recording: the sink of what the run asks.
     pub fn recording(&mut self) -> &mut Constraint<M::Call, M::Answer>
-        ensures* writes_back { sem 𝓛 (Lends (the_row M.row M.Call.row M.Key.row M.Answer.row M.Out.row M.Function.own M.Call.Call.own M.Call.Clone.own M.Call.PartialEq.own M.Call.Hash.own M.Key.Clone.own M.Key.PartialEq.own M.Key.Hash.own M.Answer.Clone.own M.Answer.Ord.own M.Answer.PartialEq.own M.Answer.PartialOrd.own M.Out.Clone.own) (recording_row M.Call.row M.Answer.row M.Call.Call.own M.Call.Clone.own M.Call.PartialEq.own M.Call.Hash.own) self.entry result (λ w. record self.old { recording = w })) }
+        ensures* writes_back { sem 𝓛 (Lends (the_row M.row M.Call.row M.Key.row M.Answer.row M.Out.row M.Memo.own M.Call.Call.own M.Call.Clone.own M.Call.PartialEq.own M.Call.Hash.own M.Key.Clone.own M.Key.PartialEq.own M.Key.Hash.own M.Answer.Clone.own M.Answer.Ord.own M.Answer.PartialEq.own M.Answer.PartialOrd.own M.Out.Clone.own) (recording_row M.Call.row M.Answer.row M.Call.Call.own M.Call.Clone.own M.Call.PartialEq.own M.Call.Hash.own) self.entry result (λ w. record self.old { recording = w })) }
         ensures value { result.now ≡ self.old.recording }
     {
         &mut self.recording
@@ -325,7 +326,7 @@ fn copy_writes<C: Call>(writes: &Vec<C>) -> Result<Vec<C>, AllocError>
 }
 
 /// Clones of a run's pairs, output and writes: the sink and the caller get one of each, the store the other.
-fn copy_run<M: Function>(
+fn copy_run<M: Memo>(
     alloc: Global,
     reads: &CallSequence<M::Call, M::Answer>,
     output: &M::Out,
@@ -429,7 +430,7 @@ fn give_late<S: Sink>(recording: Constraint<S::Call, S::Answer>, sink: &mut S) -
 }
 
 /// Stores a run, and returns what became of it.
-fn keep<M: Function, H: Hold<M>>(
+fn keep<M: Memo, H: Hold<M>>(
     cache: &mut H,
     key: M::Key,
     reads: CallSequence<M::Call, M::Answer>,
@@ -455,7 +456,7 @@ fn keep<M: Function, H: Hold<M>>(
 }
 
 /// Stores a run with a clone of its output, and returns what became of it.
-fn keep_copy<M: Function, H: Hold<M>>(
+fn keep_copy<M: Memo, H: Hold<M>>(
     cache: &mut H,
     key: M::Key,
     reads: CallSequence<M::Call, M::Answer>,
@@ -481,7 +482,7 @@ fn keep_copy<M: Function, H: Hold<M>>(
 
 /// Sends a run to a sink, stores it, and returns what became of it. Clones pairs and writes only if the sink keeps
 /// them.
-fn end_run<M: Function, H: Hold<M>, S: Sink<Call = M::Call, Answer = M::Answer>>(
+fn end_run<M: Memo, H: Hold<M>, S: Sink<Call = M::Call, Answer = M::Answer>>(
     alloc: Global,
     cache: &mut H,
     sink: &mut S,
@@ -563,7 +564,7 @@ fn answers_of<C: Call, R: Clone + Ord>(
 }
 
 /// Clones of the answers of a path that was found, or none if its entry has age 0 and needn't be touched.
-fn answers_of_aged<M: Function>(found: &Found<M>) -> Result<Vec<M::Answer>, AllocError>
+fn answers_of_aged<M: Memo>(found: &Found<M>) -> Result<Vec<M::Answer>, AllocError>
     ensures { IfOk result (λ answers. (found.now.age ≡ 0 → ⊥)
         → HasAnswers M.Answer.eq found.now.pairs.items answers.items) }
 {
@@ -575,7 +576,7 @@ fn answers_of_aged<M: Function>(found: &Found<M>) -> Result<Vec<M::Answer>, Allo
 }
 
 /// Sends the path that a look-up found, does and sends its writes, and returns its output.
-fn give_found<M: Function, H: Hold<M>, In, S>(
+fn give_found<M: Memo, H: Hold<M>, In, S>(
     cache: &mut H,
     key: &M::Key,
     found: Found<M>,
@@ -625,7 +626,7 @@ where
 }
 
 /// As `give_found`, for what a peek found: no path is sent.
-fn give_peeked<M: Function, In, S>(
+fn give_peeked<M: Memo, In, S>(
     peeked: Peeked<M>,
     input: &mut In,
     sink: &mut S,
@@ -659,7 +660,7 @@ where
 
 /// Looks for an entry that agrees, with its path, and returns its output. The contract holds from each earlier state
 /// since which nothing was written: a caller may have peeked.
-fn look_hit<M: Function, H: Hold<M>, In, S>(
+fn look_hit<M: Memo, H: Hold<M>, In, S>(
     cache: &mut H,
     key: &M::Key,
     input: &mut In,
@@ -692,7 +693,7 @@ where
 }
 
 /// Looks for an entry that agrees, and returns its output. If the sink ignores all, it peeks first, to clone no path.
-fn find_hit<M: Function, H: Hold<M>, In, S>(
+fn find_hit<M: Memo, H: Hold<M>, In, S>(
     cache: &mut H,
     key: &M::Key,
     input: &mut In,
@@ -729,7 +730,7 @@ where
 }
 
 /// As `begin`, but returns a run's key, so that a hit makes no room for a recording.
-pub(crate) fn look_up<M: Function, H: Hold<M>, In, S>(
+pub(crate) fn look_up<M: Memo, H: Hold<M>, In, S>(
     cache: &mut H,
     input: &mut In,
     sink: &mut S,
@@ -765,7 +766,7 @@ where
 /// With `enabled` false there is no look-up, and the run won't be stored. On a hit the sink takes the entry's path;
 /// then each write is done on the input and sent. A look-up asks each call of one path once, or twice for an entry with
 /// an age and a sink that ignores all.
-pub fn begin<M: Function, H: Hold<M>, In, S>(
+pub fn begin<M: Memo, H: Hold<M>, In, S>(
     alloc: Global,
     cache: &mut H,
     input: &mut In,

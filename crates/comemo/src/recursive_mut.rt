@@ -15,7 +15,7 @@ ghost use Rattle.comemo_track.specs.Sending.{BreaksOff, TookAs};
 
 use crate::function_mut::{RecorderMut, Records, Writes};
 use crate::pending::{Begun, Fault, How, Pending, Reply, look_up};
-use comemo_cache::cache::{Function, Meant};
+use comemo_cache::function::{Meant, Memo};
 use comemo_cache::hold::Hold;
 use comemo_track::constraint::Constraint;
 use comemo_track::input::KeyedMut;
@@ -33,7 +33,7 @@ pub struct InnerMut<K, T: Track> {
 
 /// How a nested call of a function that writes goes, for contracts, as `⟦<G as Nesting<H, Self>>⟧.begins`. There is
 /// nothing to implement.
-pub trait Nesting<H, R>: Function
+pub trait Nesting<H, R>: Memo
 where
     H: Hold<Self>,
     R: Records<Call = Self::Call, Answer = Self::Answer>,
@@ -64,7 +64,7 @@ where
     ghost breaks: { H → H → Recording Self.Call Self.Answer → R → R → Type 0 };
 }
 
-impl<M: Function, H, R> Nesting<H, R> for M
+impl<M: Memo, H, R> Nesting<H, R> for M
 where
     H: Hold<M>,
     R: Records<Call = M::Call, Answer = M::Answer>,
@@ -112,7 +112,7 @@ impl<'a, 'b, T: Track> RecorderMut<'a, 'b, T> {
     ///
     /// On a hit this recorder takes the entry's path and writes. A run has an empty recording; that of this recorder is
     /// set aside until `finish`.
-    pub fn begin<G: Function<Call = T::Call, Answer = T::Answer>, H: Hold<G>>(
+    pub fn begin<G: Memo<Call = T::Call, Answer = T::Answer>, H: Hold<G>>(
         &mut self,
         cache: &mut H,
         key: &G::Key,
@@ -152,7 +152,7 @@ impl<'a, 'b, T: Track> RecorderMut<'a, 'b, T> {
 
     /// Finishes a nested run by its result: stores its output, or returns its fault. The recording that was set aside
     /// is back, and takes the run's. Output and writes must be right as in `RunMut::run`.
-    pub fn finish<G: Function<Call = T::Call, Answer = T::Answer>, H: Hold<G>>(
+    pub fn finish<G: Memo<Call = T::Call, Answer = T::Answer>, H: Hold<G>>(
         &mut self,
         cache: &mut H,
         key: &G::Key,
@@ -183,7 +183,7 @@ impl<'a, 'b, T: Track> RecorderMut<'a, 'b, T> {
     }
 
     /// As `finish`, with the reply: whether the run was stored, or why not.
-    pub fn finish_reply<G: Function<Call = T::Call, Answer = T::Answer>, H: Hold<G>>(
+    pub fn finish_reply<G: Memo<Call = T::Call, Answer = T::Answer>, H: Hold<G>>(
         &mut self,
         cache: &mut H,
         key: &G::Key,

@@ -1,16 +1,17 @@
-//! Memoized functions, and the cache of their outputs. `look`, `peek`, `store` and `touch` follow one stored path, and
+//! The cache of a memoized function's outputs. `look`, `peek`, `store` and `touch` follow one stored path, and
 //! cost what the operations of `CallTree` do.
 ghost use Rattle.std.specs.Prelude.{◌≡◌, ◌⊎◌, ◌+◌, nat_lt, [], List, true, false, IsTrue, option_copied, option_map, IfOk, IfErr, OnOk, OnErr, IfSome, IfNone, MatchOption, length};
 ghost use Rattle.std.specs.List.{All, Any};
 ghost use Rattle.comemo_base.specs.Answers.{Agrees};
 ghost use Rattle.comemo_base.specs.Lookup.{under, IsAsked, IsRefused, FindsAgreeing, FindsAgreeingPath};
 ghost use Rattle.comemo_base.specs.Insertion.{IsReason};
-ghost use Rattle.comemo_cache.specs.Meaning.{Meaning, Naming, unnamed, IsNamed, IsNamedRun, exactly, invocation, run, IsRight};
+ghost use Rattle.comemo_cache.specs.Meaning.{IsNamed, IsNamedRun, exactly, invocation, run, IsRight};
 ghost use Rattle.comemo_base.specs.declared.insertion.InsertError.TheVariants.{MissingCall};
-ghost use Rattle.comemo_cache.specs.Cache.{FunctionLaws, Stands, HasNone, HasAged, IsPeeked, IsMiss, IsRefusedLook, TouchesAt, Evicts};
+ghost use Rattle.comemo_cache.specs.Cache.{Stands, HasNone, HasAged, IsPeeked, IsMiss, IsRefusedLook, TouchesAt, Evicts};
 ghost use Rattle.comemo_base.specs.Tree.{IsTree};
 ghost use Rattle.comemo_cache.specs.Storing.{Stores};
 
+use crate::function::{Meant, Memo};
 use comemo_base::{CallSequence, InsertError};
 use comemo_track::input::Input;
 use comemo_track::track::Call;
@@ -19,72 +20,15 @@ use std::alloc::{AllocError, Global};
 use std::hash::Hash;
 use std::marker::Model;
 
-/// What a memoized function means: which outputs, and which writes, are right at a key and at answers.
-///
-/// Several untracked arguments form one key, as a tuple. A run is written for any tracked value that has these calls and
-/// answers. The checker finds the laws if keys, calls, answers and outputs are plain values.
-pub trait Function {
-    /// What a run can ask, and write.
-    type Call: Call;
-
-    /// The untracked arguments, under which a call is cached.
-    type Key: Clone + Eq + Hash;
-
-    /// The answer to a read: one type for all calls.
-    type Answer: Clone + Ord;
-
-    /// The output.
-    type Out: Clone;
-
-    // at this key and these answers, this output is right
-    ghost means: { Self.Key → (Self.Call → Self.Answer) → Self.Out → Type 0 };
-
-    // and these writes: none, by default
-    ghost writes: { Self.Key → (Self.Call → Self.Answer) → Self.Out
-        → List Self.Call → Type 0 } = { λ _ _ _ W. W ≡ [] };
-
-    // which calls are asked at a key and at answers, if the function names them; then each path in a cache is causal
-    // and complete, and storing a run never fails with `MissingCall`
-    ghost naming: { Naming Self.Key Self.Call Self.Answer } = { unnamed };
-
-    // clones of keys and answers are equal; the meaning treats equal keys and equal writes alike, and an output like its
-    // clone
-    ghost laws: { FunctionLaws Self.Call.eq Self.Answer.eq Self.Key.eq
-        Self.Key.is_clone Self.Answer.is_clone Self.Out.is_clone (IsRight means writes) };
-}
-
-/// What a memoized function means, for contracts, as `⟦<M as Meant>⟧.right`. There is nothing to implement.
-pub trait Meant: Function {
-    // which outputs and writes are right at a key and answers
-    ghost right: { Self.Key → (Self.Call → Self.Answer) → Self.Out → List Self.Call → Type 0 };
-
-    // the same with the equalities by which it is told, as one value
-    ghost meaning: { Meaning Self.Key Self.Call Self.Answer Self.Out };
-}
-
-impl<M: Function> Meant for M {
-    ghost right = { IsRight M.means M.writes };
-
-    ghost meaning = { record {
-      same_call = M.Call.eq;
-      same_answer = M.Answer.eq;
-      same_key = M.Key.eq;
-      is_write = M.Call.is_write;
-      is_clone = M.Out.is_clone;
-      right = IsRight M.means M.writes;
-      naming = M.naming;
-    } };
-}
-
 /// The result of a run, as the cache holds it.
 #[derive(Drop)]
-pub(crate) struct KeptRun<M: Function> {
+pub(crate) struct KeptRun<M: Memo> {
     output: M::Out,
     writes: Vec<M::Call>,
     pub(crate) age: usize,
 }
 
-impl<M: Function> Model for KeptRun<M> {
+impl<M: Memo> Model for KeptRun<M> {
     ghost use Rattle.comemo_cache.specs.Cache.{Kept, kept_code};
 
     ghost Value = { Kept M.Out M.Call };
@@ -100,11 +44,11 @@ impl<M: Function> Model for KeptRun<M> {
 /// right at its key for all answers that agree with its path. Entries under one key share one copy of it; paths with an
 /// equal prefix share its calls and answers. Only `evict` drops entries.
 #[derive(Drop)]
-pub struct CacheData<M: Function> {
+pub struct CacheData<M: Memo> {
     pub(crate) tree: CallTree<M::Key, M::Call, M::Answer, KeptRun<M>>,
 }
 
-impl<M: Function> Model for CacheData<M> {
+impl<M: Memo> Model for CacheData<M> {
     ghost use Rattle.std.specs.Prelude.{List};
     ghost use Rattle.std.specs.List.{All, Any};
     ghost use Rattle.std.specs.Coded.{coded_list};
@@ -132,7 +76,7 @@ impl<M: Function> Model for CacheData<M> {
 
 /// What a look-up found: the entry's path, output and writes, cloned.
 #[derive(Drop)]
-pub struct Found<M: Function> {
+pub struct Found<M: Memo> {
     /// The calls of the path, in order, with the answers of this look-up, which equal the stored ones.
     pub pairs: Vec<(M::Call, M::Answer)>,
     /// The output.
@@ -145,7 +89,7 @@ pub struct Found<M: Function> {
 
 /// What a peek found: as `Found`, without the path.
 #[derive(Drop)]
-pub struct Peeked<M: Function> {
+pub struct Peeked<M: Memo> {
     /// The output.
     pub output: M::Out,
     /// The run's writes, in order.
@@ -222,7 +166,7 @@ fn get_agreeing<'a, K: Clone + Eq + Hash, In: Input, T>(
     )
 }
 
-impl<M: Function> CacheData<M> {
+impl<M: Memo> CacheData<M> {
     /// An empty cache. Does not allocate.
     pub fn new(alloc: Global) -> Self
         ensures { result ≡ [] }

@@ -7,7 +7,8 @@ ghost use Rattle.comemo_base.specs.Tree.{IsSamePath};
 ghost use Rattle.comemo_cache.specs.Meaning.{invocation};
 ghost use Rattle.comemo_cache.specs.Explaining.{Explains};
 
-use crate::cache::{CacheData, Function, Meant};
+use crate::cache::CacheData;
+use crate::function::{Meant, Memo};
 use comemo_track::input::Input;
 use comemo_track::track::Call;
 use comemo_tree::CallTree;
@@ -79,7 +80,7 @@ fn note_agreeing<'a, K: Clone + Eq + Hash, In: Input, T>(
     )
 }
 
-impl<M: Function> CacheData<M> {
+impl<M: Memo> CacheData<M> {
     /// Says why a call finds an entry or none. Nothing changes.
     ///
     /// It asks what a look-up asks, and clones each call and each answer.

@@ -12,8 +12,9 @@ ghost use Rattle.comemo_cache.specs.Explaining.{Explains};
 ghost use Rattle.comemo_cache.specs.Storing.{Stores};
 ghost use Rattle.comemo_cache.specs.Held.{Held, Leads, Stays};
 
-use crate::cache::{CacheData, Found, Function, Meant, Peeked};
+use crate::cache::{CacheData, Found, Peeked};
 use crate::explain::Explanation;
+use crate::function::{Meant, Memo};
 use comemo_base::{CallSequence, InsertError};
 use comemo_track::input::Input;
 use comemo_track::track::Call;
@@ -53,7 +54,7 @@ impl<C: Call, R: Clone + Ord> Reads for CallSequence<C, R> {
 /// Access to the cache of a call: a `CacheData`, owned by the caller, or a `Shared`, which takes a lock in each step.
 ///
 /// A call only looks, peeks, touches and stores. If the entries are known, contracts state what each step does to them.
-pub trait Hold<M: Function> {
+pub trait Hold<M: Memo> {
     // the entries, if nothing else can change them
     ghost entries: { Self → Option (Entries M.Key M.Call M.Answer M.Out) };
 
@@ -141,7 +142,7 @@ pub trait Hold<M: Function> {
         ensures err { OnErr result (Stays (entries self.old) (entries self.new)) };
 }
 
-impl<M: Function> Hold<M> for CacheData<M> {
+impl<M: Memo> Hold<M> for CacheData<M> {
     ghost entries = { λ s. Some s };
 
     fn look<In: Input<Call = M::Call, Key = M::Key, Answer = M::Answer>>(

@@ -11,15 +11,17 @@ pub mod contents;
 pub mod eviction;
 pub mod evictors;
 pub mod explain;
+pub mod function;
 pub mod hold;
 pub mod shared;
 pub mod steps;
 
-pub use cache::{CacheData, Found, Function, Meant, Peeked};
+pub use cache::{CacheData, Found, Peeked};
 pub use contents::Contents;
 pub use eviction::{Caches, Evict, Evictor};
 pub use evictors::register_evictor;
 pub use explain::Explanation;
+pub use function::{Function, Meant, Memo};
 pub use hold::{Hold, Reads};
 pub use shared::{Cache, Shared};
 pub use steps::{Step, StepReply};

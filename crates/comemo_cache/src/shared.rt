@@ -12,9 +12,10 @@ ghost use Rattle.comemo_cache.specs.Cache.{Entries, Evicts, Stands, TouchesAt};
 ghost use Rattle.comemo_cache.specs.Storing.{Stores};
 ghost use Rattle.comemo_cache.specs.Held.{ChangesBehind, Held, Leads, Stays};
 
-use crate::cache::{CacheData, Found, Function, Meant, Peeked};
+use crate::cache::{CacheData, Found, Peeked};
 use crate::contents::Contents;
 use crate::explain::Explanation;
+use crate::function::{Meant, Memo};
 use crate::hold::{Hold, Reads};
 use comemo_base::{CallSequence, InsertError};
 use comemo_track::input::Input;
@@ -34,11 +35,11 @@ const SHARDS: usize = 64;
 
 /// A reference to the entries of a shard, or to none if the shard never had one.
 #[derive(Drop)]
-struct EntriesRef<M: Function> {
+struct EntriesRef<M: Memo> {
     data: Option<Arc<CacheData<M>>>,
 }
 
-impl<M: Function> Model for EntriesRef<M> {
+impl<M: Memo> Model for EntriesRef<M> {
     ghost use Rattle.std.specs.Prelude.{Option};
     ghost use Rattle.std.specs.Option.{option_map};
     ghost use Rattle.std.specs.Arc.{arc_value};
@@ -54,7 +55,7 @@ impl<M: Function> Model for EntriesRef<M> {
     ghost view = { λ s. option_map arc_value s.data };
 }
 
-impl<M: Function> EntriesRef<M> {
+impl<M: Memo> EntriesRef<M> {
     /// A reference to none.
     fn new() -> Self
         ensures { result ≡ None }
@@ -149,13 +150,13 @@ impl<M: Function> EntriesRef<M> {
 /// A look-up locks only its own lane, for reading. So look-ups in different lanes write no memory in common, and don't
 /// wait for each other's processors.
 #[derive(Drop)]
-struct Lane<M: Function> {
+struct Lane<M: Memo> {
     entries: RwLock<EntriesRef<M>>,
     // Padding to 128 bytes, which processors fetch at once, so that lanes don't disturb each other.
     padding: [u64; 10],
 }
 
-impl<M: Function> Lane<M> {
+impl<M: Memo> Lane<M> {
     /// A lane of a shard without entries.
     fn new() -> Self {
         Lane {
@@ -172,14 +173,14 @@ impl<M: Function> Lane<M> {
 
 /// All lanes of a shard, locked for writing: no look-up is under way.
 #[derive(Drop)]
-struct ExclusiveGuard<'a, M: Function> {
+struct ExclusiveGuard<'a, M: Memo> {
     first: RwLockWriteGuard<'a, EntriesRef<M>>,
     second: RwLockWriteGuard<'a, EntriesRef<M>>,
     third: RwLockWriteGuard<'a, EntriesRef<M>>,
     fourth: RwLockWriteGuard<'a, EntriesRef<M>>,
 }
 
-impl<'a, M: Function> ExclusiveGuard<'a, M> {
+impl<'a, M: Memo> ExclusiveGuard<'a, M> {
     /// Locks a shard's lanes in their order, so that no two callers wait for each other.
     fn new<R: Wait>(rt: &R, shard: &'a [Lane<M>; LANES]) -> Self {
         ExclusiveGuard {
@@ -191,7 +192,7 @@ impl<'a, M: Function> ExclusiveGuard<'a, M> {
     }
 }
 
-impl<M: Function> ExclusiveGuard<'_, M> {
+impl<M: Memo> ExclusiveGuard<'_, M> {
     /// Leaves the first lane's reference as the only one, so that the entries can be changed.
     fn withdraw(&mut self)
         ensures first { write_guard_value self.new.first ≡ write_guard_value self.old.first }
@@ -227,14 +228,14 @@ impl<M: Function> ExclusiveGuard<'_, M> {
 /// look-ups in different lanes don't disturb each other. Its type ensures that entries are right, whichever thread
 /// stored them. It takes 32 KiB in place.
 #[derive(Drop)]
-pub struct Cache<M: Function> {
+pub struct Cache<M: Memo> {
     alloc: Global,
     shards: [[Lane<M>; LANES]; SHARDS],
     // The number of shares made, which distributes them over the lanes.
     shares: AtomicU64,
 }
 
-impl<M: Function> Cache<M> {
+impl<M: Memo> Cache<M> {
     /// An empty cache. Does not allocate.
     pub fn new(alloc: Global) -> Self {
         // The checker only covers a closure that returns lanes if it holds something of their type.
@@ -293,7 +294,7 @@ impl<M: Function> Cache<M> {
 ///
 /// A call locks one shard only and evictions lock in one order, so there is no deadlock. A shard is evicted after all
 /// later shards were locked, and then unlocked.
-fn evict_shards<M: Function, R: Wait>(rt: &R, shards: &[[Lane<M>; LANES]], max_age: usize) {
+fn evict_shards<M: Memo, R: Wait>(rt: &R, shards: &[[Lane<M>; LANES]], max_age: usize) {
     let Some((shard, rest)) = shards.split_first() else {
         return;
     };
@@ -309,14 +310,14 @@ fn evict_shards<M: Function, R: Wait>(rt: &R, shards: &[[Lane<M>; LANES]], max_a
 ///
 /// Its entries aren't known, since other threads may change them between two steps.
 #[derive(Drop)]
-pub struct Shared<'a, M: Function, R: Wait> {
+pub struct Shared<'a, M: Memo, R: Wait> {
     cache: &'a Cache<M>,
     // Its number, which chooses the lane of its look-ups.
     share: usize,
     rt: &'a R,
 }
 
-impl<M: Function, R: Wait> Hold<M> for Shared<'_, M, R> {
+impl<M: Memo, R: Wait> Hold<M> for Shared<'_, M, R> {
     ghost entries = { λ _. None };
 
     fn look<In: Input<Call = M::Call, Key = M::Key, Answer = M::Answer>>(

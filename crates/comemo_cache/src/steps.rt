@@ -6,14 +6,15 @@ ghost use Rattle.comemo_track.specs.InputLaws.{equal_if_one};
 ghost use Rattle.comemo_cache.specs.Steps.{listed, Takes, TakesEach, IsStep};
 ghost use Rattle.comemo_cache.specs.StepLaws.{listed_alike};
 
-use crate::cache::{CacheData, Found, Function, Meant};
+use crate::cache::{CacheData, Found};
+use crate::function::{Meant, Memo};
 use comemo_base::{CallSequence, InsertError};
 use comemo_track::input::Input;
 use std::alloc::{AllocError, Global};
 
 /// A step of a cache, with its arguments.
 #[derive(Drop)]
-pub enum Step<M: Function> {
+pub enum Step<M: Memo> {
     /// Looks for an entry.
     Look {
         /// The key.
@@ -50,7 +51,7 @@ pub enum Step<M: Function> {
 
 /// The result of a step.
 #[derive(Drop)]
-pub enum StepReply<M: Function> {
+pub enum StepReply<M: Memo> {
     /// A look-up found this entry.
     Found(Found<M>),
     /// A look-up found nothing.
@@ -69,13 +70,13 @@ pub enum StepReply<M: Function> {
 
 /// An input that answers from a list: the key and the answers of a `Step::Look`.
 #[derive(Drop)]
-struct Listed<'a, M: Function> {
+struct Listed<'a, M: Memo> {
     key: &'a M::Key,
     answers: &'a [(M::Call, M::Answer)],
     other: &'a M::Answer,
 }
 
-impl<'a, M: Function> Input for Listed<'a, M> {
+impl<'a, M: Memo> Input for Listed<'a, M> {
     type Call = M::Call;
 
     type Key = M::Key;
@@ -118,7 +119,7 @@ impl<'a, M: Function> Input for Listed<'a, M> {
     }
 }
 
-impl<M: Function> CacheData<M> {
+impl<M: Memo> CacheData<M> {
     /// Does steps in turn, and returns the result of each, to compare a cache with a list.
     ///
     /// Fails, before the first step, if the list of results can't be allocated. A step that runs out of memory changes

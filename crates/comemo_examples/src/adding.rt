@@ -12,9 +12,7 @@ pub struct Adds;
 impl Function for Adds {
     type Key = u64;
 
-    type Call = CounterCall;
-
-    type Answer = u64;
+    type Of = Counter;
 
     type Out = u64;
 
@@ -27,9 +25,7 @@ impl Function for Adds {
     ghost laws = { Prim.search rules };
 }
 
-impl RunMut<Counter> for Adds {
-    type Needs = ();
-
+impl RunMut<Counter, ()> for Adds {
     fn run(
         n: &u64,
         counter: &mut RecorderMut<'_, '_, Counter>,
@@ -47,9 +43,7 @@ pub struct AddsTwice;
 impl Function for AddsTwice {
     type Key = u64;
 
-    type Call = CounterCall;
-
-    type Answer = u64;
+    type Of = Counter;
 
     type Out = u64;
 
@@ -62,9 +56,7 @@ impl Function for AddsTwice {
     ghost laws = { exact_laws (Prim.search rules) };
 }
 
-impl RunMut<Counter> for AddsTwice {
-    type Needs = CacheData<Adds>;
-
+impl RunMut<Counter, CacheData<Adds>> for AddsTwice {
     fn run(
         n: &u64,
         counter: &mut RecorderMut<'_, '_, Counter>,

@@ -13,11 +13,9 @@ use comemo::{Begun, Both, Fault, Function, Hold, MultiAnswer, MultiCall, Recorde
 pub struct AllEqual;
 
 impl Function for AllEqual {
-    type Call = MultiCall<Get, Get>;
-
     type Key = u32;
 
-    type Answer = MultiAnswer<u64, u64>;
+    type Of = Both<'static, Cells, Cells>;
 
     type Out = bool;
 

@@ -26,9 +26,7 @@ pub struct BothPass;
 impl Function for BothPass {
     type Key = u64;
 
-    type Call = TownCall;
-
-    type Answer = u64;
+    type Of = Town;
 
     type Out = bool;
 
@@ -37,9 +35,7 @@ impl Function for BothPass {
     ghost laws = { Prim.search rules };
 }
 
-impl Run<Town> for BothPass {
-    type Needs = ();
-
+impl Run<Town, ()> for BothPass {
     fn run(n: &u64, town: &mut Recorder<'_, Town>, _needs: &mut ()) -> Result<bool, Fault> {
         let (people, degrees) = people_and_degrees(town)?;
         Ok(people.min(degrees) > *n)

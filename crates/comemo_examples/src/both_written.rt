@@ -11,11 +11,9 @@ use comemo::{BothMut, CacheData, Fault, Function, MultiAnswer, MultiCall, Record
 pub struct NotesAndAdds;
 
 impl Function for NotesAndAdds {
-    type Call = MultiCall<CounterCall, NotebookCall>;
-
     type Key = u64;
 
-    type Answer = MultiAnswer<u64, u64>;
+    type Of = BothMut<'static, Counter, Notebook>;
 
     type Out = u64;
 
@@ -31,9 +29,7 @@ impl Function for NotesAndAdds {
     ghost laws = { exact_laws (Prim.search rules) };
 }
 
-impl<'a> RunMut<BothMut<'a, Counter, Notebook>> for NotesAndAdds {
-    type Needs = CacheData<Adds>;
-
+impl<'a> RunMut<BothMut<'a, Counter, Notebook>, CacheData<Adds>> for NotesAndAdds {
     fn run(
         n: &u64,
         both: &mut RecorderMut<'_, '_, BothMut<'a, Counter, Notebook>>,

@@ -96,11 +96,9 @@ impl<'a> Track for Chain<'a> {
 pub struct IsInChain;
 
 impl Function for IsInChain {
-    type Call = ChainCall;
-
     type Key = u32;
 
-    type Answer = bool;
+    type Of = Chain<'static>;
 
     type Out = bool;
 
@@ -111,9 +109,7 @@ impl Function for IsInChain {
     ghost laws = { Prim.search rules };
 }
 
-impl<'a> Run<Chain<'a>> for IsInChain {
-    type Needs = ();
-
+impl<'a> Run<Chain<'a>, ()> for IsInChain {
     fn run(n: &u32, chain: &mut Recorder<'_, Chain<'a>>, _needs: &mut ()) -> Result<bool, Fault> {
         let is = chain.ask(ChainCall::Contains(*n))?;
         Ok(is)

@@ -10,9 +10,7 @@ pub struct Double;
 impl Function for Double {
     type Key = u32;
 
-    type Call = ();
-
-    type Answer = ();
+    type Of = ();
 
     type Out = u32;
 
@@ -21,9 +19,7 @@ impl Function for Double {
     ghost laws = { Prim.search rules };
 }
 
-impl Run<()> for Double {
-    type Needs = ();
-
+impl Run<(), ()> for Double {
     fn run(n: &u32, _of: &mut Recorder<'_, ()>, _needs: &mut ()) -> Result<u32, Fault> {
         Ok(n.wrapping_add(*n))
     }

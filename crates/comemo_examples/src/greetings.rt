@@ -11,9 +11,7 @@ pub struct World;
 impl Function for World {
     type Key = ();
 
-    type Call = ();
-
-    type Answer = ();
+    type Of = ();
 
     type Out = String;
 
@@ -22,9 +20,7 @@ impl Function for World {
     ghost laws = { Prim.search rules };
 }
 
-impl Run<()> for World {
-    type Needs = Global;
-
+impl Run<(), Global> for World {
     fn run(_key: &(), _of: &mut Recorder<'_, ()>, alloc: &mut Global) -> Result<String, Fault> {
         Ok(String::from_str(*alloc, "The world is big")?)
     }
@@ -61,9 +57,7 @@ pub struct SaysHello;
 impl Function for SaysHello {
     type Key = ();
 
-    type Call = ();
-
-    type Answer = bool;
+    type Of = Greeting;
 
     type Out = bool;
 
@@ -72,9 +66,7 @@ impl Function for SaysHello {
     ghost laws = { Prim.search rules };
 }
 
-impl Run<Greeting> for SaysHello {
-    type Needs = ();
-
+impl Run<Greeting, ()> for SaysHello {
     fn run(_key: &(), text: &mut Recorder<'_, Greeting>, _needs: &mut ()) -> Result<bool, Fault> {
         let is = text.ask(())?;
         Ok(is)

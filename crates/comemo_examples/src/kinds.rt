@@ -81,9 +81,7 @@ pub struct Selfie;
 impl Function for Selfie {
     type Key = ();
 
-    type Call = TextCall;
-
-    type Answer = TextAnswer;
+    type Of = Text;
 
     type Out = String;
 
@@ -92,9 +90,7 @@ impl Function for Selfie {
     ghost laws = { Prim.search rules };
 }
 
-impl Run<Text> for Selfie {
-    type Needs = ();
-
+impl Run<Text, ()> for Selfie {
     fn run(_key: &(), text: &mut Recorder<'_, Text>, _needs: &mut ()) -> Result<String, Fault> {
         // The answer to this question is a text, so the other branch does not occur.
         let TextAnswer::Text(itself) = text.ask(TextCall::Itself)? else {
@@ -110,9 +106,7 @@ pub struct IsLong;
 impl Function for IsLong {
     type Key = ();
 
-    type Call = TextCall;
-
-    type Answer = TextAnswer;
+    type Of = Text;
 
     type Out = bool;
 
@@ -121,9 +115,7 @@ impl Function for IsLong {
     ghost laws = { Prim.search rules };
 }
 
-impl Run<Text> for IsLong {
-    type Needs = ();
-
+impl Run<Text, ()> for IsLong {
     fn run(_key: &(), text: &mut Recorder<'_, Text>, _needs: &mut ()) -> Result<bool, Fault> {
         // The answer to this question is a length, so the other branch does not occur.
         let TextAnswer::Length(length) = text.ask(TextCall::LengthPlus(5))? else {

@@ -13,9 +13,7 @@ pub struct Bump;
 impl Function for Bump {
     type Key = u64;
 
-    type Call = CounterCall;
-
-    type Answer = u64;
+    type Of = Counter;
 
     type Out = u64;
 
@@ -28,9 +26,7 @@ impl Function for Bump {
     ghost laws = { exact_laws (Prim.search rules) };
 }
 
-impl RunMut<Counter> for Bump {
-    type Needs = ();
-
+impl RunMut<Counter, ()> for Bump {
     fn run(
         k: &u64,
         counter: &mut RecorderMut<'_, '_, Counter>,
@@ -48,9 +44,7 @@ pub struct Readback;
 impl Function for Readback {
     type Key = u64;
 
-    type Call = CounterCall;
-
-    type Answer = u64;
+    type Of = Counter;
 
     type Out = u64;
 
@@ -63,9 +57,7 @@ impl Function for Readback {
     ghost laws = { exact_laws (Prim.search rules) };
 }
 
-impl RunMut<Counter> for Readback {
-    type Needs = ();
-
+impl RunMut<Counter, ()> for Readback {
     fn run(
         k: &u64,
         counter: &mut RecorderMut<'_, '_, Counter>,
@@ -85,9 +77,7 @@ pub struct Twice<H> {
 impl<H: Hold<Bump>> Function for Twice<H> {
     type Key = u64;
 
-    type Call = CounterCall;
-
-    type Answer = u64;
+    type Of = Counter;
 
     type Out = u64;
 
@@ -100,9 +90,7 @@ impl<H: Hold<Bump>> Function for Twice<H> {
     ghost laws = { exact_laws (Prim.search rules) };
 }
 
-impl<H: Hold<Bump>> RunMut<Counter> for Twice<H> {
-    type Needs = H;
-
+impl<H: Hold<Bump>> RunMut<Counter, H> for Twice<H> {
     fn run(
         k: &u64,
         counter: &mut RecorderMut<'_, '_, Counter>,
@@ -118,11 +106,9 @@ impl<H: Hold<Bump>> RunMut<Counter> for Twice<H> {
 pub struct AddsAndGets;
 
 impl Function for AddsAndGets {
-    type Call = MultiCall<CounterCall, CounterCall>;
-
     type Key = ();
 
-    type Answer = MultiAnswer<u64, u64>;
+    type Of = BothMut<'static, Counter, Counter>;
 
     type Out = u64;
 
@@ -136,9 +122,7 @@ impl Function for AddsAndGets {
     ghost laws = { exact_laws (Prim.search rules) };
 }
 
-impl<'a> RunMut<BothMut<'a, Counter, Counter>> for AddsAndGets {
-    type Needs = ();
-
+impl<'a> RunMut<BothMut<'a, Counter, Counter>, ()> for AddsAndGets {
     fn run(
         _key: &(),
         both: &mut RecorderMut<'_, '_, BothMut<'a, Counter, Counter>>,

@@ -15,9 +15,7 @@ pub struct Listing;
 impl Function for Listing {
     type Key = Vec<String>;
 
-    type Call = LogCall;
-
-    type Answer = ();
+    type Of = Log;
 
     type Out = ();
 
@@ -31,13 +29,10 @@ impl Function for Listing {
       writes = λ key m output V W r same right.
           (sym (map_writes logged logged_alike V W same) ∙ right.0, tt);
       key_clones = λ x y h. Prim.search (rules, texts_clone);
-      answer_clones = Prim.search rules;
     } };
 }
 
-impl RunMut<Log> for Listing {
-    type Needs = ();
-
+impl RunMut<Log, ()> for Listing {
     fn run(
         texts: &Vec<String>,
         log: &mut RecorderMut<'_, '_, Log>,

@@ -79,23 +79,19 @@ pub struct Contents<L> {
 impl<L: Loader> Function for Contents<L> {
     type Key = String;
 
-    type Call = LibraryCall;
-
-    type Answer = Vec<u8>;
+    type Of = Library<L>;
 
     type Out = Vec<u8>;
 
     ghost use Rattle.comemo_examples.specs.declared.loader.LibraryCall.TheVariants.{Load};
-    ghost use Rattle.comemo_examples.specs.LoadLaws.{equal_bytes, same_bytes};
+    ghost use Rattle.comemo_examples.specs.LoadLaws.{same_bytes};
 
     ghost means = { λ path m out. out.items ≡ (m (Load path)).items };
 
-    ghost laws = { Prim.search (rules, each_same, same_bytes, equal_bytes) };
+    ghost laws = { Prim.search (rules, each_same, same_bytes) };
 }
 
-impl<L: Loader> Run<Library<L>> for Contents<L> {
-    type Needs = ();
-
+impl<L: Loader> Run<Library<L>, ()> for Contents<L> {
     fn run(path: &String, of: &mut Recorder<'_, Library<L>>, _: &mut ()) -> Result<Vec<u8>, Fault> {
         let bytes = of.ask(LibraryCall::Load(path.clone()?))?;
         Ok(bytes)

@@ -14,9 +14,7 @@ pub struct Sum;
 impl Function for Sum {
     type Key = ();
 
-    type Call = ContextCall;
-
-    type Answer = u64;
+    type Of = Context;
 
     type Out = u64;
 
@@ -30,9 +28,7 @@ impl Function for Sum {
     ghost laws = { Prim.search rules };
 }
 
-impl Run<Context> for Sum {
-    type Needs = ContextCall;
-
+impl Run<Context, ContextCall> for Sum {
     fn run(
         _key: &(),
         context: &mut Recorder<'_, Context>,
@@ -62,9 +58,7 @@ pub struct IsOver;
 impl Function for IsOver {
     type Key = u64;
 
-    type Call = ContextCall;
-
-    type Answer = u64;
+    type Of = Context;
 
     type Out = bool;
 
@@ -78,9 +72,7 @@ impl Function for IsOver {
     ghost laws = { Prim.search rules };
 }
 
-impl Run<Context> for IsOver {
-    type Needs = (CacheData<Sum>, ContextCall);
-
+impl Run<Context, (CacheData<Sum>, ContextCall)> for IsOver {
     fn run(
         n: &u64,
         context: &mut Recorder<'_, Context>,

@@ -13,9 +13,7 @@ pub struct Identity;
 impl Function for Identity {
     type Key = u64;
 
-    type Call = ();
-
-    type Answer = ();
+    type Of = ();
 
     type Out = u64;
 
@@ -24,9 +22,7 @@ impl Function for Identity {
     ghost laws = { Prim.search rules };
 }
 
-impl Run<()> for Identity {
-    type Needs = ();
-
+impl Run<(), ()> for Identity {
     fn run(n: &u64, _of: &mut Recorder<'_, ()>, _needs: &mut ()) -> Result<u64, Fault> {
         Ok(*n)
     }
@@ -38,9 +34,7 @@ pub struct Sum;
 impl Function for Sum {
     type Key = (u32, u32);
 
-    type Call = ();
-
-    type Answer = ();
+    type Of = ();
 
     type Out = u32;
 
@@ -49,9 +43,7 @@ impl Function for Sum {
     ghost laws = { Prim.search rules };
 }
 
-impl Run<()> for Sum {
-    type Needs = ();
-
+impl Run<(), ()> for Sum {
     fn run(key: &(u32, u32), _of: &mut Recorder<'_, ()>, _needs: &mut ()) -> Result<u32, Fault> {
         Ok(key.0.wrapping_add(key.1))
     }
@@ -74,9 +66,7 @@ pub struct SumBelow;
 impl Function for SumBelow {
     type Key = u32;
 
-    type Call = ();
-
-    type Answer = ();
+    type Of = ();
 
     type Out = u64;
 
@@ -85,9 +75,7 @@ impl Function for SumBelow {
     ghost laws = { Prim.search rules };
 }
 
-impl Run<()> for SumBelow {
-    type Needs = ();
-
+impl Run<(), ()> for SumBelow {
     fn run(n: &u32, _of: &mut Recorder<'_, ()>, _needs: &mut ()) -> Result<u64, Fault> {
         Ok(sum_below(*n))
     }
@@ -111,9 +99,7 @@ pub struct DoubleFlat;
 impl Function for DoubleFlat {
     type Key = Flat;
 
-    type Call = ();
-
-    type Answer = ();
+    type Of = ();
 
     type Out = u32;
 
@@ -122,9 +108,7 @@ impl Function for DoubleFlat {
     ghost laws = { Prim.search rules };
 }
 
-impl Run<()> for DoubleFlat {
-    type Needs = ();
-
+impl Run<(), ()> for DoubleFlat {
     fn run(n: &Flat, _of: &mut Recorder<'_, ()>, _needs: &mut ()) -> Result<u32, Fault> {
         Ok(n.0.wrapping_add(n.0))
     }

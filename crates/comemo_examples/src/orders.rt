@@ -23,9 +23,7 @@ pub struct Either;
 impl Function for Either {
     type Key = ();
 
-    type Call = TownCall;
-
-    type Answer = u64;
+    type Of = Town;
 
     type Out = u64;
 
@@ -34,9 +32,7 @@ impl Function for Either {
     ghost laws = { Prim.search rules };
 }
 
-impl Run<Town> for Either {
-    type Needs = Turn;
-
+impl Run<Town, Turn> for Either {
     fn run(_key: &(), town: &mut Recorder<'_, Town>, turn: &mut Turn) -> Result<u64, Fault> {
         match turn {
             Turn::People => town.ask(TownCall::People),
@@ -53,9 +49,7 @@ pub struct Both;
 impl Function for Both {
     type Key = ();
 
-    type Call = TownCall;
-
-    type Answer = u64;
+    type Of = Town;
 
     type Out = (u64, u64);
 
@@ -66,9 +60,7 @@ impl Function for Both {
     ghost laws = { Prim.search rules };
 }
 
-impl Run<Town> for Both {
-    type Needs = Turn;
-
+impl Run<Town, Turn> for Both {
     fn run(_key: &(), town: &mut Recorder<'_, Town>, turn: &mut Turn) -> Result<(u64, u64), Fault> {
         match turn {
             Turn::People => {
@@ -92,9 +84,7 @@ pub struct Exceeds;
 impl Function for Exceeds {
     type Key = u64;
 
-    type Call = TownCall;
-
-    type Answer = u64;
+    type Of = Town;
 
     type Out = bool;
 
@@ -105,9 +95,7 @@ impl Function for Exceeds {
     ghost laws = { Prim.search rules };
 }
 
-impl Run<Town> for Exceeds {
-    type Needs = ();
-
+impl Run<Town, ()> for Exceeds {
     fn run(n: &u64, town: &mut Recorder<'_, Town>, _needs: &mut ()) -> Result<bool, Fault> {
         let people = town.ask(TownCall::People)?;
         Ok(people > *n || town.ask(TownCall::Degrees)? > *n)

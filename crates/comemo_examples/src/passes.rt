@@ -13,9 +13,7 @@ pub struct Passes;
 impl Function for Passes {
     type Key = u64;
 
-    type Call = TownCall;
-
-    type Answer = u64;
+    type Of = Town;
 
     type Out = bool;
 
@@ -26,9 +24,7 @@ impl Function for Passes {
     ghost laws = { Prim.search rules };
 }
 
-impl Run<Town> for Passes {
-    type Needs = ();
-
+impl Run<Town, ()> for Passes {
     fn run(n: &u64, town: &mut Recorder<'_, Town>, _needs: &mut ()) -> Result<bool, Fault> {
         let people = town.ask(TownCall::People)?;
         let degrees = town.ask(TownCall::Degrees)?;

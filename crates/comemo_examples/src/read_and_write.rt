@@ -16,11 +16,9 @@ use comemo::{
 pub struct TallyWarmth;
 
 impl Function for TallyWarmth {
-    type Call = MultiCall<TownCall, CounterCall>;
-
     type Key = ();
 
-    type Answer = MultiAnswer<u64, u64>;
+    type Of = ReadAndWrite<'static, Town, Counter>;
 
     type Out = u64;
 
@@ -35,9 +33,7 @@ impl Function for TallyWarmth {
     ghost laws = { exact_laws (Prim.search rules) };
 }
 
-impl<'a> RunMut<ReadAndWrite<'a, Town, Counter>> for TallyWarmth {
-    type Needs = CacheData<Warmth>;
-
+impl<'a> RunMut<ReadAndWrite<'a, Town, Counter>, CacheData<Warmth>> for TallyWarmth {
     fn run(
         _: &(),
         both: &mut RecorderMut<'_, '_, ReadAndWrite<'a, Town, Counter>>,
@@ -53,11 +49,9 @@ impl<'a> RunMut<ReadAndWrite<'a, Town, Counter>> for TallyWarmth {
 pub struct AddsDegrees;
 
 impl Function for AddsDegrees {
-    type Call = MultiCall<TownCall, CounterCall>;
-
     type Key = ();
 
-    type Answer = MultiAnswer<u64, u64>;
+    type Of = ReadAndWrite<'static, Town, Counter>;
 
     type Out = u64;
 
@@ -73,9 +67,7 @@ impl Function for AddsDegrees {
     ghost laws = { exact_laws (Prim.search rules) };
 }
 
-impl<'a> RunMut<ReadAndWrite<'a, Town, Counter>> for AddsDegrees {
-    type Needs = ();
-
+impl<'a> RunMut<ReadAndWrite<'a, Town, Counter>, ()> for AddsDegrees {
     fn run(
         _: &(),
         both: &mut RecorderMut<'_, '_, ReadAndWrite<'a, Town, Counter>>,
@@ -92,11 +84,9 @@ impl<'a> RunMut<ReadAndWrite<'a, Town, Counter>> for AddsDegrees {
 pub struct AddsOneMore;
 
 impl Function for AddsOneMore {
-    type Call = MultiCall<TownCall, CounterCall>;
-
     type Key = ();
 
-    type Answer = MultiAnswer<u64, u64>;
+    type Of = ReadAndWrite<'static, Town, Counter>;
 
     type Out = u64;
 
@@ -112,9 +102,7 @@ impl Function for AddsOneMore {
     ghost laws = { exact_laws (Prim.search rules) };
 }
 
-impl<'a> RunMut<ReadAndWrite<'a, Town, Counter>> for AddsOneMore {
-    type Needs = CacheData<Adds>;
-
+impl<'a> RunMut<ReadAndWrite<'a, Town, Counter>, CacheData<Adds>> for AddsOneMore {
     fn run(
         _: &(),
         both: &mut RecorderMut<'_, '_, ReadAndWrite<'a, Town, Counter>>,

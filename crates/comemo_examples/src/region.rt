@@ -82,11 +82,9 @@ impl<'a> Track for Region<'a> {
 pub struct Warmest;
 
 impl Function for Warmest {
-    type Call = RegionCall;
-
     type Key = ();
 
-    type Answer = u64;
+    type Of = Region<'static>;
 
     type Out = u64;
 
@@ -99,9 +97,7 @@ impl Function for Warmest {
     ghost laws = { Prim.search rules };
 }
 
-impl<'a> Run<Region<'a>> for Warmest {
-    type Needs = ();
-
+impl<'a> Run<Region<'a>, ()> for Warmest {
     fn run(_: &(), region: &mut Recorder<'_, Region<'a>>, _: &mut ()) -> Result<u64, Fault> {
         let coast = region.ask(RegionCall::Coast(TownCall::Degrees))?;
         let river = region.ask(RegionCall::River(TownCall::Degrees))?;

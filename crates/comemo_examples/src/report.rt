@@ -19,9 +19,7 @@ pub struct Report;
 impl Function for Report {
     type Key = (u64, u64);
 
-    type Call = TownCall;
-
-    type Answer = u64;
+    type Of = Town;
 
     type Out = u64;
 
@@ -33,9 +31,7 @@ impl Function for Report {
     ghost laws = { Prim.search rules };
 }
 
-impl Run<Town> for Report {
-    type Needs = Kept;
-
+impl Run<Town, Kept> for Report {
     fn run(key: &(u64, u64), town: &mut Recorder<'_, Town>, kept: &mut Kept) -> Result<u64, Fault> {
         if town.call(&mut kept.0, &mut (), key.0)? {
             let warmth = town.call(&mut kept.1, &mut (), ())?;

@@ -17,9 +17,7 @@ pub struct Ruler;
 impl Function for Ruler {
     type Key = u64;
 
-    type Call = NotebookCall;
-
-    type Answer = u64;
+    type Of = Notebook;
 
     type Out = ();
 

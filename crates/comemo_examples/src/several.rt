@@ -10,11 +10,9 @@ use comemo::{Both, CacheData, Fault, Function, MultiAnswer, MultiCall, Recorder,
 pub struct IsWarmer;
 
 impl Function for IsWarmer {
-    type Call = MultiCall<TownCall, TownCall>;
-
     type Key = ();
 
-    type Answer = MultiAnswer<u64, u64>;
+    type Of = Both<'static, Town, Town>;
 
     type Out = bool;
 
@@ -27,9 +25,7 @@ impl Function for IsWarmer {
     ghost laws = { Prim.search rules };
 }
 
-impl<'a> Run<Both<'a, Town, Town>> for IsWarmer {
-    type Needs = ();
-
+impl<'a> Run<Both<'a, Town, Town>, ()> for IsWarmer {
     fn run(
         _: &(),
         towns: &mut Recorder<'_, Both<'a, Town, Town>>,
@@ -48,11 +44,9 @@ impl<'a> Run<Both<'a, Town, Town>> for IsWarmer {
 pub struct Lead;
 
 impl Function for Lead {
-    type Call = MultiCall<TownCall, TownCall>;
-
     type Key = ();
 
-    type Answer = MultiAnswer<u64, u64>;
+    type Of = Both<'static, Town, Town>;
 
     type Out = u64;
 
@@ -65,9 +59,7 @@ impl Function for Lead {
     ghost laws = { Prim.search rules };
 }
 
-impl<'a> Run<Both<'a, Town, Town>> for Lead {
-    type Needs = CacheData<Warmth>;
-
+impl<'a> Run<Both<'a, Town, Town>, CacheData<Warmth>> for Lead {
     fn run(
         _key: &(),
         towns: &mut Recorder<'_, Both<'a, Town, Town>>,

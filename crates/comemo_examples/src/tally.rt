@@ -10,11 +10,9 @@ use comemo::{BothMut, Fault, Function, MultiAnswer, MultiCall, RecorderMut, RunM
 pub struct Tally;
 
 impl Function for Tally {
-    type Call = MultiCall<TownCall, CounterCall>;
-
     type Key = ();
 
-    type Answer = MultiAnswer<u64, u64>;
+    type Of = BothMut<'static, Town, Counter>;
 
     type Out = u64;
 
@@ -29,9 +27,7 @@ impl Function for Tally {
     ghost laws = { exact_laws (Prim.search rules) };
 }
 
-impl<'a> RunMut<BothMut<'a, Town, Counter>> for Tally {
-    type Needs = ();
-
+impl<'a> RunMut<BothMut<'a, Town, Counter>, ()> for Tally {
     fn run(
         _: &(),
         both: &mut RecorderMut<'_, '_, BothMut<'a, Town, Counter>>,

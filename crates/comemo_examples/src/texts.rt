@@ -10,9 +10,7 @@ pub struct Same;
 impl Function for Same {
     type Key = String;
 
-    type Call = ();
-
-    type Answer = ();
+    type Of = ();
 
     type Out = String;
 
@@ -21,9 +19,7 @@ impl Function for Same {
     ghost laws = { Prim.search rules };
 }
 
-impl Run<()> for Same {
-    type Needs = ();
-
+impl Run<(), ()> for Same {
     fn run(text: &String, _of: &mut Recorder<'_, ()>, _needs: &mut ()) -> Result<String, Fault> {
         Ok(text.clone()?)
     }

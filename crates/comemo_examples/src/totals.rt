@@ -16,11 +16,9 @@ use comemo::{
 pub struct RunningTotal;
 
 impl Function for RunningTotal {
-    type Call = MultiCall<Get, NotebookCall>;
-
     type Key = u32;
 
-    type Answer = MultiAnswer<u64, u64>;
+    type Of = ReadAndWrite<'static, Cells, Notebook>;
 
     type Out = u64;
 
@@ -91,11 +89,9 @@ fn add_up<'a, H: Hold<RunningTotal>>(
 pub struct NotesTotals;
 
 impl Function for NotesTotals {
-    type Call = MultiCall<Get, NotebookCall>;
-
     type Key = u32;
 
-    type Answer = MultiAnswer<u64, u64>;
+    type Of = ReadAndWrite<'static, Cells, Notebook>;
 
     type Out = u64;
 
@@ -106,9 +102,7 @@ impl Function for NotesTotals {
     ghost laws = { exact_laws (Prim.search rules) };
 }
 
-impl<'a> RunMut<ReadAndWrite<'a, Cells, Notebook>> for NotesTotals {
-    type Needs = CacheData<RunningTotal>;
-
+impl<'a> RunMut<ReadAndWrite<'a, Cells, Notebook>, CacheData<RunningTotal>> for NotesTotals {
     fn run(
         count: &u32,
         both: &mut RecorderMut<'_, '_, ReadAndWrite<'a, Cells, Notebook>>,

@@ -11,9 +11,7 @@ pub struct Warmth;
 impl Function for Warmth {
     type Key = ();
 
-    type Call = TownCall;
-
-    type Answer = u64;
+    type Of = Town;
 
     type Out = u64;
 
@@ -24,9 +22,7 @@ impl Function for Warmth {
     ghost laws = { Prim.search rules };
 }
 
-impl Run<Town> for Warmth {
-    type Needs = ();
-
+impl Run<Town, ()> for Warmth {
     fn run(_key: &(), town: &mut Recorder<'_, Town>, _needs: &mut ()) -> Result<u64, Fault> {
         let degrees = town.ask(TownCall::Degrees)?;
         Ok(degrees)

@@ -24,10 +24,10 @@ fn town((people, degrees): Of) -> Town {
 }
 
 /// Whether a call of a town returns this output and ends as `how`. It is enabled unless `how` is `Disabled`.
-fn gives<O: Copy + PartialEq, F: Run<Town, Out = O>>(
+fn gives<O: Copy + PartialEq, F: Run<Town, N, Out = O>, N>(
     alloc: Global,
     cache: &mut CacheData<F>,
-    needs: &mut F::Needs,
+    needs: &mut N,
     key: F::Key,
     of: Of,
     output: O,
@@ -72,7 +72,7 @@ fn only_what_was_asked_counts(rt: HostRuntime) {
 }
 
 /// How many calls of a function of a town and a number have these results.
-fn answers<F: Run<Town, Key = u64, Needs = (), Out = bool>>(
+fn answers<F: Run<Town, (), Key = u64, Out = bool>>(
     alloc: Global,
     number: u64,
     calls: &[(Of, bool, How)],
@@ -170,7 +170,7 @@ fn keys_of_one_hash_are_told_apart(rt: HostRuntime) {
 }
 
 /// How many calls of a function with this order of questions have these results, each with the number of entries then.
-fn in_turn<O: Copy + PartialEq, F: Run<Town, Key = (), Needs = Turn, Out = O>>(
+fn in_turn<O: Copy + PartialEq, F: Run<Town, Turn, Key = (), Out = O>>(
     alloc: Global,
     calls: &[(Turn, Of, O, How, usize)],
 ) -> usize

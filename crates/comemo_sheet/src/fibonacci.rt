@@ -13,9 +13,7 @@ pub struct Fib;
 impl Function for Fib {
     type Key = u64;
 
-    type Call = ();
-
-    type Answer = ();
+    type Of = ();
 
     type Out = u64;
 

@@ -3,7 +3,7 @@ ghost use Rattle.std.specs.Prelude.{◌≡◌};
 ghost use Rattle.comemo.specs.MeaningLaws.{reads_laws};
 ghost use Rattle.std.proofs.Common.{rules, ◌∙◌};
 ghost use Rattle.comemo_sheet.specs.Sheets.{number_in};
-ghost use Rattle.comemo_sheet.specs.SheetLaws.{content_clones, number_alike};
+ghost use Rattle.comemo_sheet.specs.SheetLaws.{number_alike};
 ghost use Rattle.comemo_sheet.specs.declared.sheet.SheetCall.TheVariants.{Cell};
 
 use crate::sheet::{Content, Sheet, SheetCall};
@@ -15,9 +15,7 @@ pub struct NumberIn;
 impl Function for NumberIn {
     type Key = String;
 
-    type Call = SheetCall;
-
-    type Answer = Content;
+    type Of = Sheet;
 
     type Out = i64;
 
@@ -28,13 +26,10 @@ impl Function for NumberIn {
       keys = λ j k m output r e right.
           right ∙ number_alike (m (Cell j)) (m (Cell k)) (r (Cell j) (Cell k) e);
       key_clones = Prim.search rules;
-      answer_clones = content_clones;
     }) };
 }
 
-impl Run<Sheet> for NumberIn {
-    type Needs = ();
-
+impl Run<Sheet, ()> for NumberIn {
     fn run(name: &String, sheet: &mut Recorder<'_, Sheet>, _needs: &mut ()) -> Result<i64, Fault> {
         let content = sheet.ask(SheetCall::Cell(name.clone()?))?;
         Ok(content.number())

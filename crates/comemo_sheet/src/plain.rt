@@ -3,7 +3,6 @@ ghost use Rattle.std.specs.Prelude.{◌≡◌};
 ghost use Rattle.comemo.specs.MeaningLaws.{reads_laws};
 ghost use Rattle.std.proofs.Common.{rules, ◌∙◌};
 ghost use Rattle.comemo_sheet.specs.Plain.{plain_number};
-ghost use Rattle.comemo_sheet.specs.SheetLaws.{content_clones};
 ghost use Rattle.comemo_sheet.specs.PlainLaws.{plain_alike};
 ghost use Rattle.comemo_sheet.specs.declared.sheet.SheetCall.TheVariants.{Cell};
 
@@ -25,9 +24,7 @@ pub struct PlainNumber;
 impl Function for PlainNumber {
     type Key = String;
 
-    type Call = SheetCall;
-
-    type Answer = Content;
+    type Of = Sheet;
 
     type Out = Result<i64, NoNumber>;
 
@@ -38,13 +35,10 @@ impl Function for PlainNumber {
       keys = λ j k m output r e right.
           right ∙ plain_alike (m (Cell j)) (m (Cell k)) (r (Cell j) (Cell k) e);
       key_clones = Prim.search rules;
-      answer_clones = content_clones;
     }) };
 }
 
-impl Run<Sheet> for PlainNumber {
-    type Needs = ();
-
+impl Run<Sheet, ()> for PlainNumber {
     fn run(
         name: &String,
         sheet: &mut Recorder<'_, Sheet>,

@@ -6,7 +6,6 @@ ghost use Rattle.std.proofs.Common.{rules};
 ghost use Rattle.comemo.specs.Recursive.{TellsOwn};
 ghost use Rattle.comemo.proofs.Texts.{texts_clone};
 ghost use Rattle.comemo_sheet.specs.Values.{sum_of, value_of};
-ghost use Rattle.comemo_sheet.specs.SheetLaws.{content_clones};
 ghost use Rattle.comemo_sheet.specs.ValueLaws.{range_alike};
 
 use crate::sheet::{Content, Sheet, SheetCall};
@@ -31,9 +30,7 @@ pub struct RangeTotal;
 impl Function for RangeTotal {
     type Key = Range;
 
-    type Call = SheetCall;
-
-    type Answer = Content;
+    type Of = Sheet;
 
     type Out = Option<i64>;
 
@@ -45,7 +42,6 @@ impl Function for RangeTotal {
       keys = λ j k m output r e right.
           Prim.search (rules, range_alike m r j.limit j.names.items k.names.items);
       key_clones = λ x y h. Prim.search (rules, texts_clone);
-      answer_clones = content_clones;
     }) };
 }
 

@@ -3,7 +3,6 @@ ghost use Rattle.std.specs.Prelude.{◌≡◌};
 ghost use Rattle.comemo.specs.MeaningLaws.{reads_laws};
 ghost use Rattle.std.proofs.Common.{rules, ◌∙◌};
 ghost use Rattle.comemo_sheet.specs.Totals.{plus, total_of};
-ghost use Rattle.comemo_sheet.specs.SheetLaws.{content_clones};
 ghost use Rattle.comemo_sheet.specs.TotalLaws.{total_alike};
 ghost use Rattle.comemo.proofs.Texts.{texts_clone};
 
@@ -16,9 +15,7 @@ pub struct RowTotal;
 impl Function for RowTotal {
     type Key = Vec<String>;
 
-    type Call = SheetCall;
-
-    type Answer = Content;
+    type Of = Sheet;
 
     type Out = i64;
 
@@ -28,13 +25,10 @@ impl Function for RowTotal {
       outputs = λ key m a b r c right. Prim.search rules;
       keys = λ j k m output r e right. right ∙ total_alike m r j.items k.items e;
       key_clones = λ x y h. texts_clone x.items y.items h.0;
-      answer_clones = content_clones;
     }) };
 }
 
-impl Run<Sheet> for RowTotal {
-    type Needs = ();
-
+impl Run<Sheet, ()> for RowTotal {
     fn run(
         names: &Vec<String>,
         sheet: &mut Recorder<'_, Sheet>,

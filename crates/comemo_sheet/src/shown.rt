@@ -28,16 +28,14 @@ pub struct Shown<H> {
 }
 
 impl<H> Function for Shown<H> {
-    type Call = MultiCall<SheetCall, SettingsCall>;
-
     type Key = String;
 
-    type Answer = MultiAnswer<Content, Setting>;
+    type Of = Both<'static, Sheet, Settings>;
 
     type Out = i64;
 
     ghost use Rattle.comemo.specs.Multi.{OnParts, first_call};
-    ghost use Rattle.comemo_sheet.specs.SheetLaws.{content_clones, number_alike};
+    ghost use Rattle.comemo_sheet.specs.SheetLaws.{number_alike};
     ghost use Rattle.comemo_sheet.specs.Sheets.{number_in};
     ghost use Rattle.comemo_sheet.specs.declared.sheet.SheetCall.TheVariants.{Cell};
     ghost use Rattle.comemo_sheet.specs.declared.settings.SettingsCall.TheVariants.{HidesNegative};
@@ -51,13 +49,10 @@ impl<H> Function for Shown<H> {
           ∙ ap (shown (y HidesNegative)) (number_alike (x (Cell j)) (x (Cell k)) (Prim.search
           (rules, r (first_call (Cell j)) (first_call (Cell k)) e, p (Cell j), p (Cell k))));
       key_clones = Prim.search rules;
-      answer_clones = Prim.search (rules, content_clones);
     }) };
 }
 
-impl<'a, H: Hold<NumberIn>> Run<Both<'a, Sheet, Settings>> for Shown<H> {
-    type Needs = H;
-
+impl<'a, H: Hold<NumberIn>> Run<Both<'a, Sheet, Settings>, H> for Shown<H> {
     fn run(
         name: &String,
         both: &mut Recorder<'_, Both<'a, Sheet, Settings>>,

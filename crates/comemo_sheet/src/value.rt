@@ -5,7 +5,6 @@ ghost use Rattle.std.proofs.Common.{rules, ◌∙◌};
 ghost use Rattle.comemo.specs.Recursive.{TellsOwn};
 ghost use Rattle.comemo_sheet.specs.Sheets.{cell_answer};
 ghost use Rattle.comemo_sheet.specs.Values.{both, value_of};
-ghost use Rattle.comemo_sheet.specs.SheetLaws.{content_clones};
 ghost use Rattle.comemo_sheet.specs.ValueLaws.{value_alike};
 
 use crate::row::add;
@@ -23,9 +22,7 @@ pub struct Value;
 impl Function for Value {
     type Key = (String, u64);
 
-    type Call = SheetCall;
-
-    type Answer = Content;
+    type Of = Sheet;
 
     type Out = Option<i64>;
 
@@ -35,7 +32,6 @@ impl Function for Value {
       outputs = λ key m a b r c right. Prim.search rules;
       keys = λ j k m output r e right. Prim.search (rules, value_alike m r j.1 j.0 k.0);
       key_clones = Prim.search rules;
-      answer_clones = content_clones;
     }) };
 }
 

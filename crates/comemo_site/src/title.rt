@@ -1,7 +1,6 @@
 //! The title of a page: a memoized function.
 ghost use Rattle.std.specs.Prelude.{◌≡◌};
 ghost use Rattle.std.proofs.Common.{rules};
-ghost use Rattle.comemo_site.specs.SiteLaws.{answer_clones};
 ghost use Rattle.comemo_site.specs.Sites.{title_in};
 ghost use Rattle.comemo_site.specs.declared.site.SiteCall.TheVariants.{TitleOf};
 
@@ -15,20 +14,16 @@ pub struct Title;
 impl Function for Title {
     type Key = (Text, ());
 
-    type Call = SiteCall;
-
-    type Answer = SiteAnswer;
+    type Of = Site;
 
     type Out = Option<Text>;
 
     ghost means = { λ key m out. out ≡ title_in (m (TitleOf key.0)) };
 
-    ghost laws = { Prim.search (rules, answer_clones) };
+    ghost laws = { Prim.search rules };
 }
 
-impl Run<Site> for Title {
-    type Needs = ();
-
+impl Run<Site, ()> for Title {
     #[tactic(auto, using(crate::specs::SiteLaws::title_alike))]
     fn run(
         key: &(Text, ()),

@@ -16,9 +16,7 @@ pub struct Location;
 impl Function for Location {
     type Key = ();
 
-    type Call = ContextCall;
-
-    type Answer = u64;
+    type Of = Context;
 
     type Out = u64;
 
@@ -29,9 +27,7 @@ impl Function for Location {
     ghost laws = { Prim.search rules };
 }
 
-impl Run<Context> for Location {
-    type Needs = ();
-
+impl Run<Context, ()> for Location {
     fn run(_key: &(), of: &mut Recorder<'_, Context>, _needs: &mut ()) -> Result<u64, Fault> {
         of.ask(ContextCall::Location)
     }
@@ -40,10 +36,10 @@ impl Run<Context> for Location {
 /// Calls a function twice with one key and one value.
 ///
 /// If the first call was stored, the second is a hit, and its output is a clone of the clone that was stored.
-pub fn call_twice<M: Run<T>, T: Track>(
+pub fn call_twice<M: Run<T, N>, T: Track, N>(
     alloc: Global,
     cache: &mut CacheData<M>,
-    needs: &mut M::Needs,
+    needs: &mut N,
     key: M::Key,
     of: &T,
 ) -> Result<(Reply<M::Out>, Reply<M::Out>), Fault>
@@ -69,10 +65,10 @@ pub struct Around<Out> {
 ///
 /// If the first call was stored, and the answers to its questions are the same, the second is a hit, whatever else
 /// changed.
-pub fn call_around<M: Run<T>, T: Track>(
+pub fn call_around<M: Run<T, N>, T: Track, N>(
     alloc: Global,
     cache: &mut CacheData<M>,
-    needs: &mut M::Needs,
+    needs: &mut N,
     key: M::Key,
     before: &T,
     after: &T,

@@ -10,11 +10,9 @@ use std::alloc::Global;
 pub struct SumOf;
 
 impl Function for SumOf {
-    type Call = ContextCall;
-
     type Key = ();
 
-    type Answer = u64;
+    type Of = Context;
 
     type Out = u64;
 

@@ -13,9 +13,7 @@ pub struct WarmthFor;
 impl Function for WarmthFor {
     type Key = u64;
 
-    type Call = TownCall;
-
-    type Answer = u64;
+    type Of = Town;
 
     type Out = u64;
 
@@ -26,9 +24,7 @@ impl Function for WarmthFor {
     ghost laws = { Prim.search rules };
 }
 
-impl Run<Town> for WarmthFor {
-    type Needs = ();
-
+impl Run<Town, ()> for WarmthFor {
     fn run(_key: &u64, town: &mut Recorder<'_, Town>, _needs: &mut ()) -> Result<u64, Fault> {
         let degrees = town.ask(TownCall::Degrees)?;
         Ok(degrees)

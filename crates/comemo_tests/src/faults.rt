@@ -17,9 +17,7 @@ pub struct Refused;
 impl Function for Refused {
     type Key = ();
 
-    type Call = ContextCall;
-
-    type Answer = u64;
+    type Of = Context;
 
     type Out = u64;
 
@@ -28,9 +26,7 @@ impl Function for Refused {
     ghost laws = { Prim.search rules };
 }
 
-impl Run<Context> for Refused {
-    type Needs = ();
-
+impl Run<Context, ()> for Refused {
     fn run(_key: &(), _of: &mut Recorder<'_, Context>, _needs: &mut ()) -> Result<u64, Fault> {
         Err(Fault::Memory)
     }
@@ -43,9 +39,7 @@ pub struct Failing;
 impl Function for Failing {
     type Key = bool;
 
-    type Call = ContextCall;
-
-    type Answer = u64;
+    type Of = Context;
 
     type Out = u64;
 
@@ -54,9 +48,7 @@ impl Function for Failing {
     ghost laws = { Prim.search rules };
 }
 
-impl Run<Context> for Failing {
-    type Needs = CacheData<Refused>;
-
+impl Run<Context, CacheData<Refused>> for Failing {
     fn run(
         hands_on: &bool,
         of: &mut Recorder<'_, Context>,
@@ -76,9 +68,7 @@ pub struct Calling;
 impl Function for Calling {
     type Key = bool;
 
-    type Call = ContextCall;
-
-    type Answer = u64;
+    type Of = Context;
 
     type Out = u64;
 
@@ -87,9 +77,7 @@ impl Function for Calling {
     ghost laws = { Prim.search rules };
 }
 
-impl Run<Context> for Calling {
-    type Needs = (CacheData<Failing>, CacheData<Refused>);
-
+impl Run<Context, (CacheData<Failing>, CacheData<Refused>)> for Calling {
     fn run(
         hands_on: &bool,
         of: &mut Recorder<'_, Context>,
@@ -104,11 +92,9 @@ impl Run<Context> for Calling {
 pub struct CallingOfPart;
 
 impl Function for CallingOfPart {
-    type Call = MultiCall<ContextCall, ContextCall>;
-
     type Key = (bool, bool);
 
-    type Answer = MultiAnswer<u64, u64>;
+    type Of = Both<'static, Context, Context>;
 
     type Out = u64;
 
@@ -117,9 +103,7 @@ impl Function for CallingOfPart {
     ghost laws = { Prim.search rules };
 }
 
-impl<'a> Run<Both<'a, Context, Context>> for CallingOfPart {
-    type Needs = (CacheData<Failing>, CacheData<Refused>);
-
+impl<'a> Run<Both<'a, Context, Context>, (CacheData<Failing>, CacheData<Refused>)> for CallingOfPart {
     fn run(
         key: &(bool, bool),
         of: &mut Recorder<'_, Both<'a, Context, Context>>,
@@ -176,9 +160,9 @@ fn is_told_of_spoiled(alloc: Global) -> bool {
 }
 
 /// Whether the caller of a function with this key gets this fault, and its own recording is incomplete then.
-fn is_told<F: Run<Context, Key = bool, Out = u64>>(
+fn is_told<F: Run<Context, N, Key = bool, Out = u64>, N>(
     alloc: Global,
-    needs: &mut F::Needs,
+    needs: &mut N,
     hands_on: bool,
     fault: Fault,
 ) -> bool
@@ -229,8 +213,8 @@ fn a_fault_of_a_run_is_told_to_its_caller(rt: HostRuntime) {
     let faults: &[(bool, Fault)] = &[(true, Fault::Memory), (false, Fault::Incomplete)];
     for (hands_on, fault) in faults {
         let of_closure = is_told_of_closure(alloc, *fault);
-        let of_function = is_told::<Failing>(alloc, &mut refused, *hands_on, *fault);
-        let of_called = is_told::<Calling>(alloc, &mut kept, *hands_on, *fault);
+        let of_function = is_told::<Failing, _>(alloc, &mut refused, *hands_on, *fault);
+        let of_called = is_told::<Calling, _>(alloc, &mut kept, *hands_on, *fault);
         let of_first = is_told_of_part(alloc, (true, *hands_on), *fault);
         let of_second = is_told_of_part(alloc, (false, *hands_on), *fault);
         assert!(rt; of_closure, "for {fault:?}");

@@ -12,11 +12,9 @@ use std::alloc::Global;
 pub struct LocationOf;
 
 impl Function for LocationOf {
-    type Call = ContextCall;
-
     type Key = ();
 
-    type Answer = u64;
+    type Of = Context;
 
     type Out = u64;
 

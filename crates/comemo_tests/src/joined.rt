@@ -15,11 +15,9 @@ use std::alloc::Global;
 pub struct ContainsNumber;
 
 impl Function for ContainsNumber {
-    type Call = MultiCall<(), ContextCall>;
-
     type Key = (u64, ());
 
-    type Answer = MultiAnswer<(), u64>;
+    type Of = Both<'static, (), Context>;
 
     type Out = bool;
 
@@ -41,7 +39,6 @@ impl Function for ContainsNumber {
       );
       writes = λ key m output V W r same h. (none_alike _ V W same h.0, h.1);
       key_clones = Prim.search rules;
-      answer_clones = Prim.search rules;
     } };
 }
 
@@ -123,11 +120,9 @@ fn a_number_is_looked_for_in_a_context(rt: HostRuntime) {
 pub struct AnythingOfTwo;
 
 impl Function for AnythingOfTwo {
-    type Call = MultiCall<ContextCall, ContextCall>;
-
     type Key = ((), ());
 
-    type Answer = MultiAnswer<u64, u64>;
+    type Of = Both<'static, Context, Context>;
 
     type Out = u64;
 

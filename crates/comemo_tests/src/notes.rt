@@ -12,9 +12,7 @@ pub struct NotesThree;
 impl Function for NotesThree {
     type Key = u64;
 
-    type Call = NotebookCall;
-
-    type Answer = u64;
+    type Of = Notebook;
 
     type Out = u64;
 
@@ -27,9 +25,7 @@ impl Function for NotesThree {
     ghost laws = { exact_laws (Prim.search rules) };
 }
 
-impl RunMut<Notebook> for NotesThree {
-    type Needs = ();
-
+impl RunMut<Notebook, ()> for NotesThree {
     fn run(
         n: &u64,
         book: &mut RecorderMut<'_, '_, Notebook>,
@@ -47,11 +43,9 @@ impl RunMut<Notebook> for NotesThree {
 pub struct AddsThree;
 
 impl Function for AddsThree {
-    type Call = CounterCall;
-
     type Key = ();
 
-    type Answer = u64;
+    type Of = Counter;
 
     type Out = ();
 

@@ -10,11 +10,9 @@ use std::alloc::{AllocError, Global};
 pub struct Anything;
 
 impl Function for Anything {
-    type Call = ContextCall;
-
     type Key = u64;
 
-    type Answer = u64;
+    type Of = Context;
 
     type Out = u64;
 

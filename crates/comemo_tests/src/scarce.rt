@@ -107,11 +107,9 @@ impl Track for Echo {
 pub struct AnyEcho;
 
 impl Function for AnyEcho {
-    type Call = Scarce;
-
     type Key = u64;
 
-    type Answer = u64;
+    type Of = Echo;
 
     type Out = u64;
 

@@ -23,9 +23,7 @@ pub struct SumOfCells;
 impl Function for SumOfCells {
     type Key = SumKey;
 
-    type Call = Get;
-
-    type Answer = u64;
+    type Of = Cells;
 
     type Out = u64;
 
@@ -34,9 +32,7 @@ impl Function for SumOfCells {
     ghost laws = { Prim.search rules };
 }
 
-impl Run<Cells> for SumOfCells {
-    type Needs = ();
-
+impl Run<Cells, ()> for SumOfCells {
     fn run(key: &SumKey, cells: &mut Recorder<'_, Cells>, _needs: &mut ()) -> Result<u64, Fault> {
         let mut sum = key.start;
         for place in 0..key.count {

@@ -19,11 +19,9 @@ const PIECE: &str = "abcdefghijklmnop";
 struct ByText;
 
 impl Function for ByText {
-    type Call = ();
-
     type Key = String;
 
-    type Answer = ();
+    type Of = ();
 
     type Out = u64;
 
@@ -38,11 +36,9 @@ impl Function for ByText {
 struct ByNumber;
 
 impl Function for ByNumber {
-    type Call = ();
-
     type Key = u128;
 
-    type Answer = ();
+    type Of = ();
 
     type Out = u64;
 

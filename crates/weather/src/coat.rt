@@ -12,9 +12,7 @@ pub struct Coat;
 impl Function for Coat {
     type Key = u64;
 
-    type Call = WeatherCall;
-
-    type Answer = u64;
+    type Of = Weather;
 
     type Out = bool;
 
@@ -25,9 +23,7 @@ impl Function for Coat {
     ghost laws = { Prim.search rules };
 }
 
-impl Run<Weather> for Coat {
-    type Needs = ();
-
+impl Run<Weather, ()> for Coat {
     fn run(least: &u64, of: &mut Recorder<'_, Weather>, _needs: &mut ()) -> Result<bool, Fault> {
         let degrees = of.ask(WeatherCall::Degrees)?;
         Ok(degrees < *least)

@@ -15,11 +15,9 @@ use std::thread::{Threads, join};
 struct Empty;
 
 impl Function for Empty {
-    type Call = ContextCall;
-
     type Key = ();
 
-    type Answer = u64;
+    type Of = Context;
 
     type Out = String;
 

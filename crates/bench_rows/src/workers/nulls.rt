@@ -12,9 +12,7 @@ pub struct Null;
 impl Function for Null {
     type Key = ();
 
-    type Call = ();
-
-    type Answer = ();
+    type Of = ();
 
     type Out = u64;
 
@@ -23,9 +21,7 @@ impl Function for Null {
     ghost laws = { Prim.search rules };
 }
 
-impl Run<()> for Null {
-    type Needs = ();
-
+impl Run<(), ()> for Null {
     fn run(_key: &(), _of: &mut Recorder<'_, ()>, _needs: &mut ()) -> Result<u64, Fault> {
         Ok(0)
     }

@@ -15,11 +15,9 @@ use std::thread::{Threads, join};
 struct Whole;
 
 impl Function for Whole {
-    type Call = ContextCall;
-
     type Key = ();
 
-    type Answer = u64;
+    type Of = Context;
 
     type Out = ();
 

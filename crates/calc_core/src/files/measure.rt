@@ -20,11 +20,9 @@ use std::alloc::Global;
 pub struct FileSize;
 
 impl Function for FileSize {
-    type Call = MultiCall<(), FileCall>;
-
     type Key = (String, ());
 
-    type Answer = MultiAnswer<(), Text>;
+    type Of = Both<'static, (), Files>;
 
     type Out = u64;
 
@@ -37,7 +35,6 @@ impl Function for FileSize {
       keys = λ j k m output writes r e h. (h.0, size_alike j k m output r e h.1);
       writes = λ key m output V W r same h. (none_alike _ V W same h.0, h.1);
       key_clones = Prim.search rules;
-      answer_clones = Prim.search rules;
     } };
 }
 

@@ -15,10 +15,10 @@ pub give_run-requires-clause-reads : goal.give_run-requires-clause-reads
 give_run-requires-clause-reads g c = reads_same g.M.Call.PartialEq.eq g.M.Answer.PartialEq.eq g.M.Call.Call.is_write g.met.M.Call.Call.same_kind _ c.args.reads.pairs c.in-Ok.ensures.pairs c.requires.reads
 
 pub keep-requires-clause-stands : goal.keep-requires-clause-stands
-keep-requires-clause-stands g c = λ m r a. g.met.M.Function.laws.writes c.args.key m c.in-Ok.kept c.args.writes.items c.in-Ok.copies.items r c.in-Ok.ensures.same (g.met.M.Function.laws.outputs c.args.key m c.args.output.now c.in-Ok.kept c.args.writes.items r c.in-Ok.ensures.output (c.requires.stands m r a))
+keep-requires-clause-stands g c = λ m r a. g.met.M.Memo.laws.writes c.args.key m c.in-Ok.kept c.args.writes.items c.in-Ok.copies.items r c.in-Ok.ensures.same (g.met.M.Memo.laws.outputs c.args.key m c.args.output.now c.in-Ok.kept c.args.writes.items r c.in-Ok.ensures.output (c.requires.stands m r a))
 
 pub returns-clause-ends : goal.returns-clause-ends
-returns-clause-ends g c = leads_map (g.H.Hold.entries c.args.cache.now) (g.H.Hold.entries c.keep.new.cache) _ _ (λ es es' e. Ends-cloned (record { same_call = g.M.Call.PartialEq.eq; same_answer = g.M.Answer.PartialEq.eq; same_key = g.M.Key.PartialEq.eq; is_write = g.M.Call.Call.is_write; is_clone = g.M.Out.Clone.is_clone; right = IsRight g.M.Function.means g.M.Function.writes; naming = g.M.Function.naming }) g.met.M.Call.Eq.laws es c.args.key c.args.reads.pairs c.args.output.now c.in-Ok.kept c.in-Ok.ensures.output c.args.writes.items c.in-Ok.copies.items c.in-Ok.ensures.same c.keep.result es' e) c.keep.ensures.ends
+returns-clause-ends g c = leads_map (g.H.Hold.entries c.args.cache.now) (g.H.Hold.entries c.keep.new.cache) _ _ (λ es es' e. Ends-cloned (record { same_call = g.M.Call.PartialEq.eq; same_answer = g.M.Answer.PartialEq.eq; same_key = g.M.Key.PartialEq.eq; is_write = g.M.Call.Call.is_write; is_clone = g.M.Out.Clone.is_clone; right = IsRight g.M.Memo.means g.M.Memo.writes; naming = g.M.Memo.naming }) g.met.M.Call.Eq.laws es c.args.key c.args.reads.pairs c.args.output.now c.in-Ok.kept c.in-Ok.ensures.output c.args.writes.items c.in-Ok.copies.items c.in-Ok.ensures.same c.keep.result es' e) c.keep.ensures.ends
 
 pub returns-clause-gives : goal.returns-clause-gives
 returns-clause-gives g c = given g.met.M.Call.Eq.laws g.met.M.Answer.Eq.laws _ c.args.reads.pairs c.args.writes.items c.in-Ok.ensures.pairs c.in_ok-give_run.ensures.ok

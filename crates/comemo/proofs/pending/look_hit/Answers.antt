@@ -17,7 +17,7 @@ use Rattle.comemo.proofs.pending.look_hit.Goals as goal
 
 pub returns-in-Ok-None-clause-none : goal.returns-in-Ok-None-clause-none
 returns-in-Ok-None-clause-none g c =
-    let M : Meaning g.row.M-Key.Denot g.row.M-Call.Denot g.row.M-Answer.Denot g.row.M-Out.Denot = record { same_call = g.M.Call.PartialEq.eq; same_answer = g.M.Answer.PartialEq.eq; same_key = g.M.Key.PartialEq.eq; is_write = g.M.Call.Call.is_write; is_clone = g.M.Out.Clone.is_clone; right = IsRight g.M.Function.means g.M.Function.writes; naming = g.M.Function.naming } in
+    let M : Meaning g.row.M-Key.Denot g.row.M-Call.Denot g.row.M-Answer.Denot g.row.M-Out.Denot = record { same_call = g.M.Call.PartialEq.eq; same_answer = g.M.Answer.PartialEq.eq; same_key = g.M.Key.PartialEq.eq; is_write = g.M.Call.Call.is_write; is_clone = g.M.Out.Clone.is_clone; right = IsRight g.M.Memo.means g.M.Memo.writes; naming = g.M.Memo.naming } in
     let none = rw (c.in-Ok-None.is, c.in-Ok-None.field-0-is) at c.look.ensures.found in
     (held_map (g.H.Hold.entries c.args.cache.now) _ _ (λ es n. HasNone-alike M g.met.M.Key.Eq.laws es c.args.key.now (g.In.Input.key_of c.args.input.now) (turned g.met.M.Key.Eq.laws _ _ c.requires) (g.In.Input.answers c.args.input.now) true true n) none, c.look.ensures.same, refl, c.look.ensures.stays)
 
@@ -26,7 +26,7 @@ returns-in-Err-clause-err g c = λ s before. (c.look.ensures.stays, g.met.In.Inp
 
 pub returns-in_ok-output-in-Ok-Some-clause-hit : goal.returns-in_ok-output-in-Ok-Some-clause-hit
 returns-in_ok-output-in-Ok-Some-clause-hit g c =
-    let M : Meaning g.row.M-Key.Denot g.row.M-Call.Denot g.row.M-Answer.Denot g.row.M-Out.Denot = record { same_call = g.M.Call.PartialEq.eq; same_answer = g.M.Answer.PartialEq.eq; same_key = g.M.Key.PartialEq.eq; is_write = g.M.Call.Call.is_write; is_clone = g.M.Out.Clone.is_clone; right = IsRight g.M.Function.means g.M.Function.writes; naming = g.M.Function.naming } in
+    let M : Meaning g.row.M-Key.Denot g.row.M-Call.Denot g.row.M-Answer.Denot g.row.M-Out.Denot = record { same_call = g.M.Call.PartialEq.eq; same_answer = g.M.Answer.PartialEq.eq; same_key = g.M.Key.PartialEq.eq; is_write = g.M.Call.Call.is_write; is_clone = g.M.Out.Clone.is_clone; right = IsRight g.M.Memo.means g.M.Memo.writes; naming = g.M.Memo.naming } in
     let calls = g.met.M.Call.Eq.laws in
     let answers = g.met.M.Answer.Eq.laws in
     let keys = g.met.M.Key.Eq.laws in
@@ -49,13 +49,13 @@ returns-in_ok-output-in-Ok-Some-clause-hit g c =
     let same = g.met.In.Input.joins _ _ _ [] [] before c.look.ensures.same in
     leads_map o o' _ _ (λ es es' k.
     let peeked : IsPeeked M es (invocation key n true) found.output found.writes.items found.age = record { pairs = found.pairs.items; kept = k.0; stands = stands; reads = reads; written = written; settled = settled } in (
-      hit_of M calls answers keys g.met.M.Function.laws key (g.In.Input.key_of s) alike n (g.met.In.Input.alike s) es peeked (g.met.In.Input.joins _ _ _ [] found.writes.items same c.in_ok-output-in-Ok-Some.ensures.done) c.in_ok-output-in-Ok-Some.ensures.sent,
+      hit_of M calls answers keys g.met.M.Memo.laws key (g.In.Input.key_of s) alike n (g.met.In.Input.alike s) es peeked (g.met.In.Input.joins _ _ _ [] found.writes.items same c.in_ok-output-in-Ok-Some.ensures.done) c.in_ok-output-in-Ok-Some.ensures.sent,
       Touches-alike M keys es es' key (g.In.Input.key_of s) alike n true true k.1,
     )) (hit_held M (invocation key n true) ran found.age answers keys o o' c.look.ensures.tree own touched))
 
 pub returns-in_err-output-in-Ok-Some-clause-err : goal.returns-in_err-output-in-Ok-Some-clause-err
 returns-in_err-output-in-Ok-Some-clause-err g c =
-    let M : Meaning g.row.M-Key.Denot g.row.M-Call.Denot g.row.M-Answer.Denot g.row.M-Out.Denot = record { same_call = g.M.Call.PartialEq.eq; same_answer = g.M.Answer.PartialEq.eq; same_key = g.M.Key.PartialEq.eq; is_write = g.M.Call.Call.is_write; is_clone = g.M.Out.Clone.is_clone; right = IsRight g.M.Function.means g.M.Function.writes; naming = g.M.Function.naming } in
+    let M : Meaning g.row.M-Key.Denot g.row.M-Call.Denot g.row.M-Answer.Denot g.row.M-Out.Denot = record { same_call = g.M.Call.PartialEq.eq; same_answer = g.M.Answer.PartialEq.eq; same_key = g.M.Key.PartialEq.eq; is_write = g.M.Call.Call.is_write; is_clone = g.M.Out.Clone.is_clone; right = IsRight g.M.Memo.means g.M.Memo.writes; naming = g.M.Memo.naming } in
     let calls = g.met.M.Call.Eq.laws in
     let answers = g.met.M.Answer.Eq.laws in
     let keys = g.met.M.Key.Eq.laws in
@@ -80,7 +80,7 @@ returns-in_err-output-in-Ok-Some-clause-err g c =
       g.met.In.Input.joins _ _ _ [] [] same memory.1,
       held_map o _ _ (λ es k.
           let peeked : IsPeeked M es (invocation key n true) found.output found.writes.items found.age = record { pairs = found.pairs.items; kept = k; stands = stands; reads = reads; written = written; settled = settled } in
-          broken_of M calls answers keys g.met.M.Function.laws key (g.In.Input.key_of s) alike n (g.met.In.Input.alike s) es peeked memory.2) own,
+          broken_of M calls answers keys g.met.M.Memo.laws key (g.In.Input.key_of s) alike n (g.met.In.Input.alike s) es peeked memory.2) own,
     ))
     (λ stop s before.
     let n = g.In.Input.answers s in
@@ -92,5 +92,5 @@ returns-in_err-output-in-Ok-Some-clause-err g c =
     leads_map o o' _ _ (λ es es' k.
     let peeked : IsPeeked M es (invocation key n true) found.output found.writes.items found.age = record { pairs = found.pairs.items; kept = k.0; stands = stands; reads = reads; written = written; settled = settled } in (
       Touches-alike M keys es es' key (g.In.Input.key_of s) alike n true true k.1,
-      stopped_of M calls answers keys g.met.M.Function.laws key (g.In.Input.key_of s) alike n (g.met.In.Input.alike s) es peeked stop.0 stop.1 stop.2 stop.3 stop.6 (g.met.In.Input.joins _ _ _ [] stop.0 same stop.4) stop.5,
+      stopped_of M calls answers keys g.met.M.Memo.laws key (g.In.Input.key_of s) alike n (g.met.In.Input.alike s) es peeked stop.0 stop.1 stop.2 stop.3 stop.6 (g.met.In.Input.joins _ _ _ [] stop.0 same stop.4) stop.5,
     )) (hit_held M (invocation key n true) ran found.age answers keys o o' c.look.ensures.tree own touched))

@@ -53,7 +53,7 @@ returns-clause-finished g c =
     let early : c.args.self.recording.late ≡ false = ap (λ (s : PendingRun _ _ _). s.recording.late) (sym c.self.view_is) ∙ sym c.is_late.ensures ∙ c.if-is_late.false in
     let complete : c.args.self.recording.complete ≡ true = ap (λ (s : PendingRun _ _ _). s.recording.complete) (sym c.self.view_is) ∙ sym c.is_whole.ensures ∙ c.if-not-is_whole.false in
     let own : c.args.self.enabled ≡ c.self.inside.enabled = ap (λ (s : PendingRun _ _ _). s.enabled) (sym c.self.view_is) in
-    let M : Meaning g.row.M-Key.Denot g.row.M-Call.Denot g.row.M-Answer.Denot g.row.M-Out.Denot = record { same_call = g.M.Call.PartialEq.eq; same_answer = g.M.Answer.PartialEq.eq; same_key = g.M.Key.PartialEq.eq; is_write = g.M.Call.Call.is_write; is_clone = g.M.Out.Clone.is_clone; right = IsRight g.M.Function.means g.M.Function.writes; naming = g.M.Function.naming } in
+    let M : Meaning g.row.M-Key.Denot g.row.M-Call.Denot g.row.M-Answer.Denot g.row.M-Out.Denot = record { same_call = g.M.Call.PartialEq.eq; same_answer = g.M.Answer.PartialEq.eq; same_key = g.M.Key.PartialEq.eq; is_write = g.M.Call.Call.is_write; is_clone = g.M.Out.Clone.is_clone; right = IsRight g.M.Memo.means g.M.Memo.writes; naming = g.M.Memo.naming } in
     let ends : Leads (g.H.Hold.entries c.args.cache.now) (g.H.Hold.entries c.if-enabled.cache) (λ es es'. Ends M es (came_to c.args.self c.args.output) c.if-enabled.how es') =
     elim c.if-enabled.branch [
       | then-enabled+in_ok-how w ↦ rw (← c.self.view_is, ← c.into_parts-reads.ensures.pairs, ← c.into_parts-reads.ensures.writes, w.how-is, w.cache-is) w.in_ok-how.ensures.ends
