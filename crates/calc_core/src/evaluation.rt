@@ -39,12 +39,10 @@ ghost use Rattle.calc_core.specs.Evaluations.{At, Comes, ComesTo, PartComes, Cal
 ghost use Rattle.calc_core.specs.Joined.{FilesFit};
 ghost use Rattle.calc_core.specs.EvaluationCalls.{moves, EvalReply, OnlyTouches};
 
-use crate::files::{FileCall, Files, JoinedAnswer, JoinedCall, Text};
+use crate::files::{Files, JoinedAnswer, JoinedCall, Text};
 use crate::scripts::{CalcFault, Outcome, Part, Parts, Total};
 use comemo::internal::{Breaking, Hashed, Multi, Pending};
-use comemo::{
-    Begun, CacheData, Constraint, Function, How, MultiAnswer, MultiCall, Reply, Sink, View, begin,
-};
+use comemo::{Begun, Both, CacheData, Constraint, Function, How, Reply, Sink, View, begin};
 use std::alloc::Global;
 
 /// The memoized function of `evaluate`, whose cache is a `CacheData<Eval>`.

@@ -7,11 +7,9 @@ ghost use Rattle.calc_core.specs.Size.{IsSize, SizeReply};
 ghost use Rattle.calc_core.specs.Joined.{same_answer};
 ghost use Rattle.calc_core.specs.Files.{OnFiles, text_at, answers_of, with_key};
 
-use crate::files::{FileCall, Files, JoinedAnswer, JoinedCall, Text};
+use crate::files::{Files, JoinedAnswer, JoinedCall};
 use comemo::internal::{Breaking, Hashed, Multi, Pending};
-use comemo::{
-    Begun, CacheData, Fault, Function, How, MultiAnswer, MultiCall, Reply, Sink, View, begin,
-};
+use comemo::{Begun, Both, CacheData, Fault, Function, How, Reply, Sink, View, begin};
 use std::alloc::Global;
 
 /// The memoized function of `size`, whose cache is a `CacheData<FileSize>`.
