@@ -6,8 +6,8 @@ use bench_rows::workers::{
     Meeting, Null, doubled, evictions_reach_a_cache, evictions_reach_all_keys, two_runs_of_one_key,
 };
 use comemo::internal::evictors::evict;
-use comemo::internal::{Evict, Evictor, Hashed, Memo, register_evictor};
-use comemo::{Cache, CacheData, Hold, How, memoized};
+use comemo::internal::{Evict, Evictor, Hashed, register_evictor};
+use comemo::{Cache, CacheData, Function, Hold, How, memoized};
 use comemo_examples::Town;
 use comemo_examples::double::Double;
 use comemo_examples::shared::warmths;
@@ -145,21 +145,21 @@ fn a_holder_that_does_not_touch_is_found(rt: HostRuntime) -> Result<(), Fail> {
 
 /// Evicts a cache, and then appends its number to a list.
 #[derive(Drop)]
-struct Numbered<M: Memo, R: Wait + Drop> {
+struct Numbered<M: Function, R: Wait + Drop> {
     evictor: Evictor<M, R>,
     number: u32,
     list: Arc<Mutex<Vec<u32>>, Global>,
     rt: R,
 }
 
-impl<M: Memo, R: Wait + Drop> Evict for Numbered<M, R> {
+impl<M: Function, R: Wait + Drop> Evict for Numbered<M, R> {
     fn evict(&self, max_age: usize) {
         self.evictor.evict(max_age);
         let _ = self.list.lock(&self.rt).push(self.number);
     }
 }
 
-impl<M: Memo, R: Wait + Drop + Clone> Numbered<M, R> {
+impl<M: Function, R: Wait + Drop + Clone> Numbered<M, R> {
     /// An evictor of this cache with this number.
     fn new(
         rt: &R,

@@ -8,7 +8,7 @@ ghost use Rattle.comemo_cache.specs.Held.{Held, Leads, LeadsBy};
 ghost use Rattle.comemo.specs.Closure.{Starts, Ran, RanTo, Ended, IsFault, IsBroken};
 
 use crate::pending::{Begun, Calling, Fault, How, Invoked, Reply, begin};
-use comemo_cache::function::{Meant, Memo};
+use comemo_cache::function::{AnswerOf, CallOf, Function, Meant};
 use comemo_cache::hold::Hold;
 use comemo_track::constraint::Constraint;
 use comemo_track::input::Input;
@@ -58,12 +58,12 @@ impl<C: Call, R: Clone + Ord> Record for Constraint<C, R> {
 
 /// How a call whose run is a closure goes, for contracts, as `⟦<M as Does<H, In, S, P>>⟧.ran`: by the closure's
 /// precondition or postcondition. There is nothing to implement.
-pub trait Does<H, In, S, P>: Memo
+pub trait Does<H, In, S, P>: Function
 where
     H: Hold<Self>,
-    In: Input<Call = Self::Call, Key = Self::Key, Answer = Self::Answer>,
-    S: Sink<Call = Self::Call, Answer = Self::Answer>,
-    P: Record<Call = Self::Call, Answer = Self::Answer>,
+    In: Input<Call = CallOf<Self>, Key = Self::Key, Answer = AnswerOf<Self>>,
+    S: Sink<Call = CallOf<Self>, Answer = AnswerOf<Self>>,
+    P: Record<Call = CallOf<Self>, Answer = AnswerOf<Self>>,
 {
     ghost use Rattle.comemo.specs.Closure.{Deed};
     ghost use Rattle.comemo.specs.declared.pending.Fault.{Fault};
@@ -89,26 +89,26 @@ where
     ghost breaks: { Deed In P Self.Out → Bool → H → H → In → In → S → S → Type 0 };
 }
 
-impl<M: Memo, H, In, S, P> Does<H, In, S, P> for M
+impl<M: Function, H, In, S, P> Does<H, In, S, P> for M
 where
     H: Hold<M>,
-    In: Input<Call = M::Call, Key = M::Key, Answer = M::Answer>,
-    S: Sink<Call = M::Call, Answer = M::Answer>,
-    P: Record<Call = M::Call, Answer = M::Answer>,
+    In: Input<Call = CallOf<M>, Key = M::Key, Answer = AnswerOf<M>>,
+    S: Sink<Call = CallOf<M>, Answer = AnswerOf<M>>,
+    P: Record<Call = CallOf<M>, Answer = AnswerOf<M>>,
 {
     ghost calls = { λ pre h input enabled. (i : MutBor In) (p : MutBor P)
         → Held (H.entries h) (λ es. Starts ⟦<M as Meant>⟧.meaning es
         (⟦<In as Invoked>⟧.invoked input enabled) In.did P.recorded input i p)
         → pre i p };
 
-    ghost right = { λ post h input enabled. (output : M.Out) (t : Recording M.Call M.Answer)
+    ghost right = { λ post h input enabled. (output : M.Out) (t : Recording M.Of.Call M.Of.Answer)
         → Held (H.entries h) (λ es. Ran ⟦<M as Meant>⟧.meaning es
         (⟦<In as Invoked>⟧.invoked input enabled)
         In.did P.recorded post input (Ok output) t)
         → t.complete ≡ true → t.late ≡ false
         → Stands ⟦<M as Meant>⟧.meaning (run (In.key_of input) t.pairs output t.writes) };
 
-    ghost named = { λ post h input enabled. (output : M.Out) (t : Recording M.Call M.Answer)
+    ghost named = { λ post h input enabled. (output : M.Out) (t : Recording M.Of.Call M.Of.Answer)
         → Held (H.entries h) (λ es. Ran ⟦<M as Meant>⟧.meaning es
         (⟦<In as Invoked>⟧.invoked input enabled)
         In.did P.recorded post input (Ok output) t)
@@ -137,7 +137,7 @@ where
 ///
 /// All that the closure asks must go to its recording. Unless that is late, the output must be right for all answers
 /// that agree with it. With `enabled` false there is no look-up, and nothing is stored.
-pub fn memoize<M: Memo, H: Hold<M>, In, S, P, F>(
+pub fn memoize<M: Function, H: Hold<M>, In, S, P, F>(
     alloc: Global,
     cache: &mut H,
     input: &mut In,
@@ -146,9 +146,9 @@ pub fn memoize<M: Memo, H: Hold<M>, In, S, P, F>(
     func: F,
 ) -> Result<Reply<M::Out>, Fault>
 where
-    In: Input<Call = M::Call, Key = M::Key, Answer = M::Answer>,
-    S: Sink<Call = M::Call, Answer = M::Answer>,
-    P: Record<Call = M::Call, Answer = M::Answer>,
+    In: Input<Call = CallOf<M>, Key = M::Key, Answer = AnswerOf<M>>,
+    S: Sink<Call = CallOf<M>, Answer = AnswerOf<M>>,
+    P: Record<Call = CallOf<M>, Answer = AnswerOf<M>>,
     F: FnOnce(&mut In, &mut P) -> Result<M::Out, Fault>,
     requires callable { ⟦<M as Does<H, In, S, P>>⟧.calls (F.pre func) cache.now input.now enabled }
     requires right { ⟦<M as Does<H, In, S, P>>⟧.right (F.post func) cache.now input.now enabled }

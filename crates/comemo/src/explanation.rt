@@ -6,7 +6,7 @@ ghost use Rattle.comemo_cache.specs.Meaning.{invocation};
 ghost use Rattle.comemo_cache.specs.Explaining.{Explains};
 ghost use Rattle.comemo_cache.specs.Held.{Held, Stays};
 
-use comemo_cache::function::{Meant, Memo};
+use comemo_cache::function::{Meant, Function};
 use comemo_cache::explain::Explanation;
 use comemo_cache::hold::Hold;
 use comemo_track::input::Keyed;
@@ -15,7 +15,7 @@ use std::alloc::{AllocError, Global};
 
 /// Returns why a call with these arguments is a hit or a run, without running anything. Nothing changes. Fails if an
 /// answer or a clone fails to allocate.
-pub fn explain<M: Memo<Call = T::Call, Answer = T::Answer>, H: Hold<M>, T: Track>(
+pub fn explain<M: Function<Of: Track<Call = T::Call, Answer = T::Answer>>, H: Hold<M>, T: Track>(
     alloc: Global,
     cache: &mut H,
     key: &M::Key,

@@ -10,7 +10,7 @@ ghost use Rattle.comemo_track.specs.Sending.{Asks, BreaksOff};
 ghost use Rattle.comemo.specs.Function.{Recorded, Fits, Tells, WritesNone, SettlesRun};
 
 use crate::pending::{Begun, Fault, How, Pending, Reply, look_up};
-use comemo_cache::function::{Meant, Memo};
+use comemo_cache::function::{Meant, Function};
 use comemo_cache::hold::Hold;
 use comemo_track::constraint::Constraint;
 use comemo_track::input::Keyed;
@@ -49,7 +49,7 @@ impl<T: Track> Told for T {
 ///
 /// `N` is what a run needs besides its arguments: the caches of the functions that it calls, or `()`. They can't hold
 /// the function's own cache, which the checker refuses.
-pub trait Run<T: Track, N>: Memo<Call = T::Call, Answer = T::Answer> {
+pub trait Run<T: Track, N>: Function<Of: Track<Call = T::Call, Answer = T::Answer>> {
     /// Does the function, and asks the value through the recorder.
     ///
     /// The output must be right for all answers that agree with the recording. `Incomplete` may be returned only if the
@@ -169,7 +169,7 @@ impl<'a, T: Track> Recorder<'a, T> {
 
 /// How a call goes that takes a holder and a sink from these to those, for contracts, as
 /// `⟦<M as Answering<H, T, S>>⟧.replies`. There is nothing to implement.
-pub trait Answering<H, T, S>: Memo<Call = T::Call, Answer = T::Answer>
+pub trait Answering<H, T, S>: Function<Of: Track<Call = T::Call, Answer = T::Answer>>
 where
     H: Hold<Self>,
     T: Track,
@@ -185,7 +185,7 @@ where
     ghost fails: { Bool → Self.Key → T → H → S → S → Fault → Type 0 };
 }
 
-impl<M: Memo<Call = T::Call, Answer = T::Answer>, H, T, S> Answering<H, T, S> for M
+impl<M: Function<Of: Track<Call = T::Call, Answer = T::Answer>>, H, T, S> Answering<H, T, S> for M
 where
     H: Hold<M>,
     T: Track,

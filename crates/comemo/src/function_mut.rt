@@ -17,7 +17,7 @@ ghost use Rattle.comemo_track.specs.Sending.{Asks, BreaksOff, SpoiledAfter, Took
 
 use crate::function::{Run, Told, memoized_view};
 use crate::pending::{Begun, Fault, How, Reply, begin};
-use comemo_cache::function::{Meant, Memo};
+use comemo_cache::function::{Meant, Function};
 use comemo_cache::hold::Hold;
 use comemo_track::constraint::Constraint;
 use comemo_track::input::KeyedMut;
@@ -329,7 +329,7 @@ impl<'a, 'b, T: Track> RecorderMut<'a, 'b, T> {
 ///
 /// The value may borrow: several values as one, by `BothMut` or `ReadAndWrite`, or the user's own type. `N` is what a run
 /// needs, as with `Run`.
-pub trait RunMut<T: Track, N>: Memo<Call = T::Call, Answer = T::Answer> {
+pub trait RunMut<T: Track, N>: Function<Of: Track<Call = T::Call, Answer = T::Answer>> {
     /// Does the function, and asks the value and writes to it through the recorder.
     ///
     /// Output and writes must be right for all answers that agree with the recording. `Incomplete` may be returned only
@@ -387,7 +387,7 @@ fn run_recorded<M: RunMut<T, N>, T: Track, N>(
 
 /// How a call of a function that writes goes, from these states to those, for contracts, as
 /// `⟦<M as AnsweringMut<H, T, S>>⟧.replies`. There is nothing to implement.
-pub trait AnsweringMut<H, T, S>: Memo<Call = T::Call, Answer = T::Answer>
+pub trait AnsweringMut<H, T, S>: Function<Of: Track<Call = T::Call, Answer = T::Answer>>
 where
     H: Hold<Self>,
     T: Track,
@@ -406,7 +406,7 @@ where
     ghost breaks: { Bool → Self.Key → T → T → H → H → S → S → Type 0 };
 }
 
-impl<M: Memo<Call = T::Call, Answer = T::Answer>, H, T, S> AnsweringMut<H, T, S> for M
+impl<M: Function<Of: Track<Call = T::Call, Answer = T::Answer>>, H, T, S> AnsweringMut<H, T, S> for M
 where
     H: Hold<M>,
     T: Track,

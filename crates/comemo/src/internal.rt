@@ -8,8 +8,8 @@ pub use crate::recursive::Inner;
 pub use crate::recursive_mut::{InnerMut, Nesting};
 pub use comemo_base::{CallSequence, InsertError, SipHasher13, Tagged, hash_any};
 pub use comemo_cache::{
-    Evict, Evictor, Found, Meant, Memo, Peeked, Reads, Shared, Step, StepReply, evictors,
-    register_evictor,
+    AnswerOf, CallOf, Evict, Evictor, Found, Meant, Peeked, Reads, Shared, Step, StepReply,
+    evictors, register_evictor,
 };
 pub use comemo_track::{
     Breaking, CallMap, First, Hashed, Input, Keyed, KeyedMut, MappedSink, Multi, Second,

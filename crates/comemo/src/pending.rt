@@ -14,7 +14,7 @@ ghost use Rattle.comemo_cache.specs.Held.{Held, Leads, Stays};
 
 use comemo_base::{CallSequence, InsertError};
 use comemo_cache::cache::{Found, Peeked};
-use comemo_cache::function::{Meant, Memo};
+use comemo_cache::function::{AnswerOf, CallOf, Function, Meant};
 use comemo_cache::hold::Hold;
 use comemo_track::constraint::Constraint;
 use comemo_track::input::Input;
@@ -99,11 +99,11 @@ impl<In: Input> Invoked for In {
 
 /// How a call goes that takes a holder, an input and a sink from these to those, for contracts, as
 /// `⟦<M as Calling<H, In, S>>⟧.hits`. There is nothing to implement.
-pub trait Calling<H, In, S>: Memo
+pub trait Calling<H, In, S>: Function
 where
     H: Hold<Self>,
-    In: Input<Call = Self::Call, Key = Self::Key, Answer = Self::Answer>,
-    S: Sink<Call = Self::Call, Answer = Self::Answer>,
+    In: Input<Call = CallOf<Self>, Key = Self::Key, Answer = AnswerOf<Self>>,
+    S: Sink<Call = CallOf<Self>, Answer = AnswerOf<Self>>,
 {
     ghost use Rattle.comemo.specs.declared.pending.Fault.{Fault};
 
@@ -120,11 +120,11 @@ where
     ghost fails: { Bool → H → H → In → In → S → S → Fault → Type 0 };
 }
 
-impl<M: Memo, H, In, S> Calling<H, In, S> for M
+impl<M: Function, H, In, S> Calling<H, In, S> for M
 where
     H: Hold<M>,
-    In: Input<Call = M::Call, Key = M::Key, Answer = M::Answer>,
-    S: Sink<Call = M::Call, Answer = M::Answer>,
+    In: Input<Call = CallOf<M>, Key = M::Key, Answer = AnswerOf<M>>,
+    S: Sink<Call = CallOf<M>, Answer = AnswerOf<M>>,
 {
     ghost hits = { λ enabled h h' i j s t output. BeganByHit ⟦<M as Meant>⟧.meaning
         (⟦<In as Invoked>⟧.invoked i enabled) (H.entries h) (In.did i j) (S.took s t)
@@ -146,31 +146,31 @@ where
 
 /// A run of a memoized function that began. It must be finished or given up, and can't be dropped. It holds no part of
 /// the cache.
-pub struct Pending<M: Memo> {
+pub struct Pending<M: Function> {
     pub(crate) alloc: Global,
     pub(crate) key: M::Key,
     pub(crate) enabled: bool,
-    pub(crate) recording: Constraint<M::Call, M::Answer>,
+    pub(crate) recording: Constraint<CallOf<M>, AnswerOf<M>>,
 }
 
-impl<M: Memo> Model for Pending<M> {
+impl<M: Function> Model for Pending<M> {
     ghost use Rattle.comemo.specs.Begin.{PendingRun, run_code};
 
-    ghost Value = { PendingRun M.Key M.Call M.Answer };
+    ghost Value = { PendingRun M.Key M.Of.Call M.Of.Answer };
 
-    ghost coded = { run_code M.Key.code M.Call.code M.Answer.code };
+    ghost coded = { run_code M.Key.code M.Of.Call.code M.Of.Answer.code };
 
     ghost view = { λ s. record { key = s.key; enabled = s.enabled; recording = s.recording } };
 }
 
-impl<M: Memo> Pending<M> {
+impl<M: Function> Pending<M> {
     ghost use Rattle.std.specs.Borrow.{sem, Lends};
     ghost use Rattle.comemo.specs.contracts.pending.Pending.{the_row};
     ghost use Rattle.comemo_track.specs.contracts.constraint.Constraint.{the_row as recording_row};
 
     /// The run's recording: the sink of what the run asks.
-    pub fn recording(&mut self) -> &mut Constraint<M::Call, M::Answer>
-        ensures* writes_back { sem 𝓛 (Lends (the_row M.row M.Call.row M.Key.row M.Answer.row M.Out.row M.Memo.own M.Call.Call.own M.Call.Clone.own M.Call.PartialEq.own M.Call.Hash.own M.Key.Clone.own M.Key.PartialEq.own M.Key.Hash.own M.Answer.Clone.own M.Answer.Ord.own M.Answer.PartialEq.own M.Answer.PartialOrd.own M.Out.Clone.own) (recording_row M.Call.row M.Answer.row M.Call.Call.own M.Call.Clone.own M.Call.PartialEq.own M.Call.Hash.own) self.entry result (λ w. record self.old { recording = w })) }
+    pub fn recording(&mut self) -> &mut Constraint<CallOf<M>, AnswerOf<M>>
+        ensures* writes_back { sem 𝓛 (Lends (the_row M.row M.Key.row M.Of.row M.Out.row M.Of.Call.row M.Of.Answer.row M.Function.own M.Key.Clone.own M.Key.PartialEq.own M.Key.Hash.own M.Of.Track.own M.Of.Call.Call.own M.Of.Call.Clone.own M.Of.Call.PartialEq.own M.Of.Call.Hash.own M.Of.Answer.Clone.own M.Of.Answer.Ord.own M.Of.Answer.PartialEq.own M.Of.Answer.PartialOrd.own M.Out.Clone.own) (recording_row M.Of.Call.row M.Of.Answer.row M.Of.Call.Call.own M.Of.Call.Clone.own M.Of.Call.PartialEq.own M.Of.Call.Hash.own) self.entry result (λ w. record self.old { recording = w })) }
         ensures value { result.now ≡ self.old.recording }
     {
         &mut self.recording
@@ -180,7 +180,7 @@ impl<M: Memo> Pending<M> {
     ///
     /// Unless the recording is late, output and writes must be right for all answers that agree with its reads. The
     /// recording is cloned, unless the sink ignores it or `enabled` was false.
-    pub fn finish<H: Hold<M>, S: Sink<Call = M::Call, Answer = M::Answer>>(
+    pub fn finish<H: Hold<M>, S: Sink<Call = CallOf<M>, Answer = AnswerOf<M>>>(
         self,
         cache: &mut H,
         sink: &mut S,
@@ -230,7 +230,7 @@ impl<M: Memo> Pending<M> {
     }
 
     /// Ends the run by its result: as `finish` with an output, as `give_up` with a fault, which is returned.
-    pub fn end<H: Hold<M>, S: Sink<Call = M::Call, Answer = M::Answer>>(
+    pub fn end<H: Hold<M>, S: Sink<Call = CallOf<M>, Answer = AnswerOf<M>>>(
         self,
         cache: &mut H,
         sink: &mut S,
@@ -265,7 +265,7 @@ impl<M: Memo> Pending<M> {
     }
 
     /// Gives the run up: nothing is stored, and the sink is incomplete. Does not allocate.
-    pub fn give_up<S: Sink<Call = M::Call, Answer = M::Answer>>(self, sink: &mut S)
+    pub fn give_up<S: Sink<Call = CallOf<M>, Answer = AnswerOf<M>>>(self, sink: &mut S)
         ensures { S.spoils sink.old sink.new }
     {
         let Pending {
@@ -326,18 +326,18 @@ fn copy_writes<C: Call>(writes: &Vec<C>) -> Result<Vec<C>, AllocError>
 }
 
 /// Clones of a run's pairs, output and writes: the sink and the caller get one of each, the store the other.
-fn copy_run<M: Memo>(
+fn copy_run<M: Function>(
     alloc: Global,
-    reads: &CallSequence<M::Call, M::Answer>,
+    reads: &CallSequence<CallOf<M>, AnswerOf<M>>,
     output: &M::Out,
-    writes: &Vec<M::Call>,
-) -> Result<(Vec<(M::Call, M::Answer)>, M::Out, Vec<M::Call>), AllocError>
+    writes: &Vec<CallOf<M>>,
+) -> Result<(Vec<(CallOf<M>, AnswerOf<M>)>, M::Out, Vec<CallOf<M>>), AllocError>
     ensures pairs { IfOk result
-        (λ copies. IsSamePath M.Call.eq M.Answer.eq copies.0.items reads.now.pairs) }
+        (λ copies. IsSamePath M.Of.Call.eq M.Of.Answer.eq copies.0.items reads.now.pairs) }
     ensures output { IfOk result (λ copies. M.Out.is_clone output.now copies.1) }
-    ensures same { IfOk result (λ copies. SameWrites M.Call.eq writes.now.items copies.2.items) }
-    ensures written { All (λ c. M.Call.is_write c ≡ true) writes.now.items
-        → IfOk result (λ copies. All (λ c. M.Call.is_write c ≡ true) copies.2.items) }
+    ensures same { IfOk result (λ copies. SameWrites M.Of.Call.eq writes.now.items copies.2.items) }
+    ensures written { All (λ c. M.Of.Call.is_write c ≡ true) writes.now.items
+        → IfOk result (λ copies. All (λ c. M.Of.Call.is_write c ≡ true) copies.2.items) }
 {
     let pairs = copy_pairs(alloc, reads)?;
     let kept = output.clone()?;
@@ -430,15 +430,15 @@ fn give_late<S: Sink>(recording: Constraint<S::Call, S::Answer>, sink: &mut S) -
 }
 
 /// Stores a run, and returns what became of it.
-fn keep<M: Memo, H: Hold<M>>(
+fn keep<M: Function, H: Hold<M>>(
     cache: &mut H,
     key: M::Key,
-    reads: CallSequence<M::Call, M::Answer>,
+    reads: CallSequence<CallOf<M>, AnswerOf<M>>,
     output: M::Out,
-    writes: Vec<M::Call>,
+    writes: Vec<CallOf<M>>,
 ) -> How
-    requires reads { All (λ p. M.Call.is_write p.0 ≡ false) reads.pairs }
-    requires written { All (λ c. M.Call.is_write c ≡ true) writes.items }
+    requires reads { All (λ p. M.Of.Call.is_write p.0 ≡ false) reads.pairs }
+    requires written { All (λ c. M.Of.Call.is_write c ≡ true) writes.items }
     requires stands { Stands ⟦<M as Meant>⟧.meaning (run key reads.pairs output writes.items) }
     requires settled { IsNamedRun ⟦<M as Meant>⟧.meaning key reads.pairs }
     ensures ends { Leads (H.entries cache.old) (H.entries cache.new) (λ es es'.
@@ -456,15 +456,15 @@ fn keep<M: Memo, H: Hold<M>>(
 }
 
 /// Stores a run with a clone of its output, and returns what became of it.
-fn keep_copy<M: Memo, H: Hold<M>>(
+fn keep_copy<M: Function, H: Hold<M>>(
     cache: &mut H,
     key: M::Key,
-    reads: CallSequence<M::Call, M::Answer>,
+    reads: CallSequence<CallOf<M>, AnswerOf<M>>,
     output: &M::Out,
-    writes: Vec<M::Call>,
+    writes: Vec<CallOf<M>>,
 ) -> How
-    requires reads { All (λ p. M.Call.is_write p.0 ≡ false) reads.pairs }
-    requires written { All (λ c. M.Call.is_write c ≡ true) writes.items }
+    requires reads { All (λ p. M.Of.Call.is_write p.0 ≡ false) reads.pairs }
+    requires written { All (λ c. M.Of.Call.is_write c ≡ true) writes.items }
     requires stands { Stands ⟦<M as Meant>⟧.meaning
         (run key reads.pairs output.now writes.items) }
     requires settled { IsNamedRun ⟦<M as Meant>⟧.meaning key reads.pairs }
@@ -482,17 +482,17 @@ fn keep_copy<M: Memo, H: Hold<M>>(
 
 /// Sends a run to a sink, stores it, and returns what became of it. Clones pairs and writes only if the sink keeps
 /// them.
-fn end_run<M: Memo, H: Hold<M>, S: Sink<Call = M::Call, Answer = M::Answer>>(
+fn end_run<M: Function, H: Hold<M>, S: Sink<Call = CallOf<M>, Answer = AnswerOf<M>>>(
     alloc: Global,
     cache: &mut H,
     sink: &mut S,
     key: M::Key,
-    reads: CallSequence<M::Call, M::Answer>,
+    reads: CallSequence<CallOf<M>, AnswerOf<M>>,
     output: &M::Out,
-    writes: Vec<M::Call>,
+    writes: Vec<CallOf<M>>,
 ) -> Result<How, Fault>
-    requires reads { All (λ p. M.Call.is_write p.0 ≡ false) reads.pairs }
-    requires written { All (λ c. M.Call.is_write c ≡ true) writes.items }
+    requires reads { All (λ p. M.Of.Call.is_write p.0 ≡ false) reads.pairs }
+    requires written { All (λ c. M.Of.Call.is_write c ≡ true) writes.items }
     requires stands { Stands ⟦<M as Meant>⟧.meaning
         (run key reads.pairs output.now writes.items) }
     requires settled { IsNamedRun ⟦<M as Meant>⟧.meaning key reads.pairs }
@@ -564,9 +564,9 @@ fn answers_of<C: Call, R: Clone + Ord>(
 }
 
 /// Clones of the answers of a path that was found, or none if its entry has age 0 and needn't be touched.
-fn answers_of_aged<M: Memo>(found: &Found<M>) -> Result<Vec<M::Answer>, AllocError>
+fn answers_of_aged<M: Function>(found: &Found<M>) -> Result<Vec<AnswerOf<M>>, AllocError>
     ensures { IfOk result (λ answers. (found.now.age ≡ 0 → ⊥)
-        → HasAnswers M.Answer.eq found.now.pairs.items answers.items) }
+        → HasAnswers M.Of.Answer.eq found.now.pairs.items answers.items) }
 {
     let alloc = *found.pairs.allocator();
     if found.age == 0 {
@@ -576,7 +576,7 @@ fn answers_of_aged<M: Memo>(found: &Found<M>) -> Result<Vec<M::Answer>, AllocErr
 }
 
 /// Sends the path that a look-up found, does and sends its writes, and returns its output.
-fn give_found<M: Memo, H: Hold<M>, In, S>(
+fn give_found<M: Function, H: Hold<M>, In, S>(
     cache: &mut H,
     key: &M::Key,
     found: Found<M>,
@@ -584,23 +584,23 @@ fn give_found<M: Memo, H: Hold<M>, In, S>(
     sink: &mut S,
 ) -> Result<M::Out, Fault>
 where
-    In: Input<Call = M::Call, Key = M::Key, Answer = M::Answer>,
-    S: Sink<Call = M::Call, Answer = M::Answer>,
-    requires reads { All (λ p. M.Call.is_write p.0 ≡ false) found.pairs.items }
-    requires written { All (λ c. M.Call.is_write c ≡ true) found.writes.items }
+    In: Input<Call = CallOf<M>, Key = M::Key, Answer = AnswerOf<M>>,
+    S: Sink<Call = CallOf<M>, Answer = AnswerOf<M>>,
+    requires reads { All (λ p. M.Of.Call.is_write p.0 ≡ false) found.pairs.items }
+    requires written { All (λ c. M.Of.Call.is_write c ≡ true) found.writes.items }
     ensures output { IfOk result (λ output. output ≡ found.output) }
     ensures done { OnOk result (In.did input.old input.new found.writes.items) }
     ensures sent { OnOk result (S.took sink.old sink.new found.pairs.items found.writes.items) }
     ensures touched { OnOk result (Leads (H.entries cache.old) (H.entries cache.new)
-        (TouchesFound M.Answer.eq M.Key.eq key.now found.pairs.items found.age)) }
+        (TouchesFound M.Of.Answer.eq M.Key.eq key.now found.pairs.items found.age)) }
     ensures err { IfErr result (λ fault. OnFault fault
         (Stays (H.entries cache.old) (H.entries cache.new) × In.did input.old input.new []
         × ⟦<S as Breaking>⟧.breaks_off sink.old sink.new found.pairs.items)
-        ((prefix : List M.Call) × (next : M.Call) × (rest : List M.Call)
+        ((prefix : List M.Of.Call) × (next : M.Of.Call) × (rest : List M.Of.Call)
         × (found.writes.items ≡ prefix ++ next ∷ rest) × In.did input.old input.new prefix
         × ⟦<S as Breaking>⟧.spoiled_after sink.old sink.new found.pairs.items prefix
-        × (M.Call.is_write next ≡ true) × Leads (H.entries cache.old) (H.entries cache.new)
-        (TouchesFound M.Answer.eq M.Key.eq key.now found.pairs.items found.age))) }
+        × (M.Of.Call.is_write next ≡ true) × Leads (H.entries cache.old) (H.entries cache.new)
+        (TouchesFound M.Of.Answer.eq M.Key.eq key.now found.pairs.items found.age))) }
 {
     let Ok(answers) = answers_of_aged(&found) else {
         sink.spoil();
@@ -626,24 +626,24 @@ where
 }
 
 /// As `give_found`, for what a peek found: no path is sent.
-fn give_peeked<M: Memo, In, S>(
+fn give_peeked<M: Function, In, S>(
     peeked: Peeked<M>,
     input: &mut In,
     sink: &mut S,
 ) -> Result<M::Out, Fault>
 where
-    In: Input<Call = M::Call, Key = M::Key, Answer = M::Answer>,
-    S: Sink<Call = M::Call, Answer = M::Answer>,
-    requires { All (λ c. M.Call.is_write c ≡ true) peeked.writes.items }
+    In: Input<Call = CallOf<M>, Key = M::Key, Answer = AnswerOf<M>>,
+    S: Sink<Call = CallOf<M>, Answer = AnswerOf<M>>,
+    requires { All (λ c. M.Of.Call.is_write c ≡ true) peeked.writes.items }
     ensures output { IfOk result (λ output. output ≡ peeked.output) }
     ensures done { OnOk result (In.did input.old input.new peeked.writes.items) }
     ensures sent { OnOk result (S.took sink.old sink.new [] peeked.writes.items) }
     ensures err { IfErr result (λ fault. OnFault fault
         (In.did input.old input.new [] × ⟦<S as Breaking>⟧.breaks_off sink.old sink.new [])
-        ((prefix : List M.Call) × (next : M.Call) × (rest : List M.Call)
+        ((prefix : List M.Of.Call) × (next : M.Of.Call) × (rest : List M.Of.Call)
         × (peeked.writes.items ≡ prefix ++ next ∷ rest) × In.did input.old input.new prefix
         × ⟦<S as Breaking>⟧.spoiled_after sink.old sink.new [] prefix
-        × (M.Call.is_write next ≡ true))) }
+        × (M.Of.Call.is_write next ≡ true))) }
 {
     let Peeked {
         output,
@@ -660,15 +660,15 @@ where
 
 /// Looks for an entry that agrees, with its path, and returns its output. The contract holds from each earlier state
 /// since which nothing was written: a caller may have peeked.
-fn look_hit<M: Memo, H: Hold<M>, In, S>(
+fn look_hit<M: Function, H: Hold<M>, In, S>(
     cache: &mut H,
     key: &M::Key,
     input: &mut In,
     sink: &mut S,
 ) -> Result<Option<M::Out>, Fault>
 where
-    In: Input<Call = M::Call, Key = M::Key, Answer = M::Answer>,
-    S: Sink<Call = M::Call, Answer = M::Answer>,
+    In: Input<Call = CallOf<M>, Key = M::Key, Answer = AnswerOf<M>>,
+    S: Sink<Call = CallOf<M>, Answer = AnswerOf<M>>,
     requires { IsTrue (M.Key.eq (In.key_of input.now) key.now) }
     ensures hit { IfOk result (λ found. IfSome found (λ output. (s : In) → In.did s input.old []
         → ⟦<M as Calling<H, In, S>>⟧.hits
@@ -693,15 +693,15 @@ where
 }
 
 /// Looks for an entry that agrees, and returns its output. If the sink ignores all, it peeks first, to clone no path.
-fn find_hit<M: Memo, H: Hold<M>, In, S>(
+fn find_hit<M: Function, H: Hold<M>, In, S>(
     cache: &mut H,
     key: &M::Key,
     input: &mut In,
     sink: &mut S,
 ) -> Result<Option<M::Out>, Fault>
 where
-    In: Input<Call = M::Call, Key = M::Key, Answer = M::Answer>,
-    S: Sink<Call = M::Call, Answer = M::Answer>,
+    In: Input<Call = CallOf<M>, Key = M::Key, Answer = AnswerOf<M>>,
+    S: Sink<Call = CallOf<M>, Answer = AnswerOf<M>>,
     requires { IsTrue (M.Key.eq (In.key_of input.now) key.now) }
     ensures hit { IfOk result (λ found. IfSome found (⟦<M as Calling<H, In, S>>⟧.hits
         true cache.old cache.new input.old input.new sink.old sink.new)) }
@@ -730,15 +730,15 @@ where
 }
 
 /// As `begin`, but returns a run's key, so that a hit makes no room for a recording.
-pub(crate) fn look_up<M: Memo, H: Hold<M>, In, S>(
+pub(crate) fn look_up<M: Function, H: Hold<M>, In, S>(
     cache: &mut H,
     input: &mut In,
     sink: &mut S,
     enabled: bool,
 ) -> Result<Begun<M::Out, M::Key>, Fault>
 where
-    In: Input<Call = M::Call, Key = M::Key, Answer = M::Answer>,
-    S: Sink<Call = M::Call, Answer = M::Answer>,
+    In: Input<Call = CallOf<M>, Key = M::Key, Answer = AnswerOf<M>>,
+    S: Sink<Call = CallOf<M>, Answer = AnswerOf<M>>,
     ensures hit { IfOk result (λ b. OnBegun b (⟦<M as Calling<H, In, S>>⟧.hits
         enabled cache.old cache.new input.old input.new sink.old sink.new) (λ _. ⊤)) }
     ensures run { IfOk result (λ b. OnBegun b (λ _. ⊤) (⟦<M as Calling<H, In, S>>⟧.has_to_run
@@ -766,7 +766,7 @@ where
 /// With `enabled` false there is no look-up, and the run won't be stored. On a hit the sink takes the entry's path;
 /// then each write is done on the input and sent. A look-up asks each call of one path once, or twice for an entry with
 /// an age and a sink that ignores all.
-pub fn begin<M: Memo, H: Hold<M>, In, S>(
+pub fn begin<M: Function, H: Hold<M>, In, S>(
     alloc: Global,
     cache: &mut H,
     input: &mut In,
@@ -774,8 +774,8 @@ pub fn begin<M: Memo, H: Hold<M>, In, S>(
     enabled: bool,
 ) -> Result<Begun<M::Out, Pending<M>>, Fault>
 where
-    In: Input<Call = M::Call, Key = M::Key, Answer = M::Answer>,
-    S: Sink<Call = M::Call, Answer = M::Answer>,
+    In: Input<Call = CallOf<M>, Key = M::Key, Answer = AnswerOf<M>>,
+    S: Sink<Call = CallOf<M>, Answer = AnswerOf<M>>,
     ensures hit { IfOk result (λ b. OnBegun b (λ output. BeganByHit ⟦<M as Meant>⟧.meaning
         (⟦<In as Invoked>⟧.invoked input.old enabled) (H.entries cache.old)
         (In.did input.old input.new) (S.took sink.old sink.new) output (H.entries cache.new))

@@ -8,7 +8,7 @@ ghost use Rattle.comemo.specs.Recursive.{TellsOwn, TellsFrom, OnCallBegun, Start
 
 use crate::function::{Recorder, Run, Told};
 use crate::pending::{Begun, Fault, How, Pending, Reply, look_up};
-use comemo_cache::function::{Meant, Memo};
+use comemo_cache::function::{Meant, Function};
 use comemo_cache::hold::Hold;
 use comemo_track::input::Keyed;
 use comemo_track::track::{Call, Track};
@@ -27,7 +27,7 @@ pub struct Inner<'a, K, T: Track> {
 impl<'a, T: Track> Recorder<'a, T> {
     /// Begins a nested call: returns the output of an entry that agrees, or a run with a recorder of its own. On a hit
     /// this recorder takes the entry's path.
-    pub fn begin<G: Memo<Call = T::Call, Answer = T::Answer>, H: Hold<G>>(
+    pub fn begin<G: Function<Of: Track<Call = T::Call, Answer = T::Answer>>, H: Hold<G>>(
         &mut self,
         cache: &mut H,
         key: &G::Key,
@@ -70,7 +70,7 @@ impl<'a, T: Track> Recorder<'a, T> {
     /// Finishes a nested run with its output, and stores it. This recorder takes what the run recorded.
     ///
     /// The output must be right for all answers that agree with the run's recording, which must be complete.
-    pub fn finish<G: Memo<Call = T::Call, Answer = T::Answer>, H: Hold<G>>(
+    pub fn finish<G: Function<Of: Track<Call = T::Call, Answer = T::Answer>>, H: Hold<G>>(
         &mut self,
         cache: &mut H,
         key: &G::Key,
@@ -100,7 +100,7 @@ impl<'a, T: Track> Recorder<'a, T> {
     }
 
     /// As `finish`, with the reply: whether the run was stored, or why not.
-    pub fn finish_reply<G: Memo<Call = T::Call, Answer = T::Answer>, H: Hold<G>>(
+    pub fn finish_reply<G: Function<Of: Track<Call = T::Call, Answer = T::Answer>>, H: Hold<G>>(
         &mut self,
         cache: &mut H,
         key: &G::Key,

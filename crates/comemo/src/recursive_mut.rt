@@ -15,7 +15,7 @@ ghost use Rattle.comemo_track.specs.Sending.{BreaksOff, TookAs};
 
 use crate::function_mut::{RecorderMut, Records, Writes};
 use crate::pending::{Begun, Fault, How, Pending, Reply, look_up};
-use comemo_cache::function::{Meant, Memo};
+use comemo_cache::function::{AnswerOf, CallOf, Function, Meant};
 use comemo_cache::hold::Hold;
 use comemo_track::constraint::Constraint;
 use comemo_track::input::KeyedMut;
@@ -33,10 +33,10 @@ pub struct InnerMut<K, T: Track> {
 
 /// How a nested call of a function that writes goes, for contracts, as `⟦<G as Nesting<H, Self>>⟧.begins`. There is
 /// nothing to implement.
-pub trait Nesting<H, R>: Memo
+pub trait Nesting<H, R>: Function
 where
     H: Hold<Self>,
-    R: Records<Call = Self::Call, Answer = Self::Answer>,
+    R: Records<Call = CallOf<Self>, Answer = AnswerOf<Self>>,
 {
     ghost use Rattle.comemo.specs.declared.pending.Fault.{Fault};
     ghost use Rattle.comemo.specs.declared.pending.How.{How};
@@ -57,17 +57,17 @@ where
     ghost named: { Self.Key → R → Type 0 };
 
     // the run under this key was finished with this output: the recording that was set aside took the recorder's own
-    ghost ends: { H → H → Self.Key → Recording Self.Call Self.Answer → R → R
+    ghost ends: { H → H → Self.Key → Recording Self.Of.Call Self.Of.Answer → R → R
         → Self.Out → How → Type 0 };
 
     // it was not finished: that recording took a prefix of the recorder's own
-    ghost breaks: { H → H → Recording Self.Call Self.Answer → R → R → Type 0 };
+    ghost breaks: { H → H → Recording Self.Of.Call Self.Of.Answer → R → R → Type 0 };
 }
 
-impl<M: Memo, H, R> Nesting<H, R> for M
+impl<M: Function, H, R> Nesting<H, R> for M
 where
     H: Hold<M>,
-    R: Records<Call = M::Call, Answer = M::Answer>,
+    R: Records<Call = CallOf<M>, Answer = AnswerOf<M>>,
 {
     ghost use Rattle.comemo.specs.declared.pending.How.TheVariants.{Hit};
     ghost use Rattle.comemo.specs.declared.pending.Reply.{Reply};
@@ -86,8 +86,8 @@ where
         (Leads (H.entries h) (H.entries h') (λ es es'. WasStopped ⟦<M as Meant>⟧.meaning es
         (invocation key (R.answers s) true) (R.did s t) (R.spoiled_after s t) es')) };
 
-    ghost right = { λ key s output. (m : M.Call → M.Answer)
-        → Fits M.Call.eq M.Answer.eq (R.recording s) m
+    ghost right = { λ key s output. (m : M.Of.Call → M.Of.Answer)
+        → Fits M.Of.Call.eq M.Of.Answer.eq (R.recording s) m
         → IsRight M.means M.writes key m output (R.recording s).writes };
 
     ghost named = { λ key s. (R.recording s).complete ≡ true → (R.recording s).late ≡ false
@@ -96,13 +96,13 @@ where
     ghost ends = { λ h h' own around s t output became.
         Leads (H.entries h) (H.entries h') (λ es es'.
         FinishedAs ⟦<M as Meant>⟧.meaning es (R.recording s).late
-        (TookAs (Took M.Call.eq M.Call.touches) MarkedLate (R.recording s).late
+        (TookAs (Took M.Of.Call.eq M.Of.Call.touches) MarkedLate (R.recording s).late
         around (R.recording t))
         (run own (R.recording s).pairs output (R.recording s).writes) became es') };
 
     ghost breaks = { λ h h' around s t. Stays (H.entries h) (H.entries h')
         × BreaksOffRun ⟦<M as Meant>⟧.meaning
-        (BreaksOff (Took M.Call.eq M.Call.touches) Spoiled around (R.recording t))
+        (BreaksOff (Took M.Of.Call.eq M.Of.Call.touches) Spoiled around (R.recording t))
         (R.recording s).pairs };
 }
 
@@ -112,7 +112,7 @@ impl<'a, 'b, T: Track> RecorderMut<'a, 'b, T> {
     ///
     /// On a hit this recorder takes the entry's path and writes. A run has an empty recording; that of this recorder is
     /// set aside until `finish`.
-    pub fn begin<G: Memo<Call = T::Call, Answer = T::Answer>, H: Hold<G>>(
+    pub fn begin<G: Function<Of: Track<Call = T::Call, Answer = T::Answer>>, H: Hold<G>>(
         &mut self,
         cache: &mut H,
         key: &G::Key,
@@ -152,7 +152,7 @@ impl<'a, 'b, T: Track> RecorderMut<'a, 'b, T> {
 
     /// Finishes a nested run by its result: stores its output, or returns its fault. The recording that was set aside
     /// is back, and takes the run's. Output and writes must be right as in `RunMut::run`.
-    pub fn finish<G: Memo<Call = T::Call, Answer = T::Answer>, H: Hold<G>>(
+    pub fn finish<G: Function<Of: Track<Call = T::Call, Answer = T::Answer>>, H: Hold<G>>(
         &mut self,
         cache: &mut H,
         key: &G::Key,
@@ -183,7 +183,7 @@ impl<'a, 'b, T: Track> RecorderMut<'a, 'b, T> {
     }
 
     /// As `finish`, with the reply: whether the run was stored, or why not.
-    pub fn finish_reply<G: Memo<Call = T::Call, Answer = T::Answer>, H: Hold<G>>(
+    pub fn finish_reply<G: Function<Of: Track<Call = T::Call, Answer = T::Answer>>, H: Hold<G>>(
         &mut self,
         cache: &mut H,
         key: &G::Key,

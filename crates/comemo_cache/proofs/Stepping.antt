@@ -45,25 +45,25 @@ pub on_ok : {T E : Type 0} (P : T → Type 0) (Q : E → Type 0) (r : Result T E
 on_ok P Q (Ok x) h = h
 on_ok P Q (Err e) h = tt
 
-module _ {X K C R O : Type 0} (M : Meaning K C R O) where
-  takes_more : (ss : List (Step X C K R O)) (rs : List (StepReply X C K R O)) (s : Step X C K R O) (r : StepReply X C K R O) (es mid es' : Entries K C R O) → TakesEach M ss es rs mid → Takes M s mid r es' → TakesEach M (ss ++ s ∷ []) es (rs ++ r ∷ []) es'
+module _ {X F K C R O : Type 0} (M : Meaning K C R O) where
+  takes_more : (ss : List (Step X K F O C R)) (rs : List (StepReply X K F O C R)) (s : Step X K F O C R) (r : StepReply X K F O C R) (es mid es' : Entries K C R O) → TakesEach M ss es rs mid → Takes M s mid r es' → TakesEach M (ss ++ s ∷ []) es (rs ++ r ∷ []) es'
   takes_more [] [] s r es mid es' h k = (es', subst (λ x. Takes M s x r es') h k, refl)
   takes_more [] (x ∷ rs) s r es mid es' h k = absurd h
   takes_more (x ∷ ss) [] s r es mid es' h k = absurd h
   takes_more (x ∷ ss) (y ∷ rs) s r es mid es' h k = (h.0, h.1, takes_more ss rs s r h.0 mid es' h.2 k)
 
   -- of all steps a prefix was done, from the entries es, which are now es', with these replies; these are left
-  pub record DidSteps (all left : List (Step X C K R O)) (es : Entries K C R O) (replies : List (StepReply X C K R O)) (es' : Entries K C R O) : Type 0 where
-    pub prefix : List (Step X C K R O)
+  pub record DidSteps (all left : List (Step X K F O C R)) (es : Entries K C R O) (replies : List (StepReply X K F O C R)) (es' : Entries K C R O) : Type 0 where
+    pub prefix : List (Step X K F O C R)
     pub parts : all ≡ prefix ++ left
     pub each : TakesEach M prefix es replies es'
 
-  pub one_more : (all old new : List (Step X C K R O)) (s : Step X C K R O) (es mid es' : Entries K C R O) (before replies : List (StepReply X C K R O)) (r : StepReply X C K R O) → old ≡ s ∷ new → replies ≡ before ++ r ∷ [] → Takes M s mid r es' → DidSteps all old es before mid → DidSteps all new es replies es'
+  pub one_more : (all old new : List (Step X K F O C R)) (s : Step X K F O C R) (es mid es' : Entries K C R O) (before replies : List (StepReply X K F O C R)) (r : StepReply X K F O C R) → old ≡ s ∷ new → replies ≡ before ++ r ∷ [] → Takes M s mid r es' → DidSteps all old es before mid → DidSteps all new es replies es'
   one_more all old new s es mid es' before replies r step complete takes so = record {
     prefix = so.prefix ++ s ∷ [];
     parts = so.parts ∙ ap (λ ss. so.prefix ++ ss) step ∙ sym (append_assoc so.prefix (s ∷ []) new);
     each = subst (λ rs. TakesEach M (so.prefix ++ s ∷ []) es rs es') (sym complete) (takes_more so.prefix before s r es mid es' so.each takes);
   }
 
-  pub all_done : (all left : List (Step X C K R O)) (es es' : Entries K C R O) (replies : List (StepReply X C K R O)) → left ≡ [] → DidSteps all left es replies es' → TakesEach M all es replies es'
+  pub all_done : (all left : List (Step X K F O C R)) (es es' : Entries K C R O) (replies : List (StepReply X K F O C R)) → left ≡ [] → DidSteps all left es replies es' → TakesEach M all es replies es'
   all_done all left es es' replies none so = subst (λ ss. TakesEach M ss es replies es') (sym (so.parts ∙ ap (λ ss. so.prefix ++ ss) none ∙ append-nil so.prefix)) so.each

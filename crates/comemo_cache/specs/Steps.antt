@@ -22,10 +22,10 @@ listed eq answers other call = unwrap_or (lookup (eq call) answers) other
 abbrev pub run_of : {K C R O : Type 0} → (C → C → Bool) → K → List (C × R) → O → List C → Run K C R O
 run_of eq key pairs output writes = run key (absorbed eq [] pairs) output writes
 
-module _ {X K C R O : Type 0} (M : Meaning K C R O) where
+module _ {X F K C R O : Type 0} (M : Meaning K C R O) where
   -- the reply to a look-up for a call: an entry that has the key and agrees, with clones of its output and its writes, its path
   -- and its age; or that there is none; or a failure
-  abbrev pub Finds : Entries K C R O → Invocation K C R → StepReply X C K R O → Type 0
+  abbrev pub Finds : Entries K C R O → Invocation K C R → StepReply X K F O C R → Type 0
   Finds es call (reply.Found found) = HasAged M es call (run call.key found.pairs.items found.output found.writes.items) found.age
   Finds es call reply.NotFound = HasNone M es call
   Finds es call reply.Stored = ⊥
@@ -35,7 +35,7 @@ module _ {X K C R O : Type 0} (M : Meaning K C R O) where
   Finds es call reply.Done = ⊥
 
   -- the reply to storing a run, which leads from es to es'
-  abbrev pub Keeps : Entries K C R O → Run K C R O → StepReply X C K R O → Entries K C R O → Type 0
+  abbrev pub Keeps : Entries K C R O → Run K C R O → StepReply X K F O C R → Entries K C R O → Type 0
   Keeps es ran (reply.Found found) es' = ⊥
   Keeps es ran reply.NotFound es' = ⊥
   Keeps es ran reply.Stored es' = Stores (exactly M) es ran es'
@@ -45,21 +45,21 @@ module _ {X K C R O : Type 0} (M : Meaning K C R O) where
   Keeps es ran reply.Done es' = ⊥
 
   -- the reply to a step at the entries es, which leads to es'
-  abbrev pub Takes : Step X C K R O → Entries K C R O → StepReply X C K R O → Entries K C R O → Type 0
+  abbrev pub Takes : Step X K F O C R → Entries K C R O → StepReply X K F O C R → Entries K C R O → Type 0
   Takes (step.Look key answers other) es r es' = Finds es (invocation key (listed M.same_call answers.items other) true) r × (es' ≡ es)
   Takes (step.Touch key answers) es r es' = (r ≡ reply.Done) × TouchesAt M.same_answer M.same_key key answers.items es es'
   Takes (step.Store key pairs output writes) es r es' = Keeps es (run_of M.same_call key pairs.items output writes.items) r es'
   Takes (step.Evict max_age) es r es' = (r ≡ reply.Done) × Evicts max_age es es'
 
   -- the replies to steps in turn from the entries es, which lead to es'
-  abbrev pub TakesEach : List (Step X C K R O) → Entries K C R O → List (StepReply X C K R O) → Entries K C R O → Type 0
+  abbrev pub TakesEach : List (Step X K F O C R) → Entries K C R O → List (StepReply X K F O C R) → Entries K C R O → Type 0
   TakesEach [] es [] es' = es' ≡ es
   TakesEach [] es (r ∷ rs) es' = ⊥
   TakesEach (s ∷ ss) es [] es' = ⊥
   TakesEach (s ∷ ss) es (r ∷ rs) es' = (mid : Entries K C R O) × Takes s es r mid × TakesEach ss mid rs es'
 
   -- what a step stores is right by its reads, and its writes are writes; if the asked calls are named, it is causal and complete
-  abbrev pub IsStep : Step X C K R O → Type 0
+  abbrev pub IsStep : Step X K F O C R → Type 0
   IsStep (step.Look key answers other) = Unit {0}
   IsStep (step.Touch key answers) = Unit {0}
   IsStep (step.Store key pairs output writes) =

@@ -11,7 +11,7 @@ ghost use Rattle.comemo_cache.specs.Cache.{Stands, HasNone, HasAged, IsPeeked, I
 ghost use Rattle.comemo_base.specs.Tree.{IsTree};
 ghost use Rattle.comemo_cache.specs.Storing.{Stores};
 
-use crate::function::{Meant, Memo};
+use crate::function::{AnswerOf, CallOf, Function, Meant};
 use comemo_base::{CallSequence, InsertError};
 use comemo_track::input::Input;
 use comemo_track::track::Call;
@@ -22,18 +22,18 @@ use std::marker::Model;
 
 /// The result of a run, as the cache holds it.
 #[derive(Drop)]
-pub(crate) struct KeptRun<M: Memo> {
+pub(crate) struct KeptRun<M: Function> {
     output: M::Out,
-    writes: Vec<M::Call>,
+    writes: Vec<CallOf<M>>,
     pub(crate) age: usize,
 }
 
-impl<M: Memo> Model for KeptRun<M> {
+impl<M: Function> Model for KeptRun<M> {
     ghost use Rattle.comemo_cache.specs.Cache.{Kept, kept_code};
 
-    ghost Value = { Kept M.Out M.Call };
+    ghost Value = { Kept M.Out M.Of.Call };
 
-    ghost coded = { kept_code M.Out.code M.Call.code };
+    ghost coded = { kept_code M.Out.code M.Of.Call.code };
 
     ghost view = { λ s. record { output = s.output; writes = s.writes.items; age = s.age } };
 }
@@ -44,11 +44,11 @@ impl<M: Memo> Model for KeptRun<M> {
 /// right at its key for all answers that agree with its path. Entries under one key share one copy of it; paths with an
 /// equal prefix share its calls and answers. Only `evict` drops entries.
 #[derive(Drop)]
-pub struct CacheData<M: Memo> {
-    pub(crate) tree: CallTree<M::Key, M::Call, M::Answer, KeptRun<M>>,
+pub struct CacheData<M: Function> {
+    pub(crate) tree: CallTree<M::Key, CallOf<M>, AnswerOf<M>, KeptRun<M>>,
 }
 
-impl<M: Memo> Model for CacheData<M> {
+impl<M: Function> Model for CacheData<M> {
     ghost use Rattle.std.specs.Prelude.{List};
     ghost use Rattle.std.specs.List.{All, Any};
     ghost use Rattle.std.specs.Coded.{coded_list};
@@ -56,18 +56,18 @@ impl<M: Memo> Model for CacheData<M> {
     ghost use Rattle.comemo_cache.specs.Cache.{Kept, kept_code, IsLegal};
     ghost use Rattle.comemo_cache.specs.Meaning.{IsRight};
 
-    ghost Value = { List (Stored M.Key M.Call M.Answer (Kept M.Out M.Call)) };
+    ghost Value = { List (Stored M.Key M.Of.Call M.Of.Answer (Kept M.Out M.Of.Call)) };
 
-    ghost coded = { coded_list (stored_code M.Key.code M.Call.code M.Answer.code
-        (kept_code M.Out.code M.Call.code)) };
+    ghost coded = { coded_list (stored_code M.Key.code M.Of.Call.code M.Of.Answer.code
+        (kept_code M.Out.code M.Of.Call.code)) };
 
     ghost view = { λ s. s.tree };
 
     ghost invariant = { λ s. All (IsLegal (record {
-      same_call = M.Call.eq;
-      same_answer = M.Answer.eq;
+      same_call = M.Of.Call.eq;
+      same_answer = M.Of.Answer.eq;
       same_key = M.Key.eq;
-      is_write = M.Call.is_write;
+      is_write = M.Of.Call.is_write;
       is_clone = M.Out.is_clone;
       right = IsRight M.means M.writes;
       naming = M.naming;
@@ -76,24 +76,24 @@ impl<M: Memo> Model for CacheData<M> {
 
 /// What a look-up found: the entry's path, output and writes, cloned.
 #[derive(Drop)]
-pub struct Found<M: Memo> {
+pub struct Found<M: Function> {
     /// The calls of the path, in order, with the answers of this look-up, which equal the stored ones.
-    pub pairs: Vec<(M::Call, M::Answer)>,
+    pub pairs: Vec<(CallOf<M>, AnswerOf<M>)>,
     /// The output.
     pub output: M::Out,
     /// The run's writes, in order.
-    pub writes: Vec<M::Call>,
+    pub writes: Vec<CallOf<M>>,
     /// How many evictions the entry outlived since it was stored or last hit.
     pub age: usize,
 }
 
 /// What a peek found: as `Found`, without the path.
 #[derive(Drop)]
-pub struct Peeked<M: Memo> {
+pub struct Peeked<M: Function> {
     /// The output.
     pub output: M::Out,
     /// The run's writes, in order.
-    pub writes: Vec<M::Call>,
+    pub writes: Vec<CallOf<M>>,
     /// How many evictions the entry outlived since it was stored or last hit.
     pub age: usize,
 }
@@ -166,7 +166,7 @@ fn get_agreeing<'a, K: Clone + Eq + Hash, In: Input, T>(
     )
 }
 
-impl<M: Memo> CacheData<M> {
+impl<M: Function> CacheData<M> {
     /// An empty cache. Does not allocate.
     pub fn new(alloc: Global) -> Self
         ensures { result ≡ [] }
@@ -187,7 +187,7 @@ impl<M: Memo> CacheData<M> {
     ///
     /// It asks the calls of one stored path, each once. Fails if an answer does or, once an entry is found, if a clone
     /// does.
-    pub fn look<In: Input<Call = M::Call, Key = M::Key, Answer = M::Answer>>(
+    pub fn look<In: Input<Call = CallOf<M>, Key = M::Key, Answer = AnswerOf<M>>>(
         &self,
         key: &M::Key,
         input: &mut In,
@@ -199,15 +199,15 @@ impl<M: Memo> CacheData<M> {
             (λ f. HasAged ⟦<M as Meant>⟧.meaning self.now
             (invocation key.now (In.answers input.old) true)
             (run key.now f.pairs.items f.output f.writes.items) f.age)) }
-        ensures asked { IfOk result (λ found. IfNone found ((asked : List (M.Call × M.Answer))
+        ensures asked { IfOk result (λ found. IfNone found ((asked : List (M.Of.Call × M.Of.Answer))
             × IsMiss ⟦<M as Meant>⟧.meaning self.now
             (invocation key.now (In.answers input.old) true) asked)) }
         ensures stands { IfOk result (λ found. IfSome found (λ f. Stands ⟦<M as Meant>⟧.meaning
             (run key.now f.pairs.items f.output f.writes.items))) }
         ensures reads { IfOk result (λ found. IfSome found (λ f.
-            All (λ p. M.Call.is_write p.0 ≡ false) f.pairs.items)) }
+            All (λ p. M.Of.Call.is_write p.0 ≡ false) f.pairs.items)) }
         ensures written { IfOk result (λ found. IfSome found (λ f.
-            All (λ c. M.Call.is_write c ≡ true) f.writes.items)) }
+            All (λ c. M.Of.Call.is_write c ≡ true) f.writes.items)) }
         ensures settled { IfOk result (λ found. IfSome found (λ f.
             IsNamedRun ⟦<M as Meant>⟧.meaning key.now f.pairs.items)) }
         ensures err { OnErr result (IsRefusedLook ⟦<M as Meant>⟧.meaning self.now
@@ -229,7 +229,7 @@ impl<M: Memo> CacheData<M> {
     }
 
     /// As `look`, for a caller that doesn't need the path, which isn't cloned.
-    pub fn peek<In: Input<Call = M::Call, Key = M::Key, Answer = M::Answer>>(
+    pub fn peek<In: Input<Call = CallOf<M>, Key = M::Key, Answer = AnswerOf<M>>>(
         &self,
         key: &M::Key,
         input: &mut In,
@@ -241,7 +241,7 @@ impl<M: Memo> CacheData<M> {
             (λ f. IsPeeked ⟦<M as Meant>⟧.meaning self.now
             (invocation key.now (In.answers input.old) true)
             f.output f.writes.items f.age)) }
-        ensures asked { IfOk result (λ found. IfNone found ((asked : List (M.Call × M.Answer))
+        ensures asked { IfOk result (λ found. IfNone found ((asked : List (M.Of.Call × M.Of.Answer))
             × IsMiss ⟦<M as Meant>⟧.meaning self.now
             (invocation key.now (In.answers input.old) true) asked)) }
         ensures err { OnErr result (IsRefusedLook ⟦<M as Meant>⟧.meaning self.now
@@ -268,19 +268,19 @@ impl<M: Memo> CacheData<M> {
     pub fn store(
         &mut self,
         key: M::Key,
-        sequence: CallSequence<M::Call, M::Answer>,
+        sequence: CallSequence<CallOf<M>, AnswerOf<M>>,
         output: M::Out,
-        writes: Vec<M::Call>,
+        writes: Vec<CallOf<M>>,
     ) -> Result<(), InsertError>
-        requires reads { All (λ p. M.Call.is_write p.0 ≡ false) sequence.pairs }
-        requires written { All (λ c. M.Call.is_write c ≡ true) writes.items }
+        requires reads { All (λ p. M.Of.Call.is_write p.0 ≡ false) sequence.pairs }
+        requires written { All (λ c. M.Of.Call.is_write c ≡ true) writes.items }
         requires stands { Stands ⟦<M as Meant>⟧.meaning
             (run key sequence.pairs output writes.items) }
         requires settled { IsNamedRun ⟦<M as Meant>⟧.meaning key sequence.pairs }
         ensures stored { OnOk result (Stores (exactly ⟦<M as Meant>⟧.meaning) self.old
             (run key sequence.pairs output writes.items) self.new) }
         ensures reason { IfErr result
-            (IsReason M.Call.eq M.Answer.eq (under M.Key.eq self.old key) sequence.pairs) }
+            (IsReason M.Of.Call.eq M.Of.Answer.eq (under M.Key.eq self.old key) sequence.pairs) }
         ensures named { IfErr result (λ error. error ≡ MissingCall
             → ¬ IsNamed ⟦<M as Meant>⟧.meaning) }
         ensures err { OnErr result (self.new ≡ self.old) }
@@ -296,8 +296,8 @@ impl<M: Memo> CacheData<M> {
     }
 
     /// Sets the age of the entry under a key whose path has exactly these answers to 0. Does not allocate.
-    pub fn touch(&mut self, key: &M::Key, answers: &[M::Answer])
-        ensures { TouchesAt M.Answer.eq M.Key.eq key.now answers.now self.old self.new }
+    pub fn touch(&mut self, key: &M::Key, answers: &[AnswerOf<M>])
+        ensures { TouchesAt M.Of.Answer.eq M.Key.eq key.now answers.now self.old self.new }
     {
         let _ = self.tree.change(
             key,
@@ -341,7 +341,7 @@ impl<M: Memo> CacheData<M> {
 
     /// Makes the tree's invariant known to a proof.
     pub(crate) fn reveal_tree(&self)
-        ensures { IsTree M.Call.eq M.Answer.eq M.Key.eq self.now }
+        ensures { IsTree M.Of.Call.eq M.Of.Answer.eq M.Key.eq self.now }
     {
         // For the proof: at most one stored path agrees.
         self.tree.reveal_tree();

@@ -3,7 +3,7 @@ ghost use Rattle.std.specs.Prelude.{◌≡◌, ◌<◌, ◌≤◌, ◌==◌, ◌
 ghost use Rattle.comemo_cache.specs.Contents.{count_at, HasKeys};
 
 use crate::cache::{CacheData, KeptRun};
-use crate::function::Memo;
+use crate::function::Function;
 use comemo_tree::Values;
 
 /// How many ages are counted apart. The last one counts for all greater ones too.
@@ -20,7 +20,7 @@ pub struct Contents {
     pub ages: [usize; AGES],
 }
 
-impl<M: Memo> CacheData<M> {
+impl<M: Function> CacheData<M> {
     /// How many entries and keys the cache has, and how old the entries are.
     ///
     /// Linear in the entries that there is room for. Does not allocate.
@@ -76,7 +76,7 @@ impl Contents {
 }
 
 /// How many runs there are of each age, in the place of the age, or in the last one.
-fn count_ages<M: Memo>(runs: Values<'_, M::Key, KeptRun<M>>) -> [usize; AGES]
+fn count_ages<M: Function>(runs: Values<'_, M::Key, KeptRun<M>>) -> [usize; AGES]
     requires { length runs < 2 ^ 64 }
     ensures { (place : _) → place < 8
         → slice_index result place ≡ count_by (λ k. min k.age 7 == place) runs.entry }

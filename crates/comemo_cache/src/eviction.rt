@@ -4,7 +4,7 @@ ghost use Rattle.std.specs.Prelude.{◌≡◌, ℕ};
 ghost use Rattle.comemo_cache.specs.Cache.{Evicts};
 
 use crate::cache::CacheData;
-use crate::function::Memo;
+use crate::function::Function;
 use crate::shared::Cache;
 use std::alloc::Global;
 use std::sync::{Arc, Wait};
@@ -30,7 +30,7 @@ impl Caches for () {
 }
 
 /// Evicts the cache.
-impl<M: Memo> Caches for CacheData<M> {
+impl<M: Function> Caches for CacheData<M> {
     ghost use Rattle.comemo_cache.specs.Cache.{Evicts};
 
     ghost evicts = { λ bound old new. Evicts bound old new };
@@ -70,19 +70,19 @@ pub trait Evict: Drop {
 
 /// Evicts a shared cache, with a right to wait for its locks.
 #[derive(Drop)]
-pub struct Evictor<M: Memo, R: Wait + Drop> {
+pub struct Evictor<M: Function, R: Wait + Drop> {
     cache: Arc<Cache<M>, Global>,
     rt: R,
 }
 
-impl<M: Memo, R: Wait + Drop> Evictor<M, R> {
+impl<M: Function, R: Wait + Drop> Evictor<M, R> {
     /// An evictor of this cache.
     pub fn new(cache: Arc<Cache<M>, Global>, rt: R) -> Self {
         Evictor { cache, rt }
     }
 }
 
-impl<M: Memo, R: Wait + Drop> Evict for Evictor<M, R> {
+impl<M: Function, R: Wait + Drop> Evict for Evictor<M, R> {
     fn evict(&self, max_age: usize) {
         self.cache.evict(&self.rt, max_age);
     }

@@ -8,7 +8,7 @@ ghost use Rattle.comemo_cache.specs.Meaning.{invocation};
 ghost use Rattle.comemo_cache.specs.Explaining.{Explains};
 
 use crate::cache::CacheData;
-use crate::function::{Meant, Memo};
+use crate::function::{AnswerOf, CallOf, Function, Meant};
 use comemo_track::input::Input;
 use comemo_track::track::Call;
 use comemo_tree::CallTree;
@@ -80,25 +80,25 @@ fn note_agreeing<'a, K: Clone + Eq + Hash, In: Input, T>(
     )
 }
 
-impl<M: Memo> CacheData<M> {
+impl<M: Function> CacheData<M> {
     /// Says why a call finds an entry or none. Nothing changes.
     ///
     /// It asks what a look-up asks, and clones each call and each answer.
     /// Fails if the input's answer to a call, or a clone of it, fails to allocate.
-    pub fn explain<In: Input<Call = M::Call, Key = M::Key, Answer = M::Answer>>(
+    pub fn explain<In: Input<Call = CallOf<M>, Key = M::Key, Answer = AnswerOf<M>>>(
         &self,
         alloc: Global,
         key: &M::Key,
         input: &mut In,
-    ) -> Result<Explanation<M::Call, M::Answer>, AllocError>
+    ) -> Result<Explanation<CallOf<M>, AnswerOf<M>>, AllocError>
         ensures same { In.did input.old input.new [] }
         ensures explains { IfOk result (Explains ⟦<M as Meant>⟧.meaning self.now
             (invocation key.now (In.answers input.old) true)) }
-        ensures err { OnErr result ((asked : List (M.Call × M.Answer)) × (next : M.Call)
-            × Agrees M.Answer.eq (In.answers input.old) asked
-            × IsRefused M.Call.eq M.Answer.eq (under M.Key.eq self.now key.now) asked next) }
+        ensures err { OnErr result ((asked : List (M.Of.Call × M.Of.Answer)) × (next : M.Of.Call)
+            × Agrees M.Of.Answer.eq (In.answers input.old) asked
+            × IsRefused M.Of.Call.eq M.Of.Answer.eq (under M.Key.eq self.now key.now) asked next) }
     {
-        let mut asked: Vec<(M::Call, M::Answer)> = Vec::new(alloc);
+        let mut asked: Vec<(CallOf<M>, AnswerOf<M>)> = Vec::new(alloc);
         if note_agreeing(&self.tree, key, input, &mut asked)?.is_some() {
             return Ok(Explanation::Hit);
         }

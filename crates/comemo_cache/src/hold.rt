@@ -14,7 +14,7 @@ ghost use Rattle.comemo_cache.specs.Held.{Held, Leads, Stays};
 
 use crate::cache::{CacheData, Found, Peeked};
 use crate::explain::Explanation;
-use crate::function::{Meant, Memo};
+use crate::function::{AnswerOf, CallOf, Function, Meant};
 use comemo_base::{CallSequence, InsertError};
 use comemo_track::input::Input;
 use comemo_track::track::Call;
@@ -54,19 +54,19 @@ impl<C: Call, R: Clone + Ord> Reads for CallSequence<C, R> {
 /// Access to the cache of a call: a `CacheData`, owned by the caller, or a `Shared`, which takes a lock in each step.
 ///
 /// A call only looks, peeks, touches and stores. If the entries are known, contracts state what each step does to them.
-pub trait Hold<M: Memo> {
+pub trait Hold<M: Function> {
     // the entries, if nothing else can change them
-    ghost entries: { Self → Option (Entries M.Key M.Call M.Answer M.Out) };
+    ghost entries: { Self → Option (Entries M.Key M.Of.Call M.Of.Answer M.Out) };
 
     /// As `CacheData::look`.
-    fn look<In: Input<Call = M::Call, Key = M::Key, Answer = M::Answer>>(
+    fn look<In: Input<Call = CallOf<M>, Key = M::Key, Answer = AnswerOf<M>>>(
         &mut self,
         key: &M::Key,
         input: &mut In,
     ) -> Result<Option<Found<M>>, AllocError>
         ensures same { In.did input.old input.new [] }
         ensures stays { Stays (entries self.old) (entries self.new) }
-        ensures tree { Held (entries self.old) (IsTree M.Call.eq M.Answer.eq M.Key.eq) }
+        ensures tree { Held (entries self.old) (IsTree M.Of.Call.eq M.Of.Answer.eq M.Key.eq) }
         ensures found { IfOk result (λ found. Held (entries self.old) (λ es. MatchOption found
             (HasNone ⟦<M as Meant>⟧.meaning es (invocation key.now (In.answers input.old) true))
             (λ f. HasAged ⟦<M as Meant>⟧.meaning es
@@ -76,21 +76,21 @@ pub trait Hold<M: Memo> {
             Stands ⟦<M as Meant>⟧.meaning
             (run key.now f.pairs.items f.output f.writes.items))) }
         ensures reads { IfOk result (λ found. IfSome found (λ f.
-            All (λ p. M.Call.is_write p.0 ≡ false) f.pairs.items)) }
+            All (λ p. M.Of.Call.is_write p.0 ≡ false) f.pairs.items)) }
         ensures written { IfOk result (λ found. IfSome found (λ f.
-            All (λ c. M.Call.is_write c ≡ true) f.writes.items)) }
+            All (λ c. M.Of.Call.is_write c ≡ true) f.writes.items)) }
         ensures settled { IfOk result (λ found. IfSome found (λ f.
             IsNamedRun ⟦<M as Meant>⟧.meaning key.now f.pairs.items)) };
 
     /// As `CacheData::peek`.
-    fn peek<In: Input<Call = M::Call, Key = M::Key, Answer = M::Answer>>(
+    fn peek<In: Input<Call = CallOf<M>, Key = M::Key, Answer = AnswerOf<M>>>(
         &mut self,
         key: &M::Key,
         input: &mut In,
     ) -> Result<Option<Peeked<M>>, AllocError>
         ensures same { In.did input.old input.new [] }
         ensures stays { Stays (entries self.old) (entries self.new) }
-        ensures tree { Held (entries self.old) (IsTree M.Call.eq M.Answer.eq M.Key.eq) }
+        ensures tree { Held (entries self.old) (IsTree M.Of.Call.eq M.Of.Answer.eq M.Key.eq) }
         ensures found { IfOk result (λ found. Held (entries self.old) (λ es. MatchOption found
             (HasNone ⟦<M as Meant>⟧.meaning es (invocation key.now (In.answers input.old) true))
             (λ f. IsPeeked ⟦<M as Meant>⟧.meaning es
@@ -98,37 +98,37 @@ pub trait Hold<M: Memo> {
             f.output f.writes.items f.age))) };
 
     /// As `CacheData::explain`.
-    fn explain<In: Input<Call = M::Call, Key = M::Key, Answer = M::Answer>>(
+    fn explain<In: Input<Call = CallOf<M>, Key = M::Key, Answer = AnswerOf<M>>>(
         &mut self,
         alloc: Global,
         key: &M::Key,
         input: &mut In,
-    ) -> Result<Explanation<M::Call, M::Answer>, AllocError>
+    ) -> Result<Explanation<CallOf<M>, AnswerOf<M>>, AllocError>
         ensures same { In.did input.old input.new [] }
         ensures stays { Stays (entries self.old) (entries self.new) }
         ensures explains { IfOk result (λ said. Held (entries self.old) (λ es.
             Explains ⟦<M as Meant>⟧.meaning es
             (invocation key.now (In.answers input.old) true) said)) }
         ensures err { OnErr result (Held (entries self.old) (λ es.
-            (asked : List (M.Call × M.Answer)) × (next : M.Call)
-            × Agrees M.Answer.eq (In.answers input.old) asked
-            × IsRefused M.Call.eq M.Answer.eq (under M.Key.eq es key.now) asked next)) };
+            (asked : List (M.Of.Call × M.Of.Answer)) × (next : M.Of.Call)
+            × Agrees M.Of.Answer.eq (In.answers input.old) asked
+            × IsRefused M.Of.Call.eq M.Of.Answer.eq (under M.Key.eq es key.now) asked next)) };
 
     /// As `CacheData::touch`.
-    fn touch(&mut self, key: &M::Key, answers: &[M::Answer])
+    fn touch(&mut self, key: &M::Key, answers: &[AnswerOf<M>])
         ensures { Leads (entries self.old) (entries self.new)
-            (TouchesAt M.Answer.eq M.Key.eq key.now answers.now) };
+            (TouchesAt M.Of.Answer.eq M.Key.eq key.now answers.now) };
 
     /// As `CacheData::store`.
-    fn store<Q: Reads<Call = M::Call, Answer = M::Answer>>(
+    fn store<Q: Reads<Call = CallOf<M>, Answer = AnswerOf<M>>>(
         &mut self,
         key: M::Key,
         reads: Q,
         output: M::Out,
-        writes: Vec<M::Call>,
+        writes: Vec<CallOf<M>>,
     ) -> Result<(), InsertError>
-        requires reads { All (λ p. M.Call.is_write p.0 ≡ false) (Q.pairs reads) }
-        requires written { All (λ c. M.Call.is_write c ≡ true) writes.items }
+        requires reads { All (λ p. M.Of.Call.is_write p.0 ≡ false) (Q.pairs reads) }
+        requires written { All (λ c. M.Of.Call.is_write c ≡ true) writes.items }
         requires stands { Stands ⟦<M as Meant>⟧.meaning
             (run key (Q.pairs reads) output writes.items) }
         requires settled { IsNamedRun ⟦<M as Meant>⟧.meaning key (Q.pairs reads) }
@@ -136,16 +136,16 @@ pub trait Hold<M: Memo> {
             Stores (exactly ⟦<M as Meant>⟧.meaning) es
             (run key (Q.pairs reads) output writes.items) es')) }
         ensures reason { IfErr result (λ error. Held (entries self.old) (λ es.
-            IsReason M.Call.eq M.Answer.eq (under M.Key.eq es key) (Q.pairs reads) error)) }
+            IsReason M.Of.Call.eq M.Of.Answer.eq (under M.Key.eq es key) (Q.pairs reads) error)) }
         ensures named { IfErr result (λ error. error ≡ MissingCall
             → ¬ IsNamed ⟦<M as Meant>⟧.meaning) }
         ensures err { OnErr result (Stays (entries self.old) (entries self.new)) };
 }
 
-impl<M: Memo> Hold<M> for CacheData<M> {
+impl<M: Function> Hold<M> for CacheData<M> {
     ghost entries = { λ s. Some s };
 
-    fn look<In: Input<Call = M::Call, Key = M::Key, Answer = M::Answer>>(
+    fn look<In: Input<Call = CallOf<M>, Key = M::Key, Answer = AnswerOf<M>>>(
         &mut self,
         key: &M::Key,
         input: &mut In,
@@ -155,7 +155,7 @@ impl<M: Memo> Hold<M> for CacheData<M> {
         CacheData::look(self, key, input)
     }
 
-    fn peek<In: Input<Call = M::Call, Key = M::Key, Answer = M::Answer>>(
+    fn peek<In: Input<Call = CallOf<M>, Key = M::Key, Answer = AnswerOf<M>>>(
         &mut self,
         key: &M::Key,
         input: &mut In,
@@ -165,35 +165,35 @@ impl<M: Memo> Hold<M> for CacheData<M> {
         CacheData::peek(self, key, input)
     }
 
-    fn explain<In: Input<Call = M::Call, Key = M::Key, Answer = M::Answer>>(
+    fn explain<In: Input<Call = CallOf<M>, Key = M::Key, Answer = AnswerOf<M>>>(
         &mut self,
         alloc: Global,
         key: &M::Key,
         input: &mut In,
-    ) -> Result<Explanation<M::Call, M::Answer>, AllocError> {
+    ) -> Result<Explanation<CallOf<M>, AnswerOf<M>>, AllocError> {
         CacheData::explain(self, alloc, key, input)
     }
 
-    fn touch(&mut self, key: &M::Key, answers: &[M::Answer]) {
+    fn touch(&mut self, key: &M::Key, answers: &[AnswerOf<M>]) {
         CacheData::touch(self, key, answers);
     }
 
-    fn store<Q: Reads<Call = M::Call, Answer = M::Answer>>(
+    fn store<Q: Reads<Call = CallOf<M>, Answer = AnswerOf<M>>>(
         &mut self,
         key: M::Key,
         reads: Q,
         output: M::Out,
-        writes: Vec<M::Call>,
+        writes: Vec<CallOf<M>>,
     ) -> Result<(), InsertError>
-        requires reads { All (λ p. M.Call.is_write p.0 ≡ false) (Q.pairs reads) }
-        requires written { All (λ c. M.Call.is_write c ≡ true) writes.items }
+        requires reads { All (λ p. M.Of.Call.is_write p.0 ≡ false) (Q.pairs reads) }
+        requires written { All (λ c. M.Of.Call.is_write c ≡ true) writes.items }
         requires stands { Stands ⟦<M as Meant>⟧.meaning
             (run key (Q.pairs reads) output writes.items) }
         requires settled { IsNamedRun ⟦<M as Meant>⟧.meaning key (Q.pairs reads) }
         ensures stored { OnOk result (Stores (exactly ⟦<M as Meant>⟧.meaning) self.old
             (run key (Q.pairs reads) output writes.items) self.new) }
         ensures reason { IfErr result
-            (IsReason M.Call.eq M.Answer.eq (under M.Key.eq self.old key) (Q.pairs reads)) }
+            (IsReason M.Of.Call.eq M.Of.Answer.eq (under M.Key.eq self.old key) (Q.pairs reads)) }
         ensures named { IfErr result (λ error. error ≡ MissingCall
             → ¬ IsNamed ⟦<M as Meant>⟧.meaning) }
         ensures err { OnErr result (self.new ≡ self.old) }

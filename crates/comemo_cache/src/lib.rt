@@ -21,7 +21,7 @@ pub use contents::Contents;
 pub use eviction::{Caches, Evict, Evictor};
 pub use evictors::register_evictor;
 pub use explain::Explanation;
-pub use function::{Function, Meant, Memo};
+pub use function::{AnswerOf, CallOf, Function, Meant};
 pub use hold::{Hold, Reads};
 pub use shared::{Cache, Shared};
 pub use steps::{Step, StepReply};

@@ -15,7 +15,7 @@ ghost use Rattle.comemo_cache.specs.Held.{ChangesBehind, Held, Leads, Stays};
 use crate::cache::{CacheData, Found, Peeked};
 use crate::contents::Contents;
 use crate::explain::Explanation;
-use crate::function::{Meant, Memo};
+use crate::function::{AnswerOf, CallOf, Function, Meant};
 use crate::hold::{Hold, Reads};
 use comemo_base::{CallSequence, InsertError};
 use comemo_track::input::Input;
@@ -35,11 +35,11 @@ const SHARDS: usize = 64;
 
 /// A reference to the entries of a shard, or to none if the shard never had one.
 #[derive(Drop)]
-struct EntriesRef<M: Memo> {
+struct EntriesRef<M: Function> {
     data: Option<Arc<CacheData<M>>>,
 }
 
-impl<M: Memo> Model for EntriesRef<M> {
+impl<M: Function> Model for EntriesRef<M> {
     ghost use Rattle.std.specs.Prelude.{Option};
     ghost use Rattle.std.specs.Option.{option_map};
     ghost use Rattle.std.specs.Arc.{arc_value};
@@ -47,15 +47,15 @@ impl<M: Memo> Model for EntriesRef<M> {
     ghost use Rattle.comemo_base.specs.Tree.{stored_code};
     ghost use Rattle.comemo_cache.specs.Cache.{Entries, kept_code};
 
-    ghost Value = { Option (Entries M.Key M.Call M.Answer M.Out) };
+    ghost Value = { Option (Entries M.Key M.Of.Call M.Of.Answer M.Out) };
 
-    ghost coded = { coded_option (coded_list (stored_code M.Key.code M.Call.code M.Answer.code
-        (kept_code M.Out.code M.Call.code))) };
+    ghost coded = { coded_option (coded_list (stored_code M.Key.code M.Of.Call.code M.Of.Answer.code
+        (kept_code M.Out.code M.Of.Call.code))) };
 
     ghost view = { λ s. option_map arc_value s.data };
 }
 
-impl<M: Memo> EntriesRef<M> {
+impl<M: Function> EntriesRef<M> {
     /// A reference to none.
     fn new() -> Self
         ensures { result ≡ None }
@@ -91,12 +91,12 @@ impl<M: Memo> EntriesRef<M> {
     fn store(
         &mut self,
         key: M::Key,
-        reads: CallSequence<M::Call, M::Answer>,
+        reads: CallSequence<CallOf<M>, AnswerOf<M>>,
         output: M::Out,
-        writes: Vec<M::Call>,
+        writes: Vec<CallOf<M>>,
     ) -> Result<(), InsertError>
-        requires reads { All (λ p. M.Call.is_write p.0 ≡ false) reads.pairs }
-        requires written { All (λ c. M.Call.is_write c ≡ true) writes.items }
+        requires reads { All (λ p. M.Of.Call.is_write p.0 ≡ false) reads.pairs }
+        requires written { All (λ c. M.Of.Call.is_write c ≡ true) writes.items }
         requires stands { Stands ⟦<M as Meant>⟧.meaning
             (run key reads.pairs output writes.items) }
         requires settled { IsNamedRun ⟦<M as Meant>⟧.meaning key reads.pairs }
@@ -104,7 +104,7 @@ impl<M: Memo> EntriesRef<M> {
             Stores (exactly ⟦<M as Meant>⟧.meaning) es
             (run key reads.pairs output writes.items) es')) }
         ensures reason { IfErr result (λ error. Held self.old (λ es.
-            IsReason M.Call.eq M.Answer.eq (under M.Key.eq es key) reads.pairs error)) }
+            IsReason M.Of.Call.eq M.Of.Answer.eq (under M.Key.eq es key) reads.pairs error)) }
         ensures named { IfErr result (λ error. error ≡ MissingCall
             → ¬ IsNamed ⟦<M as Meant>⟧.meaning) }
         ensures err { OnErr result (self.new ≡ self.old) }
@@ -120,8 +120,8 @@ impl<M: Memo> EntriesRef<M> {
     }
 
     /// Sets an entry's age to 0, as `CacheData::touch`, unless there is another reference to the entries.
-    fn touch(&mut self, key: &M::Key, answers: &[M::Answer])
-        ensures { ChangesBehind (TouchesAt M.Answer.eq M.Key.eq key.now answers.now)
+    fn touch(&mut self, key: &M::Key, answers: &[AnswerOf<M>])
+        ensures { ChangesBehind (TouchesAt M.Of.Answer.eq M.Key.eq key.now answers.now)
             self.old self.new }
     {
         let Some(data) = &mut self.data else {
@@ -150,13 +150,13 @@ impl<M: Memo> EntriesRef<M> {
 /// A look-up locks only its own lane, for reading. So look-ups in different lanes write no memory in common, and don't
 /// wait for each other's processors.
 #[derive(Drop)]
-struct Lane<M: Memo> {
+struct Lane<M: Function> {
     entries: RwLock<EntriesRef<M>>,
     // Padding to 128 bytes, which processors fetch at once, so that lanes don't disturb each other.
     padding: [u64; 10],
 }
 
-impl<M: Memo> Lane<M> {
+impl<M: Function> Lane<M> {
     /// A lane of a shard without entries.
     fn new() -> Self {
         Lane {
@@ -173,14 +173,14 @@ impl<M: Memo> Lane<M> {
 
 /// All lanes of a shard, locked for writing: no look-up is under way.
 #[derive(Drop)]
-struct ExclusiveGuard<'a, M: Memo> {
+struct ExclusiveGuard<'a, M: Function> {
     first: RwLockWriteGuard<'a, EntriesRef<M>>,
     second: RwLockWriteGuard<'a, EntriesRef<M>>,
     third: RwLockWriteGuard<'a, EntriesRef<M>>,
     fourth: RwLockWriteGuard<'a, EntriesRef<M>>,
 }
 
-impl<'a, M: Memo> ExclusiveGuard<'a, M> {
+impl<'a, M: Function> ExclusiveGuard<'a, M> {
     /// Locks a shard's lanes in their order, so that no two callers wait for each other.
     fn new<R: Wait>(rt: &R, shard: &'a [Lane<M>; LANES]) -> Self {
         ExclusiveGuard {
@@ -192,7 +192,7 @@ impl<'a, M: Memo> ExclusiveGuard<'a, M> {
     }
 }
 
-impl<M: Memo> ExclusiveGuard<'_, M> {
+impl<M: Function> ExclusiveGuard<'_, M> {
     /// Leaves the first lane's reference as the only one, so that the entries can be changed.
     fn withdraw(&mut self)
         ensures first { write_guard_value self.new.first ≡ write_guard_value self.old.first }
@@ -228,14 +228,14 @@ impl<M: Memo> ExclusiveGuard<'_, M> {
 /// look-ups in different lanes don't disturb each other. Its type ensures that entries are right, whichever thread
 /// stored them. It takes 32 KiB in place.
 #[derive(Drop)]
-pub struct Cache<M: Memo> {
+pub struct Cache<M: Function> {
     alloc: Global,
     shards: [[Lane<M>; LANES]; SHARDS],
     // The number of shares made, which distributes them over the lanes.
     shares: AtomicU64,
 }
 
-impl<M: Memo> Cache<M> {
+impl<M: Function> Cache<M> {
     /// An empty cache. Does not allocate.
     pub fn new(alloc: Global) -> Self {
         // The checker only covers a closure that returns lanes if it holds something of their type.
@@ -294,7 +294,7 @@ impl<M: Memo> Cache<M> {
 ///
 /// A call locks one shard only and evictions lock in one order, so there is no deadlock. A shard is evicted after all
 /// later shards were locked, and then unlocked.
-fn evict_shards<M: Memo, R: Wait>(rt: &R, shards: &[[Lane<M>; LANES]], max_age: usize) {
+fn evict_shards<M: Function, R: Wait>(rt: &R, shards: &[[Lane<M>; LANES]], max_age: usize) {
     let Some((shard, rest)) = shards.split_first() else {
         return;
     };
@@ -310,17 +310,17 @@ fn evict_shards<M: Memo, R: Wait>(rt: &R, shards: &[[Lane<M>; LANES]], max_age: 
 ///
 /// Its entries aren't known, since other threads may change them between two steps.
 #[derive(Drop)]
-pub struct Shared<'a, M: Memo, R: Wait> {
+pub struct Shared<'a, M: Function, R: Wait> {
     cache: &'a Cache<M>,
     // Its number, which chooses the lane of its look-ups.
     share: usize,
     rt: &'a R,
 }
 
-impl<M: Memo, R: Wait> Hold<M> for Shared<'_, M, R> {
+impl<M: Function, R: Wait> Hold<M> for Shared<'_, M, R> {
     ghost entries = { λ _. None };
 
-    fn look<In: Input<Call = M::Call, Key = M::Key, Answer = M::Answer>>(
+    fn look<In: Input<Call = CallOf<M>, Key = M::Key, Answer = AnswerOf<M>>>(
         &mut self,
         key: &M::Key,
         input: &mut In,
@@ -333,7 +333,7 @@ impl<M: Memo, R: Wait> Hold<M> for Shared<'_, M, R> {
         data.look(key, input)
     }
 
-    fn peek<In: Input<Call = M::Call, Key = M::Key, Answer = M::Answer>>(
+    fn peek<In: Input<Call = CallOf<M>, Key = M::Key, Answer = AnswerOf<M>>>(
         &mut self,
         key: &M::Key,
         input: &mut In,
@@ -346,12 +346,12 @@ impl<M: Memo, R: Wait> Hold<M> for Shared<'_, M, R> {
         data.peek(key, input)
     }
 
-    fn explain<In: Input<Call = M::Call, Key = M::Key, Answer = M::Answer>>(
+    fn explain<In: Input<Call = CallOf<M>, Key = M::Key, Answer = AnswerOf<M>>>(
         &mut self,
         alloc: Global,
         key: &M::Key,
         input: &mut In,
-    ) -> Result<Explanation<M::Call, M::Answer>, AllocError> {
+    ) -> Result<Explanation<CallOf<M>, AnswerOf<M>>, AllocError> {
         let lane = &self.cache.shard(key)[self.share % LANES];
         let entries = lane.entries.read(self.rt);
         let Some(data) = &entries.data else {
@@ -360,35 +360,35 @@ impl<M: Memo, R: Wait> Hold<M> for Shared<'_, M, R> {
         data.explain(alloc, key, input)
     }
 
-    fn touch(&mut self, key: &M::Key, answers: &[M::Answer]) {
+    fn touch(&mut self, key: &M::Key, answers: &[AnswerOf<M>]) {
         let mut guard = ExclusiveGuard::new(self.rt, self.cache.shard(key));
         guard.withdraw();
         guard.first.touch(key, answers);
         guard.publish();
     }
 
-    fn store<Q: Reads<Call = M::Call, Answer = M::Answer>>(
+    fn store<Q: Reads<Call = CallOf<M>, Answer = AnswerOf<M>>>(
         &mut self,
         key: M::Key,
         reads: Q,
         output: M::Out,
-        writes: Vec<M::Call>,
+        writes: Vec<CallOf<M>>,
     ) -> Result<(), InsertError>
-        requires reads { All (λ p. M.Call.is_write p.0 ≡ false) (Q.pairs reads) }
-        requires written { All (λ c. M.Call.is_write c ≡ true) writes.items }
+        requires reads { All (λ p. M.Of.Call.is_write p.0 ≡ false) (Q.pairs reads) }
+        requires written { All (λ c. M.Of.Call.is_write c ≡ true) writes.items }
         requires stands { Stands ⟦<M as Meant>⟧.meaning
             (run key (Q.pairs reads) output writes.items) }
         requires settled { IsNamedRun ⟦<M as Meant>⟧.meaning key (Q.pairs reads) }
-        ensures stored { let none : Option (Entries M.Key M.Call M.Answer M.Out) = None in
+        ensures stored { let none : Option (Entries M.Key M.Of.Call M.Of.Answer M.Out) = None in
             OnOk result (Leads none none (λ es es'.
             Stores (exactly ⟦<M as Meant>⟧.meaning) es
             (run key (Q.pairs reads) output writes.items) es')) }
-        ensures reason { let none : Option (Entries M.Key M.Call M.Answer M.Out) = None in
+        ensures reason { let none : Option (Entries M.Key M.Of.Call M.Of.Answer M.Out) = None in
             IfErr result (λ error. Held none (λ es.
-            IsReason M.Call.eq M.Answer.eq (under M.Key.eq es key) (Q.pairs reads) error)) }
+            IsReason M.Of.Call.eq M.Of.Answer.eq (under M.Key.eq es key) (Q.pairs reads) error)) }
         ensures named { IfErr result (λ error. error ≡ MissingCall
             → ¬ IsNamed ⟦<M as Meant>⟧.meaning) }
-        ensures err { let none : Option (Entries M.Key M.Call M.Answer M.Out) = None in
+        ensures err { let none : Option (Entries M.Key M.Of.Call M.Of.Answer M.Out) = None in
             OnErr result (Stays none none) }
     {
         let reads = reads.into_sequence();

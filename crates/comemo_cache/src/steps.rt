@@ -7,40 +7,40 @@ ghost use Rattle.comemo_cache.specs.Steps.{listed, Takes, TakesEach, IsStep};
 ghost use Rattle.comemo_cache.specs.StepLaws.{listed_alike};
 
 use crate::cache::{CacheData, Found};
-use crate::function::{Meant, Memo};
+use crate::function::{AnswerOf, CallOf, Function, Meant};
 use comemo_base::{CallSequence, InsertError};
 use comemo_track::input::Input;
 use std::alloc::{AllocError, Global};
 
 /// A step of a cache, with its arguments.
 #[derive(Drop)]
-pub enum Step<M: Memo> {
+pub enum Step<M: Function> {
     /// Looks for an entry.
     Look {
         /// The key.
         key: M::Key,
         /// The answers to calls: of the pairs of one call the first.
-        answers: Vec<(M::Call, M::Answer)>,
+        answers: Vec<(CallOf<M>, AnswerOf<M>)>,
         /// The answer to every other call.
-        other: M::Answer,
+        other: AnswerOf<M>,
     },
     /// Touches an entry.
     Touch {
         /// The key.
         key: M::Key,
         /// The answers of its path, in order.
-        answers: Vec<M::Answer>,
+        answers: Vec<AnswerOf<M>>,
     },
     /// Stores a run.
     Store {
         /// The key.
         key: M::Key,
         /// The run's calls and answers: of the pairs of one call the first.
-        pairs: Vec<(M::Call, M::Answer)>,
+        pairs: Vec<(CallOf<M>, AnswerOf<M>)>,
         /// The output.
         output: M::Out,
         /// The run's writes, in order.
-        writes: Vec<M::Call>,
+        writes: Vec<CallOf<M>>,
     },
     /// Drops the entries whose age is at least the bound; the others' ages grow by one.
     Evict {
@@ -51,7 +51,7 @@ pub enum Step<M: Memo> {
 
 /// The result of a step.
 #[derive(Drop)]
-pub enum StepReply<M: Memo> {
+pub enum StepReply<M: Function> {
     /// A look-up found this entry.
     Found(Found<M>),
     /// A look-up found nothing.
@@ -70,33 +70,33 @@ pub enum StepReply<M: Memo> {
 
 /// An input that answers from a list: the key and the answers of a `Step::Look`.
 #[derive(Drop)]
-struct Listed<'a, M: Memo> {
+struct Listed<'a, M: Function> {
     key: &'a M::Key,
-    answers: &'a [(M::Call, M::Answer)],
-    other: &'a M::Answer,
+    answers: &'a [(CallOf<M>, AnswerOf<M>)],
+    other: &'a AnswerOf<M>,
 }
 
-impl<'a, M: Memo> Input for Listed<'a, M> {
-    type Call = M::Call;
+impl<'a, M: Function> Input for Listed<'a, M> {
+    type Call = CallOf<M>;
 
     type Key = M::Key;
 
-    type Answer = M::Answer;
+    type Answer = AnswerOf<M>;
 
     ghost key_of = { λ s. s.key.now };
 
-    ghost answers = { λ s. listed M.Call.eq s.answers.now s.other.now };
+    ghost answers = { λ s. listed M.Of.Call.eq s.answers.now s.other.now };
 
     ghost did = { λ s t _. t ≡ s };
 
-    ghost alike = { λ s. listed_alike M.Call.Eq.laws M.Answer.Eq.laws s.answers.now s.other.now };
+    ghost alike = { λ s. listed_alike M.Of.Call.Eq.laws M.Of.Answer.Eq.laws s.answers.now s.other.now };
 
     ghost starts = { λ _. refl };
 
     ghost joins = { λ s t u V W a b. b ∙ a };
 
-    ghost keeps = { λ s t W a call reads un. equal_if_one M.Answer.Eq.laws _ _
-        (ap (λ v. listed M.Call.eq v.answers.now v.other.now call) a) };
+    ghost keeps = { λ s t W a call reads un. equal_if_one M.Of.Answer.Eq.laws _ _
+        (ap (λ v. listed M.Of.Call.eq v.answers.now v.other.now call) a) };
 
     ghost keeps_key = { λ s t W a. equal_if_one M.Key.Eq.laws _ _ (ap (λ v. v.key.now) a) };
 
@@ -104,7 +104,7 @@ impl<'a, M: Memo> Input for Listed<'a, M> {
         self.key.clone()
     }
 
-    fn call(&mut self, call: &M::Call) -> Result<M::Answer, AllocError> {
+    fn call(&mut self, call: &CallOf<M>) -> Result<AnswerOf<M>, AllocError> {
         for (of, answer) in self.answers {
             if call == of {
                 return answer.clone();
@@ -113,13 +113,13 @@ impl<'a, M: Memo> Input for Listed<'a, M> {
         self.other.clone()
     }
 
-    fn call_mut(&mut self, _call: &M::Call) -> Result<(), AllocError> {
+    fn call_mut(&mut self, _call: &CallOf<M>) -> Result<(), AllocError> {
         // A look-up never writes.
         Ok(())
     }
 }
 
-impl<M: Memo> CacheData<M> {
+impl<M: Function> CacheData<M> {
     /// Does steps in turn, and returns the result of each, to compare a cache with a list.
     ///
     /// Fails, before the first step, if the list of results can't be allocated. A step that runs out of memory changes

@@ -12,13 +12,13 @@ pub end-requires-clause-settled : goal.end-requires-clause-settled
 end-requires-clause-settled g c =
     let run = rw (c.in-Ok-Run.is, c.in-Ok-Run.field-0-is) at c.begin.ensures.run in
     let is = run_seen c.pending.view_is (some_held (g.H.Hold.entries c.args.cache.now) _ run.0).1 in
-    λ output ok w l. named_moved g.met.M.Call.Eq.laws g.met.M.Answer.Eq.laws g.met.M.Key.Eq.laws g.M.Memo.naming _ _ _ is.has_key (c.requires.settled output c.into_constraint.result (held_map (g.H.Hold.entries c.args.cache.now) _ _ (λ es began. ran_from began g.In.Input.did g.P.Record.recorded _ c.args.input.now c.into_constraint.result (Ok output) run.1 c.empty-recording.ensures.pairs c.empty-recording.ensures.writes c.empty-recording.ensures.complete c.empty-recording.ensures.early (rw ok at c.func-ran.ensures) c.into_constraint.ensures) run.0) w l)
+    λ output ok w l. named_moved g.met.M.Of.Call.Eq.laws g.met.M.Of.Answer.Eq.laws g.met.M.Key.Eq.laws g.M.Function.naming _ _ _ is.has_key (c.requires.settled output c.into_constraint.result (held_map (g.H.Hold.entries c.args.cache.now) _ _ (λ es began. ran_from began g.In.Input.did g.P.Record.recorded _ c.args.input.now c.into_constraint.result (Ok output) run.1 c.empty-recording.ensures.pairs c.empty-recording.ensures.writes c.empty-recording.ensures.complete c.empty-recording.ensures.early (rw ok at c.func-ran.ensures) c.into_constraint.ensures) run.0) w l)
 
 pub end-requires-clause-stands : goal.end-requires-clause-stands
 end-requires-clause-stands g c =
     let run = rw (c.in-Ok-Run.is, c.in-Ok-Run.field-0-is) at c.begin.ensures.run in
     let is = run_seen c.pending.view_is (some_held (g.H.Hold.entries c.args.cache.now) _ run.0).1 in
-    λ output ok w l m r a. g.met.M.Memo.laws.keys _ _ m output _ r is.has_key (c.requires.right output c.into_constraint.result (held_map (g.H.Hold.entries c.args.cache.now) _ _ (λ es began. ran_from began g.In.Input.did g.P.Record.recorded _ c.args.input.now c.into_constraint.result (Ok output) run.1 c.empty-recording.ensures.pairs c.empty-recording.ensures.writes c.empty-recording.ensures.complete c.empty-recording.ensures.early (rw ok at c.func-ran.ensures) c.into_constraint.ensures) run.0) w l m r a)
+    λ output ok w l m r a. g.met.M.Function.laws.keys _ _ m output _ r is.has_key (c.requires.right output c.into_constraint.result (held_map (g.H.Hold.entries c.args.cache.now) _ _ (λ es began. ran_from began g.In.Input.did g.P.Record.recorded _ c.args.input.now c.into_constraint.result (Ok output) run.1 c.empty-recording.ensures.pairs c.empty-recording.ensures.writes c.empty-recording.ensures.complete c.empty-recording.ensures.early (rw ok at c.func-ran.ensures) c.into_constraint.ensures) run.0) w l m r a)
 
 pub returns-in-Ok-Run-clause-hit : goal.returns-in-Ok-Run-clause-hit
 returns-in-Ok-Run-clause-hit g c = mapped (λ reply done h. let fin = (some_led (g.H.Hold.entries c.begin.new.cache) (g.H.Hold.entries c.end.new.cache) _ done.2).2 in absurd (no_hit fin h)) c.end.result c.end.ensures.finished
@@ -31,7 +31,7 @@ returns-in-Ok-Run-clause-run g c =
     let run = rw (c.in-Ok-Run.is, c.in-Ok-Run.field-0-is) at c.begin.ensures.run in
     mapped (λ reply done _. led_by (g.H.Hold.entries c.args.cache.now) (g.H.Hold.entries c.args.cache.now) (g.H.Hold.entries c.end.new.cache) _ _ _ (λ es mid es' began fin.
     let is = run_seen c.pending.view_is began in
-    ended is g.In.Input.did g.P.Record.recorded _ c.args.input.now c.into_constraint.result _ (λ late. TookAs g.S.Sink.took g.S.Sink.lates late c.args.sink.now c.end.new.sink) (ran_to is g.In.Input.did g.P.Record.recorded _ c.args.input.now c.into_constraint.result _ (Ok done.0) run.1 c.empty-recording.ensures.pairs c.empty-recording.ensures.writes c.empty-recording.ensures.complete c.empty-recording.ensures.early (rw done.1 at c.func-ran.ensures) c.into_constraint.ensures refl) (λ l m r a. g.met.M.Memo.laws.keys _ _ m done.0 _ r is.has_key (c.requires.right done.0 c.into_constraint.result (held_map (g.H.Hold.entries c.args.cache.now) _ _ (λ es began. ran_from began g.In.Input.did g.P.Record.recorded _ c.args.input.now c.into_constraint.result (Ok done.0) run.1 c.empty-recording.ensures.pairs c.empty-recording.ensures.writes c.empty-recording.ensures.complete c.empty-recording.ensures.early (rw done.1 at c.func-ran.ensures) c.into_constraint.ensures) run.0) fin.complete l m r a)) fin) run.0 done.2) c.end.result (rw (stayed (g.H.Hold.entries c.args.cache.now) (g.H.Hold.entries c.begin.new.cache) run.3) at (rw run.2 at c.end.ensures.finished))
+    ended is g.In.Input.did g.P.Record.recorded _ c.args.input.now c.into_constraint.result _ (λ late. TookAs g.S.Sink.took g.S.Sink.lates late c.args.sink.now c.end.new.sink) (ran_to is g.In.Input.did g.P.Record.recorded _ c.args.input.now c.into_constraint.result _ (Ok done.0) run.1 c.empty-recording.ensures.pairs c.empty-recording.ensures.writes c.empty-recording.ensures.complete c.empty-recording.ensures.early (rw done.1 at c.func-ran.ensures) c.into_constraint.ensures refl) (λ l m r a. g.met.M.Function.laws.keys _ _ m done.0 _ r is.has_key (c.requires.right done.0 c.into_constraint.result (held_map (g.H.Hold.entries c.args.cache.now) _ _ (λ es began. ran_from began g.In.Input.did g.P.Record.recorded _ c.args.input.now c.into_constraint.result (Ok done.0) run.1 c.empty-recording.ensures.pairs c.empty-recording.ensures.writes c.empty-recording.ensures.complete c.empty-recording.ensures.early (rw done.1 at c.func-ran.ensures) c.into_constraint.ensures) run.0) fin.complete l m r a)) fin) run.0 done.2) c.end.result (rw (stayed (g.H.Hold.entries c.args.cache.now) (g.H.Hold.entries c.begin.new.cache) run.3) at (rw run.2 at c.end.ensures.finished))
 
 pub returns-in-Ok-Run-clause-fault : goal.returns-in-Ok-Run-clause-fault
 returns-in-Ok-Run-clause-fault g c =

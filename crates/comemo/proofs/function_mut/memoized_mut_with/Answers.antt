@@ -20,8 +20,8 @@ end-requires-clause-settled g c =
     let is = run_seen c.pending.view_is (some_held (g.H.Hold.entries c.args.cache.now) _ run.0).1 in
     let t = c.run_recorded-ran.result.1 in
     λ output ok w l.
-    let own = settled_end g.M.Key.PartialEq.eq g.T.Call.PartialEq.eq g.T.Answer.PartialEq.eq g.M.Memo.naming _ t c.run_recorded-ran.result.0 output c.run_recorded-ran.ensures.settled ok w l in
-    named_moved g.met.T.Call.Eq.laws g.met.T.Answer.Eq.laws g.met.M.Key.Eq.laws g.M.Memo.naming c.args.key c.pending.inside.key t.pairs is.has_key own
+    let own = settled_end g.M.Key.PartialEq.eq g.T.Call.PartialEq.eq g.T.Answer.PartialEq.eq g.M.Function.naming _ t c.run_recorded-ran.result.0 output c.run_recorded-ran.ensures.settled ok w l in
+    named_moved g.met.T.Call.Eq.laws g.met.T.Answer.Eq.laws g.met.M.Key.Eq.laws g.M.Function.naming c.args.key c.pending.inside.key t.pairs is.has_key own
 
 pub end-requires-clause-stands : goal.end-requires-clause-stands
 end-requires-clause-stands g c =
@@ -29,7 +29,7 @@ end-requires-clause-stands g c =
     let is = run_seen c.pending.view_is (some_held (g.H.Hold.entries c.args.cache.now) _ run.0).1 in
     λ output ok w l m r a.
     let right = (rw ok at c.run_recorded-ran.ensures.right) m (record { complete = w; early = l; respects = r; agrees = a }) in
-    g.met.M.Memo.laws.keys c.args.key c.pending.inside.key m output c.run_recorded-ran.result.1.writes r is.has_key right
+    g.met.M.Function.laws.keys c.args.key c.pending.inside.key m output c.run_recorded-ran.result.1.writes r is.has_key right
 
 pub returns-in-Ok-Hit-clause-right : goal.returns-in-Ok-Hit-clause-right
 returns-in-Ok-Hit-clause-right g c = λ _.
@@ -52,7 +52,7 @@ returns-in-Ok-Run-clause-right g c =
     let agrees = subst (λ v. Agrees g.T.Answer.PartialEq.eq (g.T.Track.answers v) t.pairs) run.1.0 (c.run_recorded-ran.ensures.agrees complete early) in
     let right = (rw done.1 at c.run_recorded-ran.ensures.right) m (record { complete = complete; early = early; respects = g.met.T.Track.alike c.args.of.now; agrees = agrees }) in
     let did = subst (λ v. Done g.T.Track.wrote g.T.Call.Call.is_write g.T.Call.Call.touches g.T.Answer.PartialEq.eq g.T.Track.answers v c.run_recorded-ran.new.of t.writes) run.1.0 (c.run_recorded-ran.ensures.done complete) in
-    (t.writes, subst (λ o. (IsRight g.M.Memo.means g.M.Memo.writes) c.args.key m o t.writes) (sym fin.same) right, done_at (Done g.T.Track.wrote g.T.Call.Call.is_write g.T.Call.Call.touches g.T.Answer.PartialEq.eq g.T.Track.answers) c.args.of.now c.run_recorded-ran.new.of _ t.writes so did)) c.end.result c.end.ensures.finished (search rules)
+    (t.writes, subst (λ o. (IsRight g.M.Function.means g.M.Function.writes) c.args.key m o t.writes) (sym fin.same) right, done_at (Done g.T.Track.wrote g.T.Call.Call.is_write g.T.Call.Call.touches g.T.Answer.PartialEq.eq g.T.Track.answers) c.args.of.now c.run_recorded-ran.new.of _ t.writes so did)) c.end.result c.end.ensures.finished (search rules)
 
 pub returns-in-Ok-Run-clause-reply : goal.returns-in-Ok-Run-clause-reply
 returns-in-Ok-Run-clause-reply g c =
@@ -66,7 +66,7 @@ returns-in-Ok-Run-clause-reply g c =
     (λ early. subst (λ v. Agrees g.T.Answer.PartialEq.eq (g.T.Track.answers v) t.pairs) run.1.0 (c.run_recorded-ran.ensures.agrees complete early))
     g.S.Sink.took g.S.Sink.lates (λ early m r a.
     let right = (rw done.1 at c.run_recorded-ran.ensures.right) m (record { complete = complete; early = early; respects = r; agrees = a }) in
-    g.met.M.Memo.laws.keys c.args.key c.pending.inside.key m done.0 t.writes r is.has_key right)
+    g.met.M.Function.laws.keys c.args.key c.pending.inside.key m done.0 t.writes r is.has_key right)
     fin (Done g.T.Track.wrote g.T.Call.Call.is_write g.T.Call.Call.touches g.T.Answer.PartialEq.eq g.T.Track.answers) c.args.of.now c.run_recorded-ran.new.of _ so did) run.0 done.2) c.end.result (rw (stayed (g.H.Hold.entries c.args.cache.now) (g.H.Hold.entries c.begin-begun.new.cache) run.3) at (rw run.2 at c.end.ensures.finished)) (search rules)
 
 pub returns-in-Ok-Run-clause-reached : goal.returns-in-Ok-Run-clause-reached
@@ -79,7 +79,7 @@ pub returns-in-Ok-Run-clause-err : goal.returns-in-Ok-Run-clause-err
 returns-in-Ok-Run-clause-err g c =
     let run = rw (c.in-Ok-Run.is, c.in-Ok-Run.field-0-is) at c.begin-begun.ensures.run in
     let t = c.run_recorded-ran.result.1 in
-    mapped_err (λ e. leads_same (g.H.Hold.entries c.args.cache.now) (g.H.Hold.entries c.end.new.cache) [] _ e.0 (λ es. inl (refl, e.1))) c.end.result (broke_by_run_mut (record { same_call = g.T.Call.PartialEq.eq; same_answer = g.T.Answer.PartialEq.eq; same_key = g.M.Key.PartialEq.eq; is_write = g.T.Call.Call.is_write; is_clone = g.M.Out.Clone.is_clone; right = IsRight g.M.Memo.means g.M.Memo.writes; naming = g.M.Memo.naming }) g.T.Call.Call.touches (g.T.Track.answers c.args.of.now) g.met.T.Call.Eq.laws g.met.T.Answer.Eq.laws (g.met.T.Track.alike c.args.of.now) _ t.pairs t.complete
+    mapped_err (λ e. leads_same (g.H.Hold.entries c.args.cache.now) (g.H.Hold.entries c.end.new.cache) [] _ e.0 (λ es. inl (refl, e.1))) c.end.result (broke_by_run_mut (record { same_call = g.T.Call.PartialEq.eq; same_answer = g.T.Answer.PartialEq.eq; same_key = g.M.Key.PartialEq.eq; is_write = g.T.Call.Call.is_write; is_clone = g.M.Out.Clone.is_clone; right = IsRight g.M.Function.means g.M.Function.writes; naming = g.M.Function.naming }) g.T.Call.Call.touches (g.T.Track.answers c.args.of.now) g.met.T.Call.Eq.laws g.met.T.Answer.Eq.laws (g.met.T.Track.alike c.args.of.now) _ t.pairs t.complete
     (λ w none. subst (λ v. Agrees g.T.Answer.PartialEq.eq (g.T.Track.answers v) t.pairs) run.1.0 (c.run_recorded-ran.ensures.agrees w (c.run_recorded-ran.ensures.early none w)))
     (λ w. breaks_at_once g.met.S.Sink.starts _ _ [] (rw run.2 at (c.end.ensures.spoils w)))
     _ c.end.result (rw (stayed (g.H.Hold.entries c.args.cache.now) (g.H.Hold.entries c.begin-begun.new.cache) run.3) at (rw run.2 at c.end.ensures.err)))

@@ -24,7 +24,7 @@ returns-then-not-keeps_nothing-clause-err g c = IfErr-weaker c.look_hit.result _
 
 pub returns-in-Ok-None-clause-none : goal.returns-in-Ok-None-clause-none
 returns-in-Ok-None-clause-none g c =
-    let M : Meaning g.row.M-Key.Denot g.row.M-Call.Denot g.row.M-Answer.Denot g.row.M-Out.Denot = record { same_call = g.M.Call.PartialEq.eq; same_answer = g.M.Answer.PartialEq.eq; same_key = g.M.Key.PartialEq.eq; is_write = g.M.Call.Call.is_write; is_clone = g.M.Out.Clone.is_clone; right = IsRight g.M.Memo.means g.M.Memo.writes; naming = g.M.Memo.naming } in
+    let M : Meaning g.row.M-Key.Denot g.row.M-Of-Call.Denot g.row.M-Of-Answer.Denot g.row.M-Out.Denot = record { same_call = g.M.Of.Call.PartialEq.eq; same_answer = g.M.Of.Answer.PartialEq.eq; same_key = g.M.Key.PartialEq.eq; is_write = g.M.Of.Call.Call.is_write; is_clone = g.M.Out.Clone.is_clone; right = IsRight g.M.Function.means g.M.Function.writes; naming = g.M.Function.naming } in
     let none = rw (c.in-Ok-None.is, c.in-Ok-None.field-0-is) at c.peek.ensures.found in
     (held_map (g.H.Hold.entries c.args.cache.now) _ _ (λ es n. HasNone-alike M g.met.M.Key.Eq.laws es c.args.key.now (g.In.Input.key_of c.args.input.now) (turned g.met.M.Key.Eq.laws _ _ c.requires) (g.In.Input.answers c.args.input.now) true true n) none, c.peek.ensures.same, refl, c.peek.ensures.stays)
 
@@ -33,9 +33,9 @@ returns-in-Err-clause-err g c = (c.peek.ensures.stays, c.peek.ensures.same, held
 
 pub give_peeked-requires : goal.give_peeked-requires
 give_peeked-requires g c =
-    let M : Meaning g.row.M-Key.Denot g.row.M-Call.Denot g.row.M-Answer.Denot g.row.M-Out.Denot = record { same_call = g.M.Call.PartialEq.eq; same_answer = g.M.Answer.PartialEq.eq; same_key = g.M.Key.PartialEq.eq; is_write = g.M.Call.Call.is_write; is_clone = g.M.Out.Clone.is_clone; right = IsRight g.M.Memo.means g.M.Memo.writes; naming = g.M.Memo.naming } in
-    let calls = g.met.M.Call.Eq.laws in
-    let answers = g.met.M.Answer.Eq.laws in
+    let M : Meaning g.row.M-Key.Denot g.row.M-Of-Call.Denot g.row.M-Of-Answer.Denot g.row.M-Out.Denot = record { same_call = g.M.Of.Call.PartialEq.eq; same_answer = g.M.Of.Answer.PartialEq.eq; same_key = g.M.Key.PartialEq.eq; is_write = g.M.Of.Call.Call.is_write; is_clone = g.M.Out.Clone.is_clone; right = IsRight g.M.Function.means g.M.Function.writes; naming = g.M.Function.naming } in
+    let calls = g.met.M.Of.Call.Eq.laws in
+    let answers = g.met.M.Of.Answer.Eq.laws in
     let keys = g.met.M.Key.Eq.laws in
     let m = g.In.Input.answers c.args.input.now in
     let own = g.In.Input.key_of c.args.input.now in
@@ -59,7 +59,7 @@ returns-then-peeked-gt0-clause-err g c =
 
 pub returns-then-peeked-gt0-clause-none : goal.returns-then-peeked-gt0-clause-none
 returns-then-peeked-gt0-clause-none g c =
-    let M : Meaning g.row.M-Key.Denot g.row.M-Call.Denot g.row.M-Answer.Denot g.row.M-Out.Denot = record { same_call = g.M.Call.PartialEq.eq; same_answer = g.M.Answer.PartialEq.eq; same_key = g.M.Key.PartialEq.eq; is_write = g.M.Call.Call.is_write; is_clone = g.M.Out.Clone.is_clone; right = IsRight g.M.Memo.means g.M.Memo.writes; naming = g.M.Memo.naming } in
+    let M : Meaning g.row.M-Key.Denot g.row.M-Of-Call.Denot g.row.M-Of-Answer.Denot g.row.M-Out.Denot = record { same_call = g.M.Of.Call.PartialEq.eq; same_answer = g.M.Of.Answer.PartialEq.eq; same_key = g.M.Key.PartialEq.eq; is_write = g.M.Of.Call.Call.is_write; is_clone = g.M.Out.Clone.is_clone; right = IsRight g.M.Function.means g.M.Function.writes; naming = g.M.Function.naming } in
     let keys = g.met.M.Key.Eq.laws in
     let s = c.args.input.now in
     let t = c.peek.new.input in
@@ -74,10 +74,10 @@ returns-then-peeked-gt0-clause-none g c =
     let o' = g.H.Hold.entries c.peek.new.self in
     let peeked = c.in-Ok-Some.peeked in
     let found : Held o (λ es. IsPeeked M es (invocation key m true) peeked.output peeked.writes.items peeked.age) = rw (c.in-Ok-Some.is, c.in-Ok-Some.field-0-is) at c.peek.ensures.found in
-    let moves : (call : g.row.M-Call.Denot) → M.is_write call ≡ false → IsTrue (M.same_answer (m call) (n call)) = λ call read. g.met.In.Input.keeps s t [] c.peek.ensures.same call read refl in
+    let moves : (call : g.row.M-Of-Call.Denot) → M.is_write call ≡ false → IsTrue (M.same_answer (m call) (n call)) = λ call read. g.met.In.Input.keeps s t [] c.peek.ensures.same call read refl in
     let none = rw (stayed o o' c.peek.ensures.stays) at c.look_hit-then-peeked-gt0.ensures.none in
     IfOk-weaker c.look_hit-then-peeked-gt0.result _ _ (λ h k. none_mapped h (λ is. (
-      held_map o _ _ (λ es x. HasNone-alike M keys es key own alike m true true x) (none_left M g.met.M.Call.Eq.laws g.met.M.Answer.Eq.laws g.met.M.Call.Call.same_kind m n moves key true peeked.output peeked.writes.items peeked.age o found (held_map o _ _ (λ es x. HasNone-alike M keys es then key alike' n true true x) is.0)),
+      held_map o _ _ (λ es x. HasNone-alike M keys es key own alike m true true x) (none_left M g.met.M.Of.Call.Eq.laws g.met.M.Of.Answer.Eq.laws g.met.M.Of.Call.Call.same_kind m n moves key true peeked.output peeked.writes.items peeked.age o found (held_map o _ _ (λ es x. HasNone-alike M keys es then key alike' n true true x) is.0)),
       g.met.In.Input.joins _ _ _ [] [] c.peek.ensures.same is.1,
       is.2,
       is.3,
@@ -85,9 +85,9 @@ returns-then-peeked-gt0-clause-none g c =
 
 pub returns-in_err-output-clause-err : goal.returns-in_err-output-clause-err
 returns-in_err-output-clause-err g c =
-    let M : Meaning g.row.M-Key.Denot g.row.M-Call.Denot g.row.M-Answer.Denot g.row.M-Out.Denot = record { same_call = g.M.Call.PartialEq.eq; same_answer = g.M.Answer.PartialEq.eq; same_key = g.M.Key.PartialEq.eq; is_write = g.M.Call.Call.is_write; is_clone = g.M.Out.Clone.is_clone; right = IsRight g.M.Memo.means g.M.Memo.writes; naming = g.M.Memo.naming } in
-    let calls = g.met.M.Call.Eq.laws in
-    let answers = g.met.M.Answer.Eq.laws in
+    let M : Meaning g.row.M-Key.Denot g.row.M-Of-Call.Denot g.row.M-Of-Answer.Denot g.row.M-Out.Denot = record { same_call = g.M.Of.Call.PartialEq.eq; same_answer = g.M.Of.Answer.PartialEq.eq; same_key = g.M.Key.PartialEq.eq; is_write = g.M.Of.Call.Call.is_write; is_clone = g.M.Out.Clone.is_clone; right = IsRight g.M.Function.means g.M.Function.writes; naming = g.M.Function.naming } in
+    let calls = g.met.M.Of.Call.Eq.laws in
+    let answers = g.met.M.Of.Answer.Eq.laws in
     let keys = g.met.M.Key.Eq.laws in
     let m = g.In.Input.answers c.args.input.now in
     let own = g.In.Input.key_of c.args.input.now in
@@ -106,14 +106,14 @@ returns-in_err-output-clause-err g c =
     ))
     (λ stop. held_leads o o' _ _ c.peek.ensures.stays (λ es k. (
       Touches-alike M keys es es key own alike m true true (young_touched M es (invocation key m true) (run key k.pairs peeked.output peeked.writes.items) peeked.age none k.kept),
-      stopped_of M calls answers keys g.met.M.Memo.laws key own alike m (g.met.In.Input.alike c.args.input.now) es k stop.0 stop.1 stop.2 stop.3 stop.6 (g.met.In.Input.joins _ _ _ [] stop.0 c.peek.ensures.same stop.4) (spoiled_run g.met.S.Sink.joins _ _ _ k.pairs stop.0 (c.keeps_nothing.ensures c.if-not-keeps_nothing.false k.pairs []).0 stop.5),
+      stopped_of M calls answers keys g.met.M.Function.laws key own alike m (g.met.In.Input.alike c.args.input.now) es k stop.0 stop.1 stop.2 stop.3 stop.6 (g.met.In.Input.joins _ _ _ [] stop.0 c.peek.ensures.same stop.4) (spoiled_run g.met.S.Sink.joins _ _ _ k.pairs stop.0 (c.keeps_nothing.ensures c.if-not-keeps_nothing.false k.pairs []).0 stop.5),
     )) found)
 
 pub returns-clause-hit : goal.returns-clause-hit
 returns-clause-hit g c =
-    let M : Meaning g.row.M-Key.Denot g.row.M-Call.Denot g.row.M-Answer.Denot g.row.M-Out.Denot = record { same_call = g.M.Call.PartialEq.eq; same_answer = g.M.Answer.PartialEq.eq; same_key = g.M.Key.PartialEq.eq; is_write = g.M.Call.Call.is_write; is_clone = g.M.Out.Clone.is_clone; right = IsRight g.M.Memo.means g.M.Memo.writes; naming = g.M.Memo.naming } in
-    let calls = g.met.M.Call.Eq.laws in
-    let answers = g.met.M.Answer.Eq.laws in
+    let M : Meaning g.row.M-Key.Denot g.row.M-Of-Call.Denot g.row.M-Of-Answer.Denot g.row.M-Out.Denot = record { same_call = g.M.Of.Call.PartialEq.eq; same_answer = g.M.Of.Answer.PartialEq.eq; same_key = g.M.Key.PartialEq.eq; is_write = g.M.Of.Call.Call.is_write; is_clone = g.M.Out.Clone.is_clone; right = IsRight g.M.Function.means g.M.Function.writes; naming = g.M.Function.naming } in
+    let calls = g.met.M.Of.Call.Eq.laws in
+    let answers = g.met.M.Of.Answer.Eq.laws in
     let keys = g.met.M.Key.Eq.laws in
     let m = g.In.Input.answers c.args.input.now in
     let own = g.In.Input.key_of c.args.input.now in
@@ -125,6 +125,6 @@ returns-clause-hit g c =
     let found : Held o (λ es. IsPeeked M es (invocation key m true) peeked.output peeked.writes.items peeked.age) = rw (c.in-Ok-Some.is, c.in-Ok-Some.field-0-is) at c.peek.ensures.found in
     let none : peeked.age ≡ 0 = omega arith in
     rw c.in_ok-output.ensures.output (held_leads o o' _ _ c.peek.ensures.stays (λ es k. (
-      hit_of M calls answers keys g.met.M.Memo.laws key own alike m (g.met.In.Input.alike c.args.input.now) es k (g.met.In.Input.joins _ _ _ [] peeked.writes.items c.peek.ensures.same c.in_ok-output.ensures.done) (took_run g.met.S.Sink.joins _ _ _ k.pairs peeked.writes.items (c.keeps_nothing.ensures c.if-not-keeps_nothing.false k.pairs []).0 c.in_ok-output.ensures.sent),
+      hit_of M calls answers keys g.met.M.Function.laws key own alike m (g.met.In.Input.alike c.args.input.now) es k (g.met.In.Input.joins _ _ _ [] peeked.writes.items c.peek.ensures.same c.in_ok-output.ensures.done) (took_run g.met.S.Sink.joins _ _ _ k.pairs peeked.writes.items (c.keeps_nothing.ensures c.if-not-keeps_nothing.false k.pairs []).0 c.in_ok-output.ensures.sent),
       Touches-alike M keys es es key own alike m true true (young_touched M es (invocation key m true) (run key k.pairs peeked.output peeked.writes.items) peeked.age none k.kept),
     )) found)

@@ -17,7 +17,7 @@ returns-in_default-reserve-clause-err g c = (stays_same (g.H.Hold.entries c.args
 pub returns-in_err-replay-clause-err : goal.returns-in_err-replay-clause-err
 returns-in_err-replay-clause-err g c =
     let at = c.in_err-replay.ensures.err in
-    let touched : Leads (g.H.Hold.entries c.args.cache.now) (g.H.Hold.entries c.if-age-gt0.cache) (TouchesFound g.M.Answer.PartialEq.eq g.M.Key.PartialEq.eq c.args.key.now c.args.found.pairs.items c.args.found.age) =
+    let touched : Leads (g.H.Hold.entries c.args.cache.now) (g.H.Hold.entries c.if-age-gt0.cache) (TouchesFound g.M.Of.Answer.PartialEq.eq g.M.Key.PartialEq.eq c.args.key.now c.args.found.pairs.items c.args.found.age) =
     elim c.if-age-gt0.branch [
       | then-age-gt0 w ↦ rw w.cache-is (leads_map (g.H.Hold.entries c.args.cache.now) _ _ _ (λ es es' t. inr (c.in-Ok.answers.items, c.in-Ok.ensures (λ none. absurd (omega (arith, none, w.if-age-gt0.true))), t)) (rw w.as_slice.ensures.value at w.touch.ensures))
       | else-age-gt0 w ↦ rw w.cache-is (leads_same (g.H.Hold.entries c.args.cache.now) (g.H.Hold.entries c.args.cache.now) [] _ (stays_same (g.H.Hold.entries c.args.cache.now)) (λ es. inl (omega (arith, w.if-age-gt0.false), refl)))

@@ -5,12 +5,12 @@ use Rattle.comemo_tests.proofs.again.call_twice.Goals as goal
 pub returns-clause-hit : goal.returns-clause-hit
 returns-clause-hit g c = λ stored.
     let first = c.in_ok-first.ensures.reply in
-    hits_again _ g.met.T.Answer.Eq.laws g.met.M.Key.Eq.laws first stored (g.met.M.Memo.laws.key_clones _ _ c.in_ok-again.ensures.cases) (g.met.T.Track.alike c.args.of.now) first.agrees refl c.in_ok-second.ensures.reply
+    hits_again _ g.met.T.Answer.Eq.laws g.met.M.Key.Eq.laws first stored (g.met.M.Function.laws.key_clones _ _ c.in_ok-again.ensures.cases) (g.met.T.Track.alike c.args.of.now) first.agrees refl c.in_ok-second.ensures.reply
 
 pub returns-clause-output : goal.returns-clause-output
 returns-clause-output g c = λ stored.
     let first = c.in_ok-first.ensures.reply in
-    let key = g.met.M.Memo.laws.key_clones _ _ c.in_ok-again.ensures.cases in
+    let key = g.met.M.Function.laws.key_clones _ _ c.in_ok-again.ensures.cases in
     let respects = g.met.T.Track.alike c.args.of.now in
     let none = none_before _ g.met.M.Key.Eq.laws first stored key in
     finds_again _ g.met.T.Answer.Eq.laws g.met.M.Key.Eq.laws first stored key respects first.agrees refl none c.in_ok-second.ensures.reply

@@ -25,7 +25,7 @@ pub returns-in-Ok-Hit-clause-tells : goal.returns-in-Ok-Hit-clause-tells
 returns-in-Ok-Hit-clause-tells g c =
     let i = c.self.inside in
     let hit = (some_led (g.H.Hold.entries c.args.cache.now) (g.H.Hold.entries c.look_up.new.cache) _ (rw c.fork.ensures at (of_hit c.look_up.result _ c.in-Ok-Hit.output _ _ c.in-Ok-Hit.is c.in-Ok-Hit.field-0-is c.look_up.ensures.hit))).2.0 in
-    rw (← c.self.view_is) (own_given (record { same_call = g.T.Call.PartialEq.eq; same_answer = g.T.Answer.PartialEq.eq; same_key = g.G.Key.PartialEq.eq; is_write = g.T.Call.Call.is_write; is_clone = g.G.Out.Clone.is_clone; right = IsRight g.G.Memo.means g.G.Memo.writes; naming = g.G.Memo.naming }) g.met.T.Call.Eq.laws g.met.T.Answer.Eq.laws (g.T.Track.answers i.view) (g.met.T.Track.alike i.view) c.self.invariant.agrees hit.pairs hit.writes hit.agrees (gives_itself g.met.T.Call.Eq.laws g.met.T.Answer.Eq.laws hit.pairs hit.writes hit.are_sent) _ refl (λ n r a. (hit.stands n r a).1))
+    rw (← c.self.view_is) (own_given (record { same_call = g.T.Call.PartialEq.eq; same_answer = g.T.Answer.PartialEq.eq; same_key = g.G.Key.PartialEq.eq; is_write = g.T.Call.Call.is_write; is_clone = g.G.Out.Clone.is_clone; right = IsRight g.G.Function.means g.G.Function.writes; naming = g.G.Function.naming }) g.met.T.Call.Eq.laws g.met.T.Answer.Eq.laws (g.T.Track.answers i.view) (g.met.T.Track.alike i.view) c.self.invariant.agrees hit.pairs hit.writes hit.agrees (gives_itself g.met.T.Call.Eq.laws g.met.T.Answer.Eq.laws hit.pairs hit.writes hit.are_sent) _ refl (λ n r a. (hit.stands n r a).1))
 
 pub returns-in-Ok-Hit-clause-hit : goal.returns-in-Ok-Hit-clause-hit
 returns-in-Ok-Hit-clause-hit g c =

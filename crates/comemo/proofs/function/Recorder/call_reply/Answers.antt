@@ -17,7 +17,7 @@ pub returns-clause-tells : goal.returns-clause-tells
 returns-clause-tells g c =
     let i = c.self.inside in
     let k = (some_by (g.H.Hold.entries c.args.cache.now) (g.H.Hold.entries c.args.cache.now) (g.H.Hold.entries c.memoized_view.new.cache) _ c.in_ok-reply.ensures.reply).3 in
-    let t = tells_output _ g.met.T.Call.Eq.laws g.met.T.Answer.Eq.laws _ _ _ _ (g.met.T.Track.alike i.view) refl c.self.invariant.agrees {P = λ output m. g.G.Memo.means c.args.key m output} c.in_ok-reply.reply k (λ n d. d.1) in
+    let t = tells_output _ g.met.T.Call.Eq.laws g.met.T.Answer.Eq.laws _ _ _ _ (g.met.T.Track.alike i.view) refl c.self.invariant.agrees {P = λ output m. g.G.Function.means c.args.key m output} c.in_ok-reply.reply k (λ n d. d.1) in
     rw (← c.self.view_is) (record { same_value = t.same_value; before = t.before; told = t.told; complete = t.complete; fault = tt })
 
 pub returns-in_err-reply-clause-tells : goal.returns-in_err-reply-clause-tells

@@ -11,12 +11,12 @@ use Rattle.comemo.proofs.function.Recorder.call_through.Goals as goal
 pub invariant_of-self-2 : goal.invariant_of-self-2
 invariant_of-self-2 g c =
     let i = c.self.inside in
-    keeps_through g.A.Call.PartialEq.eq g.A.Answer.PartialEq.eq g.T.Call.PartialEq.eq g.T.Answer.PartialEq.eq (g.P.CallMap.maps c.args.map) (g.P.CallMap.maps_answer c.args.map) (g.met.P.CallMap.apart c.args.map) (g.met.P.CallMap.answers_apart c.args.map) g.G.Key.PartialEq.eq g.A.Call.Call.is_write g.G.Out.Clone.is_clone (IsRight g.G.Memo.means g.G.Memo.writes) g.G.Memo.naming g.met.T.Call.Eq.laws g.met.T.Answer.Eq.laws (g.T.Track.answers i.view) (g.met.T.Track.alike i.view) (g.A.Track.answers c.args.of.now) (rw (← c.self.view_is) at c.requires.through) c.args.key _ _ _ c.in_ok-reply.reply {touches = g.T.Call.Call.touches} i.recording _ c.self.invariant (resent (λ P W took. rw c.drop-sink-2.ensures (rw c.new-sink.ensures.value at (rw c.new-sink.ensures.map at took.sent))) (some_by (g.H.Hold.entries c.args.cache.now) (g.H.Hold.entries c.args.cache.now) (g.H.Hold.entries c.memoized_view.new.cache) _ c.in_ok-reply.ensures.reply).3) (λ m writes d. c.requires.reads.alone c.args.key m c.in_ok-reply.reply.output writes d.0)
+    keeps_through g.A.Call.PartialEq.eq g.A.Answer.PartialEq.eq g.T.Call.PartialEq.eq g.T.Answer.PartialEq.eq (g.P.CallMap.maps c.args.map) (g.P.CallMap.maps_answer c.args.map) (g.met.P.CallMap.apart c.args.map) (g.met.P.CallMap.answers_apart c.args.map) g.G.Key.PartialEq.eq g.A.Call.Call.is_write g.G.Out.Clone.is_clone (IsRight g.G.Function.means g.G.Function.writes) g.G.Function.naming g.met.T.Call.Eq.laws g.met.T.Answer.Eq.laws (g.T.Track.answers i.view) (g.met.T.Track.alike i.view) (g.A.Track.answers c.args.of.now) (rw (← c.self.view_is) at c.requires.through) c.args.key _ _ _ c.in_ok-reply.reply {touches = g.T.Call.Call.touches} i.recording _ c.self.invariant (resent (λ P W took. rw c.drop-sink-2.ensures (rw c.new-sink.ensures.value at (rw c.new-sink.ensures.map at took.sent))) (some_by (g.H.Hold.entries c.args.cache.now) (g.H.Hold.entries c.args.cache.now) (g.H.Hold.entries c.memoized_view.new.cache) _ c.in_ok-reply.ensures.reply).3) (λ m writes d. c.requires.reads.alone c.args.key m c.in_ok-reply.reply.output writes d.0)
 
 pub returns-clause-tells : goal.returns-clause-tells
 returns-clause-tells g c =
     let i = c.self.inside in
-    rw (← c.self.view_is) (tells_through g.A.Call.PartialEq.eq g.A.Answer.PartialEq.eq g.T.Call.PartialEq.eq g.T.Answer.PartialEq.eq (g.P.CallMap.maps c.args.map) (g.P.CallMap.maps_answer c.args.map) (g.met.P.CallMap.apart c.args.map) (g.met.P.CallMap.answers_apart c.args.map) g.G.Key.PartialEq.eq g.A.Call.Call.is_write g.G.Out.Clone.is_clone (IsRight g.G.Memo.means g.G.Memo.writes) g.G.Memo.naming g.met.T.Call.Eq.laws g.met.T.Answer.Eq.laws (g.T.Track.answers i.view) (g.met.T.Track.alike i.view) (g.A.Track.answers c.args.of.now) (rw (← c.self.view_is) at c.requires.through) c.args.key _ _ _ c.in_ok-reply.reply {touches = g.T.Call.Call.touches} refl c.self.invariant.agrees (resent (λ P W took. rw c.drop-sink-2.ensures (rw c.new-sink.ensures.value at (rw c.new-sink.ensures.map at took.sent))) (some_by (g.H.Hold.entries c.args.cache.now) (g.H.Hold.entries c.args.cache.now) (g.H.Hold.entries c.memoized_view.new.cache) _ c.in_ok-reply.ensures.reply).3) {P = λ output m. g.G.Memo.means c.args.key m output} (λ m writes d. d.1))
+    rw (← c.self.view_is) (tells_through g.A.Call.PartialEq.eq g.A.Answer.PartialEq.eq g.T.Call.PartialEq.eq g.T.Answer.PartialEq.eq (g.P.CallMap.maps c.args.map) (g.P.CallMap.maps_answer c.args.map) (g.met.P.CallMap.apart c.args.map) (g.met.P.CallMap.answers_apart c.args.map) g.G.Key.PartialEq.eq g.A.Call.Call.is_write g.G.Out.Clone.is_clone (IsRight g.G.Function.means g.G.Function.writes) g.G.Function.naming g.met.T.Call.Eq.laws g.met.T.Answer.Eq.laws (g.T.Track.answers i.view) (g.met.T.Track.alike i.view) (g.A.Track.answers c.args.of.now) (rw (← c.self.view_is) at c.requires.through) c.args.key _ _ _ c.in_ok-reply.reply {touches = g.T.Call.Call.touches} refl c.self.invariant.agrees (resent (λ P W took. rw c.drop-sink-2.ensures (rw c.new-sink.ensures.value at (rw c.new-sink.ensures.map at took.sent))) (some_by (g.H.Hold.entries c.args.cache.now) (g.H.Hold.entries c.args.cache.now) (g.H.Hold.entries c.memoized_view.new.cache) _ c.in_ok-reply.ensures.reply).3) {P = λ output m. g.G.Function.means c.args.key m output} (λ m writes d. d.1))
 
 pub returns-clause-reply : goal.returns-clause-reply
 returns-clause-reply g c = (c.in_ok-reply.reply, refl, rw (← c.self.view_is) (by_map (g.H.Hold.entries c.args.cache.now) (g.H.Hold.entries c.args.cache.now) (g.H.Hold.entries c.memoized_view.new.cache) _ _ (λ es mid es' k. resent (λ P W took. rw c.drop-sink-2.ensures (rw c.new-sink.ensures.value at (rw c.new-sink.ensures.map at took.sent))) k) c.in_ok-reply.ensures.reply))

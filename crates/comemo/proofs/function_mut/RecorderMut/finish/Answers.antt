@@ -3,7 +3,7 @@ use Rattle.comemo_cache.specs.Meaning.{IsRight}
 use Rattle.comemo.proofs.function_mut.RecorderMut.finish.Goals as goal
 
 pub returns-clause-tells : goal.returns-clause-tells
-returns-clause-tells g c = λ s within. of_output c.in_ok-reply.reply (λ o m W. (IsRight g.G.Memo.means g.G.Memo.writes) c.args.key.now m o W) (c.in_ok-reply.ensures.tells s within)
+returns-clause-tells g c = λ s within. of_output c.in_ok-reply.reply (λ o m W. (IsRight g.G.Function.means g.G.Function.writes) c.args.key.now m o W) (c.in_ok-reply.ensures.tells s within)
 
 pub returns-clause-finished : goal.returns-clause-finished
 returns-clause-finished g c =

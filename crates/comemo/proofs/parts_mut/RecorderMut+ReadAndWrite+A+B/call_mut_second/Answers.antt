@@ -46,10 +46,10 @@ shape_of-self g c =
     sym (reply_loan (λ _. second_call) (λ _. second_answer) (Took j.calls (part_touches j.first_touches j.second_touches)) MarkedLate c.new-sink.result c.memoized_mut_with.new.sink (some_by (g.H.Hold.entries c.args.cache.now) (g.H.Hold.entries c.args.cache.now) (g.H.Hold.entries c.memoized_mut_with.new.cache) _ c.in_ok-reply.ensures.reply).3 ∙ c.new-sink.ensures.same_reference)
 
 pub returns-clause-agrees : goal.returns-clause-agrees
-returns-clause-agrees g c = called_second_begun (read_and_write (parts g)) refl refl c.requires.agrees g.G.Key.PartialEq.eq g.G.Out.Clone.is_clone (IsRight g.G.Memo.means g.G.Memo.writes) g.G.Memo.naming c.reveal_reads_and_writes.ensures.reads c.args.key c.in_ok-reply.reply (second_reply (parts g) c.args.self.now.value.now c.memoized_mut_with.new.of c.new-sink.result c.memoized_mut_with.new.sink c.new-sink.ensures.value c.drop.ensures (some_by (g.H.Hold.entries c.args.cache.now) (g.H.Hold.entries c.args.cache.now) (g.H.Hold.entries c.memoized_mut_with.new.cache) _ c.in_ok-reply.ensures.reply).3)
+returns-clause-agrees g c = called_second_begun (read_and_write (parts g)) refl refl c.requires.agrees g.G.Key.PartialEq.eq g.G.Out.Clone.is_clone (IsRight g.G.Function.means g.G.Function.writes) g.G.Function.naming c.reveal_reads_and_writes.ensures.reads c.args.key c.in_ok-reply.reply (second_reply (parts g) c.args.self.now.value.now c.memoized_mut_with.new.of c.new-sink.result c.memoized_mut_with.new.sink c.new-sink.ensures.value c.drop.ensures (some_by (g.H.Hold.entries c.args.cache.now) (g.H.Hold.entries c.args.cache.now) (g.H.Hold.entries c.memoized_mut_with.new.cache) _ c.in_ok-reply.ensures.reply).3)
 
 pub returns-clause-tells : goal.returns-clause-tells
-returns-clause-tells g c = tells_called_second (read_and_write (parts g)) refl refl c.requires.agrees g.G.Key.PartialEq.eq g.G.Out.Clone.is_clone (IsRight g.G.Memo.means g.G.Memo.writes) g.G.Memo.naming c.reveal_reads_and_writes.ensures.reads c.args.key c.in_ok-reply.reply (second_reply (parts g) c.args.self.now.value.now c.memoized_mut_with.new.of c.new-sink.result c.memoized_mut_with.new.sink c.new-sink.ensures.value c.drop.ensures (some_by (g.H.Hold.entries c.args.cache.now) (g.H.Hold.entries c.args.cache.now) (g.H.Hold.entries c.memoized_mut_with.new.cache) _ c.in_ok-reply.ensures.reply).3)
+returns-clause-tells g c = tells_called_second (read_and_write (parts g)) refl refl c.requires.agrees g.G.Key.PartialEq.eq g.G.Out.Clone.is_clone (IsRight g.G.Function.means g.G.Function.writes) g.G.Function.naming c.reveal_reads_and_writes.ensures.reads c.args.key c.in_ok-reply.reply (second_reply (parts g) c.args.self.now.value.now c.memoized_mut_with.new.of c.new-sink.result c.memoized_mut_with.new.sink c.new-sink.ensures.value c.drop.ensures (some_by (g.H.Hold.entries c.args.cache.now) (g.H.Hold.entries c.args.cache.now) (g.H.Hold.entries c.memoized_mut_with.new.cache) _ c.in_ok-reply.ensures.reply).3)
 
 pub returns-clause-reply : goal.returns-clause-reply
 returns-clause-reply g c = (c.in_ok-reply.reply, refl, by_map (g.H.Hold.entries c.args.cache.now) (g.H.Hold.entries c.args.cache.now) (g.H.Hold.entries c.memoized_mut_with.new.cache) _ _ (λ es mid es' k. second_reply (parts g) c.args.self.now.value.now c.memoized_mut_with.new.of c.new-sink.result c.memoized_mut_with.new.sink c.new-sink.ensures.value c.drop.ensures k) c.in_ok-reply.ensures.reply)

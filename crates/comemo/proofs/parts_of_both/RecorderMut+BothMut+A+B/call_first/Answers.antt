@@ -43,10 +43,10 @@ parts g = record {
 }
 
 pub returns-clause-agrees : goal.returns-clause-agrees
-returns-clause-agrees g c = read_first_begun (both_mut (parts g)) refl refl c.requires.agrees g.G.Key.PartialEq.eq g.G.Out.Clone.is_clone (IsRight g.G.Memo.means g.G.Memo.writes) g.G.Memo.naming c.reveal_reads_and_writes.ensures.reads c.args.key c.in_ok-reply.reply (ap (λ v. first_mut_as c.args.self.now.value.now v) c.memoized_part.ensures.same) (λ m writes d. c.requires.reads.alone c.args.key m c.in_ok-reply.reply.output writes d.0) (resent (λ P W took. rw c.drop.ensures (rw c.new-sink.ensures.value at took.sent)) (some_by (g.H.Hold.entries c.args.cache.now) (g.H.Hold.entries c.args.cache.now) (g.H.Hold.entries c.memoized_part.new.cache) _ c.in_ok-reply.ensures.reply).3)
+returns-clause-agrees g c = read_first_begun (both_mut (parts g)) refl refl c.requires.agrees g.G.Key.PartialEq.eq g.G.Out.Clone.is_clone (IsRight g.G.Function.means g.G.Function.writes) g.G.Function.naming c.reveal_reads_and_writes.ensures.reads c.args.key c.in_ok-reply.reply (ap (λ v. first_mut_as c.args.self.now.value.now v) c.memoized_part.ensures.same) (λ m writes d. c.requires.reads.alone c.args.key m c.in_ok-reply.reply.output writes d.0) (resent (λ P W took. rw c.drop.ensures (rw c.new-sink.ensures.value at took.sent)) (some_by (g.H.Hold.entries c.args.cache.now) (g.H.Hold.entries c.args.cache.now) (g.H.Hold.entries c.memoized_part.new.cache) _ c.in_ok-reply.ensures.reply).3)
 
 pub returns-clause-tells : goal.returns-clause-tells
-returns-clause-tells g c = tells_read_first (both_mut (parts g)) refl refl c.requires.agrees g.G.Key.PartialEq.eq g.G.Out.Clone.is_clone (IsRight g.G.Memo.means g.G.Memo.writes) g.G.Memo.naming c.reveal_reads_and_writes.ensures.reads c.args.key c.in_ok-reply.reply (ap (λ v. first_mut_as c.args.self.now.value.now v) c.memoized_part.ensures.same) (λ m writes d. c.requires.reads.alone c.args.key m c.in_ok-reply.reply.output writes d.0) (resent (λ P W took. rw c.drop.ensures (rw c.new-sink.ensures.value at took.sent)) (some_by (g.H.Hold.entries c.args.cache.now) (g.H.Hold.entries c.args.cache.now) (g.H.Hold.entries c.memoized_part.new.cache) _ c.in_ok-reply.ensures.reply).3) (λ part d. d.1)
+returns-clause-tells g c = tells_read_first (both_mut (parts g)) refl refl c.requires.agrees g.G.Key.PartialEq.eq g.G.Out.Clone.is_clone (IsRight g.G.Function.means g.G.Function.writes) g.G.Function.naming c.reveal_reads_and_writes.ensures.reads c.args.key c.in_ok-reply.reply (ap (λ v. first_mut_as c.args.self.now.value.now v) c.memoized_part.ensures.same) (λ m writes d. c.requires.reads.alone c.args.key m c.in_ok-reply.reply.output writes d.0) (resent (λ P W took. rw c.drop.ensures (rw c.new-sink.ensures.value at took.sent)) (some_by (g.H.Hold.entries c.args.cache.now) (g.H.Hold.entries c.args.cache.now) (g.H.Hold.entries c.memoized_part.new.cache) _ c.in_ok-reply.ensures.reply).3) (λ part d. d.1)
 
 pub returns-clause-writes : goal.returns-clause-writes
 returns-clause-writes g c =

@@ -14,7 +14,7 @@ use Rattle.comemo_cache.specs.Meaning.{IsRight}
 use Rattle.comemo.proofs.pending.Pending.finish.Goals.{then-enabled+in_ok-how, else-enabled+in_ok-give_recording}
 
 pub returns-then-not-is_whole-clause-err : goal.returns-then-not-is_whole-clause-err
-returns-then-not-is_whole-clause-err g c = (stays_same (g.H.Hold.entries c.args.cache.now), broken_itself g.met.M.Call.Eq.laws g.met.M.Answer.Eq.laws c.args.self.recording.pairs (breaks_at_once g.met.S.Sink.starts _ _ _ c.spoil.ensures))
+returns-then-not-is_whole-clause-err g c = (stays_same (g.H.Hold.entries c.args.cache.now), broken_itself g.met.M.Of.Call.Eq.laws g.met.M.Of.Answer.Eq.laws c.args.self.recording.pairs (breaks_at_once g.met.S.Sink.starts _ _ _ c.spoil.ensures))
 
 pub end_run-requires-clause-reads : goal.end_run-requires-clause-reads
 end_run-requires-clause-reads g c = rw c.into_parts-reads.ensures.pairs c.into_parts-reads.ensures.are_reads
@@ -43,7 +43,7 @@ pub give_recording-requires-clause-written : goal.give_recording-requires-clause
 give_recording-requires-clause-written g c = rw c.into_parts-reads.ensures.writes c.into_parts-reads.ensures.are_writes
 
 pub returns-in_err-give_recording-clause-err : goal.returns-in_err-give_recording-clause-err
-returns-in_err-give_recording-clause-err g c = on_err c.from_residual-in_err-give_recording.result (stays_same (g.H.Hold.entries c.args.cache.now), rw (← c.self.view_is, ← c.into_parts-reads.ensures.pairs) (broken_itself g.met.M.Call.Eq.laws g.met.M.Answer.Eq.laws c.into_parts-reads.result.0.pairs c.in_err-give_recording.ensures.err))
+returns-in_err-give_recording-clause-err g c = on_err c.from_residual-in_err-give_recording.result (stays_same (g.H.Hold.entries c.args.cache.now), rw (← c.self.view_is, ← c.into_parts-reads.ensures.pairs) (broken_itself g.met.M.Of.Call.Eq.laws g.met.M.Of.Answer.Eq.laws c.into_parts-reads.result.0.pairs c.in_err-give_recording.ensures.err))
 
 pub returns-in_err-how-clause-err : goal.returns-in_err-how-clause-err
 returns-in_err-how-clause-err g c = on_err c.from_residual-in_err-how.result (rw (← c.self.view_is, ← c.into_parts-reads.ensures.pairs) c.in_err-how.ensures.err)
@@ -53,7 +53,7 @@ returns-clause-finished g c =
     let early : c.args.self.recording.late ≡ false = ap (λ (s : PendingRun _ _ _). s.recording.late) (sym c.self.view_is) ∙ sym c.is_late.ensures ∙ c.if-is_late.false in
     let complete : c.args.self.recording.complete ≡ true = ap (λ (s : PendingRun _ _ _). s.recording.complete) (sym c.self.view_is) ∙ sym c.is_whole.ensures ∙ c.if-not-is_whole.false in
     let own : c.args.self.enabled ≡ c.self.inside.enabled = ap (λ (s : PendingRun _ _ _). s.enabled) (sym c.self.view_is) in
-    let M : Meaning g.row.M-Key.Denot g.row.M-Call.Denot g.row.M-Answer.Denot g.row.M-Out.Denot = record { same_call = g.M.Call.PartialEq.eq; same_answer = g.M.Answer.PartialEq.eq; same_key = g.M.Key.PartialEq.eq; is_write = g.M.Call.Call.is_write; is_clone = g.M.Out.Clone.is_clone; right = IsRight g.M.Memo.means g.M.Memo.writes; naming = g.M.Memo.naming } in
+    let M : Meaning g.row.M-Key.Denot g.row.M-Of-Call.Denot g.row.M-Of-Answer.Denot g.row.M-Out.Denot = record { same_call = g.M.Of.Call.PartialEq.eq; same_answer = g.M.Of.Answer.PartialEq.eq; same_key = g.M.Key.PartialEq.eq; is_write = g.M.Of.Call.Call.is_write; is_clone = g.M.Out.Clone.is_clone; right = IsRight g.M.Function.means g.M.Function.writes; naming = g.M.Function.naming } in
     let ends : Leads (g.H.Hold.entries c.args.cache.now) (g.H.Hold.entries c.if-enabled.cache) (λ es es'. Ends M es (came_to c.args.self c.args.output) c.if-enabled.how es') =
     elim c.if-enabled.branch [
       | then-enabled+in_ok-how w ↦ rw (← c.self.view_is, ← c.into_parts-reads.ensures.pairs, ← c.into_parts-reads.ensures.writes, w.how-is, w.cache-is) w.in_ok-how.ensures.ends
@@ -75,7 +75,7 @@ returns-clause-finished g c =
       gives = gives_as_early g.S.Sink.took g.S.Sink.lates c.args.self.recording.late early (elim c.if-enabled.branch [
         | then-enabled+in_ok-how w ↦ rw (← c.self.view_is, ← c.into_parts-reads.ensures.pairs, ← c.into_parts-reads.ensures.writes, w.sink-is) w.in_ok-how.ensures.gives
         | else-enabled+in_ok-give_recording w ↦
-            rw (← c.self.view_is, ← c.into_parts-reads.ensures.pairs, ← c.into_parts-reads.ensures.writes, w.sink-is) (gives_itself g.met.M.Call.Eq.laws g.met.M.Answer.Eq.laws c.into_parts-reads.result.0.pairs c.into_parts-reads.result.1.items w.in_ok-give_recording.ensures.ok)
+            rw (← c.self.view_is, ← c.into_parts-reads.ensures.pairs, ← c.into_parts-reads.ensures.writes, w.sink-is) (gives_itself g.met.M.Of.Call.Eq.laws g.met.M.Of.Answer.Eq.laws c.into_parts-reads.result.0.pairs c.into_parts-reads.result.1.items w.in_ok-give_recording.ensures.ok)
       ]);
     }) ends
 
@@ -90,8 +90,8 @@ returns-then-is_late-clause-finished g c =
       late = (λ h. late, λ h. refl);
       disabled = (λ h. let f : how.Late ≡ how.Disabled = h in cc, λ h. let f : true ≡ false = sym late ∙ h.1 in cc);
       settled = c.requires.settled complete;
-      gives = rw (← c.self.view_is) (gives_itself g.met.M.Call.Eq.laws g.met.M.Answer.Eq.laws c.self.inside.recording.pairs c.self.inside.recording.writes (subst (λ b. TookAs g.S.Sink.took g.S.Sink.lates b c.args.sink.now c.give_late.new.sink c.self.inside.recording.pairs c.self.inside.recording.writes) (sym (sym c.is_late.ensures ∙ c.if-is_late.true)) c.in_ok-give_late.ensures.ok));
+      gives = rw (← c.self.view_is) (gives_itself g.met.M.Of.Call.Eq.laws g.met.M.Of.Answer.Eq.laws c.self.inside.recording.pairs c.self.inside.recording.writes (subst (λ b. TookAs g.S.Sink.took g.S.Sink.lates b c.args.sink.now c.give_late.new.sink c.self.inside.recording.pairs c.self.inside.recording.writes) (sym (sym c.is_late.ensures ∙ c.if-is_late.true)) c.in_ok-give_late.ensures.ok));
     })
 
 pub returns-in_err-give_late-clause-err : goal.returns-in_err-give_late-clause-err
-returns-in_err-give_late-clause-err g c = on_err c.from_residual.result (stays_same (g.H.Hold.entries c.args.cache.now), rw (← c.self.view_is) (broken_itself g.met.M.Call.Eq.laws g.met.M.Answer.Eq.laws c.self.inside.recording.pairs c.in_err-give_late.ensures.err))
+returns-in_err-give_late-clause-err g c = on_err c.from_residual.result (stays_same (g.H.Hold.entries c.args.cache.now), rw (← c.self.view_is) (broken_itself g.met.M.Of.Call.Eq.laws g.met.M.Of.Answer.Eq.laws c.self.inside.recording.pairs c.in_err-give_late.ensures.err))

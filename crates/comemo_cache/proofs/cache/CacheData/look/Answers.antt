@@ -31,32 +31,32 @@ returns-clause-found g c =
     let h = rw (c.self.view_is, c.in-Ok-Some.is, c.in-Ok-Some.field-0-is) at c.find_agreeing.ensures.found in
     let value = c.kept.view_is ∙ sym h.4.2 in
     let output = subst (λ (v : Kept _ _). g.M.Out.Clone.is_clone v.output c.in_ok-output.output) value c.in_ok-output.ensures.cases in
-    let writes = subst (λ (v : Kept _ _). SameWrites g.M.Call.PartialEq.eq v.writes c.in_ok-writes.writes.items) value (SameWrites-cloned g.M.Call.PartialEq.eq g.M.Call.Clone.is_clone g.met.M.Call.Call.clones _ _ c.in_ok-writes.ensures.cases.0) in
+    let writes = subst (λ (v : Kept _ _). SameWrites g.M.Of.Call.PartialEq.eq v.writes c.in_ok-writes.writes.items) value (SameWrites-cloned g.M.Of.Call.PartialEq.eq g.M.Of.Call.Clone.is_clone g.met.M.Of.Call.Call.clones _ _ c.in_ok-writes.ensures.cases.0) in
     (h.0, h.1, h.2, h.3, ((h.4.0, h.4.1, output, writes), sym (ap (λ (v : Kept _ _). v.age) value)))
 
 pub returns-clause-stands : goal.returns-clause-stands
 returns-clause-stands g c =
-    let M : Meaning g.row.M-Key.Denot g.row.M-Call.Denot g.row.M-Answer.Denot g.row.M-Out.Denot = record { same_call = g.M.Call.PartialEq.eq; same_answer = g.M.Answer.PartialEq.eq; same_key = g.M.Key.PartialEq.eq; is_write = g.M.Call.Call.is_write; is_clone = g.M.Out.Clone.is_clone; right = IsRight g.M.Memo.means g.M.Memo.writes; naming = g.M.Memo.naming } in
+    let M : Meaning g.row.M-Key.Denot g.row.M-Of-Call.Denot g.row.M-Of-Answer.Denot g.row.M-Out.Denot = record { same_call = g.M.Of.Call.PartialEq.eq; same_answer = g.M.Of.Answer.PartialEq.eq; same_key = g.M.Key.PartialEq.eq; is_write = g.M.Of.Call.Call.is_write; is_clone = g.M.Out.Clone.is_clone; right = IsRight g.M.Function.means g.M.Function.writes; naming = g.M.Function.naming } in
     let h = Any-from_under g.M.Key.PartialEq.eq _ c.args.key.now _ (rw (c.in-Ok-Some.is, c.in-Ok-Some.field-0-is) at c.find_agreeing.ensures.found) in
     let value = c.kept.view_is ∙ sym h.4.1.2 in
     let output = subst (λ (v : Kept _ _). g.M.Out.Clone.is_clone v.output c.in_ok-output.output) value c.in_ok-output.ensures.cases in
-    let writes = subst (λ (v : Kept _ _). SameWrites g.M.Call.PartialEq.eq v.writes c.in_ok-writes.writes.items) value (SameWrites-cloned g.M.Call.PartialEq.eq g.M.Call.Clone.is_clone g.met.M.Call.Call.clones _ _ c.in_ok-writes.ensures.cases.0) in
+    let writes = subst (λ (v : Kept _ _). SameWrites g.M.Of.Call.PartialEq.eq v.writes c.in_ok-writes.writes.items) value (SameWrites-cloned g.M.Of.Call.PartialEq.eq g.M.Of.Call.Clone.is_clone g.met.M.Of.Call.Call.clones _ _ c.in_ok-writes.ensures.cases.0) in
     let legal = subst (λ e. IsLegal M e) h.3 (c.self.invariant h.0 h.1 h.2) in
-    Stands-found M g.met.M.Call.Eq.laws g.met.M.Answer.Eq.laws g.met.M.Memo.laws.keys g.met.M.Memo.laws.outputs g.met.M.Memo.laws.writes h.1 c.args.key.now c.in-Ok-Some.pairs.items c.in_ok-output.output c.in_ok-writes.writes.items legal h.4.0 h.4.1.1 output writes
+    Stands-found M g.met.M.Of.Call.Eq.laws g.met.M.Of.Answer.Eq.laws g.met.M.Function.laws.keys g.met.M.Function.laws.outputs g.met.M.Function.laws.writes h.1 c.args.key.now c.in-Ok-Some.pairs.items c.in_ok-output.output c.in_ok-writes.writes.items legal h.4.0 h.4.1.1 output writes
 
 pub returns-clause-reads : goal.returns-clause-reads
 returns-clause-reads g c =
-    let M : Meaning g.row.M-Key.Denot g.row.M-Call.Denot g.row.M-Answer.Denot g.row.M-Out.Denot = record { same_call = g.M.Call.PartialEq.eq; same_answer = g.M.Answer.PartialEq.eq; same_key = g.M.Key.PartialEq.eq; is_write = g.M.Call.Call.is_write; is_clone = g.M.Out.Clone.is_clone; right = IsRight g.M.Memo.means g.M.Memo.writes; naming = g.M.Memo.naming } in
+    let M : Meaning g.row.M-Key.Denot g.row.M-Of-Call.Denot g.row.M-Of-Answer.Denot g.row.M-Out.Denot = record { same_call = g.M.Of.Call.PartialEq.eq; same_answer = g.M.Of.Answer.PartialEq.eq; same_key = g.M.Key.PartialEq.eq; is_write = g.M.Of.Call.Call.is_write; is_clone = g.M.Out.Clone.is_clone; right = IsRight g.M.Function.means g.M.Function.writes; naming = g.M.Function.naming } in
     let h = Any-from_under g.M.Key.PartialEq.eq _ c.args.key.now _ (rw (c.in-Ok-Some.is, c.in-Ok-Some.field-0-is) at c.find_agreeing.ensures.found) in
     let legal = subst (λ e. IsLegal M e) h.3 (c.self.invariant h.0 h.1 h.2) in
-    reads_same g.M.Call.PartialEq.eq g.M.Answer.PartialEq.eq g.M.Call.Call.is_write g.met.M.Call.Call.same_kind c.in-Ok-Some.pairs.items h.1.path h.4.1.1 legal.reads
+    reads_same g.M.Of.Call.PartialEq.eq g.M.Of.Answer.PartialEq.eq g.M.Of.Call.Call.is_write g.met.M.Of.Call.Call.same_kind c.in-Ok-Some.pairs.items h.1.path h.4.1.1 legal.reads
 
 pub returns-clause-settled : goal.returns-clause-settled
 returns-clause-settled g c =
-    let M : Meaning g.row.M-Key.Denot g.row.M-Call.Denot g.row.M-Answer.Denot g.row.M-Out.Denot = record { same_call = g.M.Call.PartialEq.eq; same_answer = g.M.Answer.PartialEq.eq; same_key = g.M.Key.PartialEq.eq; is_write = g.M.Call.Call.is_write; is_clone = g.M.Out.Clone.is_clone; right = IsRight g.M.Memo.means g.M.Memo.writes; naming = g.M.Memo.naming } in
+    let M : Meaning g.row.M-Key.Denot g.row.M-Of-Call.Denot g.row.M-Of-Answer.Denot g.row.M-Out.Denot = record { same_call = g.M.Of.Call.PartialEq.eq; same_answer = g.M.Of.Answer.PartialEq.eq; same_key = g.M.Key.PartialEq.eq; is_write = g.M.Of.Call.Call.is_write; is_clone = g.M.Out.Clone.is_clone; right = IsRight g.M.Function.means g.M.Function.writes; naming = g.M.Function.naming } in
     let h = Any-from_under g.M.Key.PartialEq.eq _ c.args.key.now _ (rw (c.in-Ok-Some.is, c.in-Ok-Some.field-0-is) at c.find_agreeing.ensures.found) in
     let legal = subst (λ e. IsLegal M e) h.3 (c.self.invariant h.0 h.1 h.2) in
-    named_found g.met.M.Call.Eq.laws g.met.M.Answer.Eq.laws g.met.M.Key.Eq.laws g.M.Memo.naming h.1.key c.args.key.now h.1.path c.in-Ok-Some.pairs.items h.4.0 h.4.1.1 legal.settled
+    named_found g.met.M.Of.Call.Eq.laws g.met.M.Of.Answer.Eq.laws g.met.M.Key.Eq.laws g.M.Function.naming h.1.key c.args.key.now h.1.path c.in-Ok-Some.pairs.items h.4.0 h.4.1.1 legal.settled
 
 pub returns-in-Ok-None-clause-asked : goal.returns-in-Ok-None-clause-asked
 returns-in-Ok-None-clause-asked g c =
@@ -65,9 +65,9 @@ returns-in-Ok-None-clause-asked g c =
 
 pub returns-clause-written : goal.returns-clause-written
 returns-clause-written g c =
-    let M : Meaning g.row.M-Key.Denot g.row.M-Call.Denot g.row.M-Answer.Denot g.row.M-Out.Denot = record { same_call = g.M.Call.PartialEq.eq; same_answer = g.M.Answer.PartialEq.eq; same_key = g.M.Key.PartialEq.eq; is_write = g.M.Call.Call.is_write; is_clone = g.M.Out.Clone.is_clone; right = IsRight g.M.Memo.means g.M.Memo.writes; naming = g.M.Memo.naming } in
+    let M : Meaning g.row.M-Key.Denot g.row.M-Of-Call.Denot g.row.M-Of-Answer.Denot g.row.M-Out.Denot = record { same_call = g.M.Of.Call.PartialEq.eq; same_answer = g.M.Of.Answer.PartialEq.eq; same_key = g.M.Key.PartialEq.eq; is_write = g.M.Of.Call.Call.is_write; is_clone = g.M.Out.Clone.is_clone; right = IsRight g.M.Function.means g.M.Function.writes; naming = g.M.Function.naming } in
     let h = Any-from_under g.M.Key.PartialEq.eq _ c.args.key.now _ (rw (c.in-Ok-Some.is, c.in-Ok-Some.field-0-is) at c.find_agreeing.ensures.found) in
     let value = c.kept.view_is ∙ sym h.4.1.2 in
-    let writes = subst (λ (v : Kept _ _). SameWrites g.M.Call.PartialEq.eq v.writes c.in_ok-writes.writes.items) value (SameWrites-cloned g.M.Call.PartialEq.eq g.M.Call.Clone.is_clone g.met.M.Call.Call.clones _ _ c.in_ok-writes.ensures.cases.0) in
+    let writes = subst (λ (v : Kept _ _). SameWrites g.M.Of.Call.PartialEq.eq v.writes c.in_ok-writes.writes.items) value (SameWrites-cloned g.M.Of.Call.PartialEq.eq g.M.Of.Call.Clone.is_clone g.met.M.Of.Call.Call.clones _ _ c.in_ok-writes.ensures.cases.0) in
     let legal = subst (λ e. IsLegal M e) h.3 (c.self.invariant h.0 h.1 h.2) in
-    written_same g.M.Call.PartialEq.eq g.M.Call.Call.is_write g.met.M.Call.Call.same_kind h.1.value.writes c.in_ok-writes.writes.items writes legal.written
+    written_same g.M.Of.Call.PartialEq.eq g.M.Of.Call.Call.is_write g.met.M.Of.Call.Call.same_kind h.1.value.writes c.in_ok-writes.writes.items writes legal.written

@@ -21,7 +21,7 @@ loop-step-init g c =
 
 pub loop-step-preserved : goal.loop-step-preserved
 loop-step-preserved g c =
-    let M : Meaning g.row.M-Key.Denot g.row.M-Call.Denot g.row.M-Answer.Denot g.row.M-Out.Denot = record { same_call = g.M.Call.PartialEq.eq; same_answer = g.M.Answer.PartialEq.eq; same_key = g.M.Key.PartialEq.eq; is_write = g.M.Call.Call.is_write; is_clone = g.M.Out.Clone.is_clone; right = IsRight g.M.Memo.means g.M.Memo.writes; naming = g.M.Memo.naming } in
+    let M : Meaning g.row.M-Key.Denot g.row.M-Of-Call.Denot g.row.M-Of-Answer.Denot g.row.M-Out.Denot = record { same_call = g.M.Of.Call.PartialEq.eq; same_answer = g.M.Of.Answer.PartialEq.eq; same_key = g.M.Key.PartialEq.eq; is_write = g.M.Of.Call.Call.is_write; is_clone = g.M.Out.Clone.is_clone; right = IsRight g.M.Function.means g.M.Function.writes; naming = g.M.Function.naming } in
     let i = c.loop-step.invariant in
     let step = c.in-Some.ensures.steps.0 in
     record {
@@ -34,5 +34,5 @@ loop-step-preserved g c =
 
 pub returns-clause-ok : goal.returns-clause-ok
 returns-clause-ok g c =
-    let M : Meaning g.row.M-Key.Denot g.row.M-Call.Denot g.row.M-Answer.Denot g.row.M-Out.Denot = record { same_call = g.M.Call.PartialEq.eq; same_answer = g.M.Answer.PartialEq.eq; same_key = g.M.Key.PartialEq.eq; is_write = g.M.Call.Call.is_write; is_clone = g.M.Out.Clone.is_clone; right = IsRight g.M.Memo.means g.M.Memo.writes; naming = g.M.Memo.naming } in
+    let M : Meaning g.row.M-Key.Denot g.row.M-Of-Call.Denot g.row.M-Of-Answer.Denot g.row.M-Out.Denot = record { same_call = g.M.Of.Call.PartialEq.eq; same_answer = g.M.Of.Answer.PartialEq.eq; same_key = g.M.Key.PartialEq.eq; is_write = g.M.Of.Call.Call.is_write; is_clone = g.M.Out.Clone.is_clone; right = IsRight g.M.Function.means g.M.Function.writes; naming = g.M.Function.naming } in
     all_done M _ _ _ _ _ (nil_from_length _ (sym c.loop-step.invariant.count ∙ c.in-None.ensures.steps.0)) c.loop-step.invariant.so_far
