@@ -7,7 +7,7 @@ ghost use Rattle.comemo_examples.specs.Compared.{all_equal};
 
 use crate::{Cells, Get};
 use comemo::internal::Told;
-use comemo::{Begun, Both, Fault, Function, Hold, MultiAnswer, MultiCall, Recorder};
+use comemo::{Begun, Both, Fault, Function, Hold, Recorder};
 
 /// Whether the first cells of two values are equal, place by place.
 pub struct AllEqual;

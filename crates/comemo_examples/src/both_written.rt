@@ -5,7 +5,7 @@ ghost use Rattle.comemo.specs.MeaningLaws.{exact_laws};
 
 use crate::adding::Adds;
 use crate::{Counter, CounterCall, Notebook, NotebookCall};
-use comemo::{BothMut, CacheData, Fault, Function, MultiAnswer, MultiCall, RecorderMut, RunMut};
+use comemo::{BothMut, CacheData, Fault, Function, RecorderMut, RunMut};
 
 /// Notes the number of a counter in a notebook, and adds to the counter by `Adds`. Returns the noted number.
 pub struct NotesAndAdds;

@@ -6,9 +6,7 @@ ghost use Rattle.comemo.specs.MeaningLaws.{exact_laws};
 use crate::adding::Adds;
 use crate::warmth::Warmth;
 use crate::{Counter, CounterCall, Town, TownCall};
-use comemo::{
-    CacheData, Fault, Function, MultiAnswer, MultiCall, ReadAndWrite, RecorderMut, RunMut,
-};
+use comemo::{CacheData, Fault, Function, ReadAndWrite, RecorderMut, RunMut};
 
 /// Adds the degrees of a town to a counter, and returns them.
 ///

@@ -4,7 +4,7 @@ ghost use Rattle.std.proofs.Common.{rules};
 
 use crate::passes::Passes;
 use crate::warmth::Warmth;
-use crate::{Town, TownCall};
+use crate::Town;
 use comemo::{CacheData, Fault, Function, Recorder, Run};
 
 /// The caches of the functions that a report calls: of `Passes`, and of `Warmth`.

@@ -4,7 +4,7 @@ ghost use Rattle.std.proofs.Common.{rules};
 
 use crate::warmth::Warmth;
 use crate::{Town, TownCall};
-use comemo::{Both, CacheData, Fault, Function, MultiAnswer, MultiCall, Recorder, Run};
+use comemo::{Both, CacheData, Fault, Function, Recorder, Run};
 
 /// Whether the first of two towns is warmer than the second. Asks each for its degrees, the first one first.
 pub struct IsWarmer;

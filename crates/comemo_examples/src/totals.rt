@@ -7,10 +7,7 @@ ghost use Rattle.comemo_examples.specs.Totals.{total, notes};
 
 use crate::{Cells, Get, Notebook, NotebookCall};
 use comemo::internal::{Meant, Told, ToldMut};
-use comemo::{
-    Begun, CacheData, Fault, Function, Hold, MultiAnswer, MultiCall, ReadAndWrite, RecorderMut,
-    RunMut,
-};
+use comemo::{Begun, CacheData, Fault, Function, Hold, ReadAndWrite, RecorderMut, RunMut};
 
 /// The total of the first cells, modulo 2^64, with the totals up to it noted in a notebook.
 pub struct RunningTotal;

@@ -6,7 +6,7 @@ ghost use Rattle.comemo_sheet.specs.Sheets.{number_in};
 ghost use Rattle.comemo_sheet.specs.SheetLaws.{number_alike};
 ghost use Rattle.comemo_sheet.specs.declared.sheet.SheetCall.TheVariants.{Cell};
 
-use crate::sheet::{Content, Sheet, SheetCall};
+use crate::sheet::{Sheet, SheetCall};
 use comemo::{Fault, Function, Recorder, Run};
 
 /// The number that a cell holds itself; 0 if none.

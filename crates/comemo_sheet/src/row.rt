@@ -6,7 +6,7 @@ ghost use Rattle.comemo_sheet.specs.Totals.{plus, total_of};
 ghost use Rattle.comemo_sheet.specs.TotalLaws.{total_alike};
 ghost use Rattle.comemo.proofs.Texts.{texts_clone};
 
-use crate::sheet::{Content, Sheet, SheetCall};
+use crate::sheet::{Sheet, SheetCall};
 use comemo::{Fault, Function, Recorder, Run};
 
 /// The sum of the numbers that the cells of these names hold, which wraps at 64 bits.

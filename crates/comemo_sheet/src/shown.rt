@@ -6,8 +6,8 @@ ghost use Rattle.comemo_sheet.specs.Shown.{shown};
 
 use crate::number::NumberIn;
 use crate::settings::{Setting, Settings, SettingsCall};
-use crate::sheet::{Content, Sheet, SheetCall};
-use comemo::{Both, Fault, Function, Hold, MultiAnswer, MultiCall, Recorder, Run};
+use crate::sheet::Sheet;
+use comemo::{Both, Fault, Function, Hold, Recorder, Run};
 use std::marker::PhantomData;
 
 /// A number as it is shown: 0 if it is negative and those are hidden.

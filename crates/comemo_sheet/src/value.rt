@@ -8,7 +8,7 @@ ghost use Rattle.comemo_sheet.specs.Values.{both, value_of};
 ghost use Rattle.comemo_sheet.specs.ValueLaws.{value_alike};
 
 use crate::row::add;
-use crate::sheet::{Content, Sheet, SheetCall};
+use crate::sheet::{Sheet, SheetCall};
 use comemo::internal::Told;
 use comemo::{Begun, Fault, Function, Hold, Recorder, Track};
 use std::alloc::Global;

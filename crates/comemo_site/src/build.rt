@@ -16,10 +16,7 @@ use crate::tally::Tally;
 use crate::text::Text;
 use crate::title::Title;
 use crate::warns::Warns;
-use comemo::{
-    Begun, CacheData, Fault, Function, Hold, MultiAnswer, MultiCall, ReadAndWrite, RecorderMut,
-    RunMut,
-};
+use comemo::{Begun, CacheData, Fault, Function, Hold, ReadAndWrite, RecorderMut, RunMut};
 use std::alloc::Global;
 
 /// The HTML of a page, with the pages that it includes down to a limit, and the warnings about them.

@@ -10,13 +10,11 @@ ghost use Rattle.comemo_site.specs.declared.site.SiteCall.TheVariants.{TitleOf};
 
 use crate::html::Rendered;
 use crate::log::{Log, Warning};
-use crate::site::{Site, SiteAnswer, SiteCall};
+use crate::site::Site;
 use crate::text::Text;
 use crate::title::Title;
 use crate::warns::Warns;
-use comemo::{
-    CacheData, Fault, Function, Hold, MultiAnswer, MultiCall, ReadAndWrite, RecorderMut, RunMut,
-};
+use comemo::{CacheData, Fault, Function, Hold, ReadAndWrite, RecorderMut, RunMut};
 use std::alloc::Global;
 
 /// A link to the page of a name: its title, or the name and a warning if there is no such page.

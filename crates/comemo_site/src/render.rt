@@ -8,7 +8,7 @@ ghost use Rattle.comemo_site.specs.Pages.{block_html, page_html};
 
 use crate::block::Block;
 use crate::html::{Html, Rendered};
-use crate::site::{Site, SiteAnswer, SiteCall};
+use crate::site::{Site, SiteCall};
 use crate::text::Text;
 use crate::title::Title;
 use comemo::internal::Told;

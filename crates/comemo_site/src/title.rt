@@ -4,7 +4,7 @@ ghost use Rattle.std.proofs.Common.{rules};
 ghost use Rattle.comemo_site.specs.Sites.{title_in};
 ghost use Rattle.comemo_site.specs.declared.site.SiteCall.TheVariants.{TitleOf};
 
-use crate::site::{Site, SiteAnswer, SiteCall};
+use crate::site::{Site, SiteCall};
 use crate::text::Text;
 use comemo::{Fault, Function, Recorder, Run};
 

@@ -4,10 +4,7 @@ ghost use Rattle.std.proofs.Common.{rules};
 ghost use Rattle.comemo.specs.Function.{WritesNone};
 
 use crate::inputs::LocationOf;
-use comemo::{
-    Both, CacheData, Constraint, Fault, Function, MultiAnswer, MultiCall, Recorder, Run, Sink, Top,
-    Track, View, memoize, memoized_with,
-};
+use comemo::{Both, CacheData, Constraint, Fault, Function, Recorder, Run, Sink, Top, Track, View, memoize, memoized_with};
 use comemo_examples::{Context, ContextCall};
 use std::alloc::Global;
 
