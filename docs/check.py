@@ -212,7 +212,7 @@ def check_layers():
     """The rows of the table of layers: the code of these crates and modules, but for what they hand on, has none of these words."""
     where = "docs/ARCHITECTURE.md"
     table = read(ROOT / where).partition("| Crates | Never name |")[2].partition("\n\n")[0]
-    rows = [re.findall(r"`([\w/]+)`", cell) for row in map(cells, table.splitlines()) if len(row) > 1 for cell in row[:2]]
+    rows = [re.findall(r"`([\w/]+)(?:\.rt)?`", cell) for row in map(cells, table.splitlines()) if len(row) > 1 for cell in row[:2]]
     if not rows:
         say(where, "no table of layers")
     for crates, words in zip(rows[::2], rows[1::2]):

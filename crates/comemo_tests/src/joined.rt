@@ -5,7 +5,7 @@ ghost use Rattle.comemo.specs.Multi.{OnParts};
 ghost use Rattle.comemo.specs.MeaningLaws.{none_alike};
 
 use comemo::internal::{First, Hashed, Input, Multi, Second};
-use comemo::{Begun, CacheData, Fault, Function, How, Reply, Top, Track, View, begin};
+use comemo::{Begun, Both, CacheData, Fault, Function, How, Reply, Top, Track, View, begin};
 use comemo_examples::{Context, ContextCall};
 use std::alloc::Global;
 

@@ -4,7 +4,7 @@ ghost use Rattle.std.proofs.Common.{rules};
 ghost use Rattle.comemo.specs.MeaningLaws.{exact_laws};
 
 use comemo::{Fault, Function, RecorderMut, RunMut};
-use comemo_examples::{Notebook, NotebookCall};
+use comemo_examples::{Counter, Notebook, NotebookCall};
 
 /// Notes a number, the owner's number, and the first number again. Returns the owner's number.
 pub struct NotesThree;
