@@ -19,20 +19,29 @@ use crate::warns::Warns;
 use comemo::{Begun, CacheData, Fault, Function, Hold, ReadAndWrite, RecorderMut, RunMut};
 use std::alloc::Global;
 
+/// A page, and down to which depth the pages that it includes belong to it.
+#[derive(Clone, Drop, Debug, PartialEq, Eq, Hash)]
+pub struct PageKey {
+    /// The name of the page.
+    pub name: Text,
+    /// The depth.
+    pub limit: u64,
+}
+
 /// The HTML of a page, with the pages that it includes down to a limit, and the warnings about them.
 pub struct Build;
 
 impl Function for Build {
-    type Key = (Text, u64);
+    type Key = PageKey;
 
     type Of = ReadAndWrite<'static, Site, Log>;
 
     type Out = Rendered;
 
-    ghost means = { λ key m html. OnSite m (λ site. html ≡ page_html site key.1 key.0) };
+    ghost means = { λ key m html. OnSite m (λ site. html ≡ page_html site key.limit key.name) };
 
     ghost writes = { λ key m _ W. OnSite m
-        (λ site. W ≡ map second_call (page_warnings site key.1 key.0)) };
+        (λ site. W ≡ map second_call (page_warnings site key.limit key.name)) };
 
     ghost laws = { exact_laws (Prim.search rules) };
 }
@@ -62,7 +71,7 @@ pub fn built<'a, B: Hold<Build>, T: Hold<Title>>(
         both.write_second(Warning::TooDeep(name))?;
         return Ok(Rendered::new());
     }
-    let key = (name, limit);
+    let key = PageKey { name, limit };
     let run = match both.begin(&mut kept.0, &key)? {
         Begun::Hit(html) => {
             tally.count_hit();
@@ -71,7 +80,7 @@ pub fn built<'a, B: Hold<Build>, T: Hold<Title>>(
         Begun::Run(run) => run,
     };
     tally.count_run();
-    let ran = draft(alloc, kept, tally, &key.0, limit - 1, both);
+    let ran = draft(alloc, kept, tally, &key.name, limit - 1, both);
     both.finish(&mut kept.0, &key, run, ran)
 }
 
@@ -139,7 +148,7 @@ fn block_built<'a, B: Hold<Build>, T: Hold<Title>>(
 pub struct Publish;
 
 impl Function for Publish {
-    type Key = (Text, u64);
+    type Key = PageKey;
 
     type Of = ReadAndWrite<'static, Site, Log>;
 
@@ -154,11 +163,18 @@ impl Function for Publish {
 
 impl<'a> RunMut<ReadAndWrite<'a, Site, Log>, (Global, Built)> for Publish {
     fn run(
-        key: &(Text, u64),
+        key: &PageKey,
         both: &mut RecorderMut<'_, '_, ReadAndWrite<'a, Site, Log>>,
         needs: &mut (Global, Built),
     ) -> Result<Rendered, Fault> {
         let (alloc, kept) = needs;
-        built(*alloc, kept, &mut Tally::new(), key.0.clone()?, key.1, both)
+        built(
+            *alloc,
+            kept,
+            &mut Tally::new(),
+            key.name.clone()?,
+            key.limit,
+            both,
+        )
     }
 }

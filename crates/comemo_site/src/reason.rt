@@ -7,7 +7,7 @@ ghost use Rattle.comemo.specs.Explaining.{Explains};
 ghost use Rattle.comemo_site.specs.Reasons.{reason_of, reason_text};
 ghost use Rattle.comemo_site.specs.Sites.{site_answer};
 
-use crate::build::Build;
+use crate::build::{Build, PageKey};
 use crate::log::{Log, Warning};
 use crate::site::{Site, SiteAnswer, SiteCall};
 use crate::text::Text;
@@ -78,7 +78,8 @@ pub fn reason_now<B: Hold<Build>>(
 ) -> Result<Option<Reason>, AllocError>
     ensures { IfOk result (λ reason. (said : _) × (reason ≡ reason_of said)
         × Held (B.entries cache.old) (λ es. Explains ⟦<Build as Meant>⟧.meaning es
-        (invocation (name.now, limit) (part_answers (site_answer site.now.pages) (λ _. tt)) true)
+        (invocation (record { name = name.now; limit = limit })
+        (part_answers (site_answer site.now.pages) (λ _. tt)) true)
         said)) }
 {
     let mut log = Log::new(alloc);
@@ -86,7 +87,10 @@ pub fn reason_now<B: Hold<Build>>(
         first: site.view(alloc),
         second: &mut log,
     };
-    let key = (name.clone()?, limit);
+    let key = PageKey {
+        name: name.clone()?,
+        limit,
+    };
     let said = explain(alloc, cache, &key, &both)?;
     Ok(Reason::of(said))
 }
