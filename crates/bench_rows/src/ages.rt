@@ -29,7 +29,7 @@ impl Function for Null {
 }
 
 impl Run<(), ()> for Null {
-    fn run(_key: &(), _of: &mut Recorder<'_, ()>, _needs: &mut ()) -> Result<u64, Fault> {
+    fn run(_: &(), _: &mut Recorder<'_, ()>, _: &mut ()) -> Result<u64, Fault> {
         Ok(0)
     }
 }

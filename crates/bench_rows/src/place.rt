@@ -1,8 +1,8 @@
 //! A tracked value with two reads, which counts how often it is asked.
-ghost use Rattle.std.specs.Prelude.{false, refl};
+ghost use Rattle.std.specs.Prelude.{false};
 ghost use Rattle.std.proofs.Common.{rules};
 
-use comemo::{Call, Track};
+use comemo::{Answer, Call, Track};
 use std::alloc::{AllocError, Global};
 use std::cell::Cell;
 use std::hash::Hash;
@@ -21,9 +21,7 @@ impl Call for PlaceCall {
 
     ghost touches = { λ _ _. false };
 
-    ghost same_kind = { λ x y h. refl };
-
-    ghost clones = { λ x y h. Prim.search rules };
+    ghost laws = { Prim.search rules };
 
     fn is_mutable(&self) -> bool {
         false
@@ -41,6 +39,10 @@ pub(crate) enum PlaceAnswer {
     At(u64),
     /// To how it is set.
     Set(String),
+}
+
+impl Answer for PlaceAnswer {
+    ghost clones = { λ x y h. Prim.search rules };
 }
 
 /// A place that counts how often it is asked.
@@ -77,8 +79,6 @@ impl Track for Place {
     ghost answers = { λ s call. place_answer s.location s.styles call };
 
     ghost alike = { λ s x y h. Prim.search rules };
-
-    ghost clones = { λ x y h. Prim.search rules };
 
     fn ask(&self, call: &PlaceCall) -> Result<PlaceAnswer, AllocError> {
         self.asked.set(self.asked.get().wrapping_add(1));

@@ -44,8 +44,6 @@ impl Track for Book {
 
     ghost alike = { λ s x y h. Prim.search rules };
 
-    ghost clones = { λ x y h. Prim.search rules };
-
     fn ask(&self, _call: &NotebookCall) -> Result<u64, AllocError> {
         Ok(7)
     }
@@ -91,7 +89,7 @@ impl Function for NotesThree {
 }
 
 impl RunMut<Book, ()> for NotesThree {
-    fn run(n: &u64, book: &mut RecorderMut<'_, '_, Book>, _needs: &mut ()) -> Result<u64, Fault> {
+    fn run(n: &u64, book: &mut RecorderMut<'_, '_, Book>, _: &mut ()) -> Result<u64, Fault> {
         book.write(NotebookCall::Note(1))?;
         book.write(NotebookCall::Note(2))?;
         book.write(NotebookCall::Note(3))?;

@@ -21,9 +21,7 @@ impl Call for Numbered {
 
     ghost touches = { λ _ _. false };
 
-    ghost same_kind = { λ x y h. Prim.search rules };
-
-    ghost clones = { λ x y h. Prim.search rules };
+    ghost laws = { Prim.search rules };
 
     fn is_mutable(&self) -> bool {
         self.writes

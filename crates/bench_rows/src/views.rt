@@ -48,8 +48,6 @@ impl Track for Watched {
 
     ghost alike = { λ s x y h. Prim.search rules };
 
-    ghost clones = { λ x y h. Prim.search rules };
-
     fn ask(&self, call: &PlaceCall) -> Result<PlaceAnswer, AllocError> {
         match call {
             PlaceCall::Location => {

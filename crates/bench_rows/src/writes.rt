@@ -29,7 +29,7 @@ impl Function for Dump {
     ghost writes = { λ text _ _ W. EmitsWithOne text W };
 
     ghost laws = { writing_laws (emitting_laws (λ x y h. Prim.search rules)
-        (λ x y h. Prim.search rules) (λ x y h. Prim.search rules) (λ x y h. Prim.search rules)) };
+        (λ x y h. Prim.search rules) (λ x y h. Prim.search rules)) };
 }
 
 impl RunMut<Emitter, Global> for Dump {
@@ -219,11 +219,7 @@ impl Function for AddsThree {
 }
 
 impl RunMut<Counter, ()> for AddsThree {
-    fn run(
-        _key: &(),
-        counter: &mut RecorderMut<'_, '_, Counter>,
-        _needs: &mut (),
-    ) -> Result<(), Fault> {
+    fn run(_key: &(), counter: &mut RecorderMut<'_, '_, Counter>, _: &mut ()) -> Result<(), Fault> {
         counter.write(CounterCall::Add(3))?;
         Ok(())
     }

@@ -71,7 +71,6 @@ impl Function for Eval {
       keys = λ j k m output writes r e h. (h.0, Prim.search (rules, h.1));
       writes = λ key m output V W r same h. (none_alike _ V W same h.0, h.1);
       key_clones = Prim.search rules;
-      answer_clones = Prim.search rules;
     } };
 }
 

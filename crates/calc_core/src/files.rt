@@ -14,7 +14,7 @@
 //! let again = size(alloc, &mut sizes, &files.view(alloc), "a", &mut Top::new())?;
 //! assert_eq!(rt; (again.output, again.how), (5, How::Hit));
 //! ```
-ghost use Rattle.std.specs.Prelude.{◌≡◌, ℕ, List, [], false, refl, String, string_bytes, bytes_eq, if◌then◌else◌, IfOk, OnOk, OnErr};
+ghost use Rattle.std.specs.Prelude.{◌≡◌, ℕ, List, [], false, String, string_bytes, bytes_eq, if◌then◌else◌, IfOk, OnOk, OnErr};
 ghost use Rattle.std.proofs.Common.{rules};
 ghost use Rattle.std.specs.Global.{Global};
 ghost use Rattle.comemo.specs.Sending.{Asks};
@@ -51,9 +51,7 @@ impl Call for FileCall {
 
     ghost touches = { λ _ _. false };
 
-    ghost same_kind = { λ x y h. refl };
-
-    ghost clones = { λ x y h. Prim.search rules };
+    ghost laws = { Prim.search rules };
 
     fn is_mutable(&self) -> bool {
         false
@@ -140,8 +138,6 @@ impl Track for Files {
     ghost answers = { answers_of };
 
     ghost alike = { λ s x y h. Prim.search rules };
-
-    ghost clones = { λ x y h. Prim.search rules };
 
     fn ask(&self, call: &FileCall) -> Result<Text, AllocError> {
         match call {

@@ -15,7 +15,7 @@ pub none_mapped : {X P Q : Type 0} (r : Option X) → (P → Q) → IfNone r P �
 none_mapped (Some x) f p = tt
 none_mapped None f p = f p
 
-module _ {K C R O : Type 0} (M : Meaning K C R O) (calls : IsEquivalence M.same_call) (answers : IsEquivalence M.same_answer) (keys : IsEquivalence M.same_key) {key_clone : K → K → Type 0} {answer_clone : R → R → Type 0} (laws : FunctionLaws M.same_call M.same_answer M.same_key key_clone answer_clone M.is_clone M.right) (own key : K) (alike : IsTrue (M.same_key own key)) (m : C → R) (respects : Respects M.same_call M.same_answer m) (es : Entries K C R O) {output : O} {writes : List C} {age : ℕ} (found : IsPeeked M es (invocation own m true) output writes age) where
+module _ {K C R O : Type 0} (M : Meaning K C R O) (calls : IsEquivalence M.same_call) (answers : IsEquivalence M.same_answer) (keys : IsEquivalence M.same_key) {key_clone : K → K → Type 0} (laws : FunctionLaws M.same_call M.same_answer M.same_key key_clone M.is_clone M.right) (own key : K) (alike : IsTrue (M.same_key own key)) (m : C → R) (respects : Respects M.same_call M.same_answer m) (es : Entries K C R O) {output : O} {writes : List C} {age : ℕ} (found : IsPeeked M es (invocation own m true) output writes age) where
   own_has : Has M es (invocation own m true) (run own found.pairs output writes)
   own_has = has_so M (invocation own m true) (run own found.pairs output writes) age es found.kept
 

@@ -36,12 +36,11 @@ module _ {C R : Type 0} (eq : C → C → Bool) (same : R → R → Bool) where
     pub before : (m : C → R) → Fits t m → Fits s m
     pub told : (m : C → R) → Fits t m → P m
 
-  -- clones of keys and answers are equal; the meaning treats equal keys alike, and an output like its clone
-  pub record Laws {K O : Type 0} (eqk : K → K → Bool) (key_clone : K → K → Type 0) (answer_clone : R → R → Type 0) (cloned : O → O → Type 0) (means : K → (C → R) → O → Type 0) : Type 0 where
+  -- clones of keys are equal; the meaning treats equal keys alike, and an output like its clone
+  pub record Laws {K O : Type 0} (eqk : K → K → Bool) (key_clone : K → K → Type 0) (cloned : O → O → Type 0) (means : K → (C → R) → O → Type 0) : Type 0 where
     pub outputs : (key : K) (m : C → R) (a b : O) → Respects eq same m → cloned a b → means key m a → means key m b
     pub keys : (j k : K) (m : C → R) (output : O) → Respects eq same m → IsTrue (eqk j k) → means j m output → means k m output
     pub key_clones : (x y : K) → key_clone x y → IsTrue (eqk x y)
-    pub answer_clones : (x y : R) → answer_clone x y → IsTrue (same x y)
 
 -- if the asked calls are named, a run under the key that returned an output has recorded these, unless its recording is
 -- incomplete or late: its pairs are causal and complete

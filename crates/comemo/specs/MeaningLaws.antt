@@ -26,53 +26,48 @@ map_writes f alike [] (w ∷ W) same = absurd same
 map_writes f alike (v ∷ V) [] same = absurd same
 map_writes f alike (v ∷ V) (w ∷ W) same = rw (alike v w same.0, map_writes f alike V W same.1) refl
 
--- equal calls and equal keys are the same, a clone of an output is the output, and clones of keys and answers are equal
-pub record IsExact {C R K O : Type 0} (eq : C → C → Bool) (same : R → R → Bool) (eqk : K → K → Bool) (key_clone : K → K → Type 0) (answer_clone : R → R → Type 0) (cloned : O → O → Type 0) : Type 0 where
+-- equal calls and equal keys are the same, a clone of an output is the output, and clones of keys are equal
+pub record IsExact {C R K O : Type 0} (eq : C → C → Bool) (same : R → R → Bool) (eqk : K → K → Bool) (key_clone : K → K → Type 0) (cloned : O → O → Type 0) : Type 0 where
   pub calls : (x y : C) → IsTrue (eq x y) → y ≡ x
   pub keys : (x y : K) → IsTrue (eqk x y) → y ≡ x
   pub outputs : (a b : O) → cloned a b → b ≡ a
   pub key_clones : (x y : K) → key_clone x y → IsTrue (eqk x y)
-  pub answer_clones : (x y : R) → answer_clone x y → IsTrue (same x y)
 
 -- the laws of any meaning over such types
-pub exact_laws : {C R K O : Type 0} {eq : C → C → Bool} {same : R → R → Bool} {eqk : K → K → Bool} {key_clone : K → K → Type 0} {answer_clone : R → R → Type 0} {cloned : O → O → Type 0} {def : K → (C → R) → O → List C → Type 0} → IsExact eq same eqk key_clone answer_clone cloned → FunctionLaws eq same eqk key_clone answer_clone cloned def
+pub exact_laws : {C R K O : Type 0} {eq : C → C → Bool} {same : R → R → Bool} {eqk : K → K → Bool} {key_clone : K → K → Type 0} {cloned : O → O → Type 0} {def : K → (C → R) → O → List C → Type 0} → IsExact eq same eqk key_clone cloned → FunctionLaws eq same eqk key_clone cloned def
 exact_laws {def = def} e = record {
   outputs = λ key m a b writes respects is right. subst (λ o. def key m o writes) (sym (e.outputs a b is)) right;
   keys = λ j k m output writes respects is right. subst (λ i. def i m output writes) (sym (e.keys j k is)) right;
   writes = λ key m output V W respects is right. subst (λ ws. def key m output ws) (sym (same_writes e.calls V W is)) right;
   key_clones = e.key_clones;
-  answer_clones = e.answer_clones;
 }
 
 -- the laws of what a function that writes nothing means
-pub reads_laws : {C R K O : Type 0} {eq : C → C → Bool} {same : R → R → Bool} {eqk : K → K → Bool} {key_clone : K → K → Type 0} {answer_clone : R → R → Type 0} {cloned : O → O → Type 0} {means : K → (C → R) → O → Type 0} → Laws eq same eqk key_clone answer_clone cloned means → FunctionLaws eq same eqk key_clone answer_clone cloned (IsRight means (λ _ _ _ W. W ≡ []))
+pub reads_laws : {C R K O : Type 0} {eq : C → C → Bool} {same : R → R → Bool} {eqk : K → K → Bool} {key_clone : K → K → Type 0} {cloned : O → O → Type 0} {means : K → (C → R) → O → Type 0} → Laws eq same eqk key_clone cloned means → FunctionLaws eq same eqk key_clone cloned (IsRight means (λ _ _ _ W. W ≡ []))
 reads_laws {eq = eq} l = record {
   outputs = λ key m a b writes respects is right. (right.0, l.outputs key m a b respects is right.1);
   keys = λ j k m output writes respects is right. (right.0, l.keys j k m output respects is right.1);
   writes = λ key m output V W respects is right. (none_alike eq V W is right.0, right.1);
   key_clones = l.key_clones;
-  answer_clones = l.answer_clones;
 }
 
 -- the laws of a function that writes nothing and whose output is f of its key and the answers: a clone of an output is that
--- output, clones of keys and of answers are equal, and f treats equal keys alike
-pub output_laws : {C R K O : Type 0} {eq : C → C → Bool} {same : R → R → Bool} {eqk : K → K → Bool} {key_clone : K → K → Type 0} {answer_clone : R → R → Type 0} {cloned : O → O → Type 0} {f : K → (C → R) → O}
-    → ((a b : O) → cloned a b → b ≡ a) → ((x y : K) → key_clone x y → IsTrue (eqk x y)) → ((x y : R) → answer_clone x y → IsTrue (same x y))
+-- output, clones of keys are equal, and f treats equal keys alike
+pub output_laws : {C R K O : Type 0} {eq : C → C → Bool} {same : R → R → Bool} {eqk : K → K → Bool} {key_clone : K → K → Type 0} {cloned : O → O → Type 0} {f : K → (C → R) → O}
+    → ((a b : O) → cloned a b → b ≡ a) → ((x y : K) → key_clone x y → IsTrue (eqk x y))
     → ((j k : K) (m : C → R) → Respects eq same m → IsTrue (eqk j k) → f j m ≡ f k m)
-    → FunctionLaws eq same eqk key_clone answer_clone cloned (IsRight (λ key m output. output ≡ f key m) (λ _ _ _ W. W ≡ []))
-output_laws outputs key_clones answer_clones keys = reads_laws (record {
+    → FunctionLaws eq same eqk key_clone cloned (IsRight (λ key m output. output ≡ f key m) (λ _ _ _ W. W ≡ []))
+output_laws outputs key_clones keys = reads_laws (record {
   outputs = λ key m a b respects is right. outputs a b is ∙ right;
   keys = λ j k m output respects is right. right ∙ keys j k m respects is;
   key_clones = key_clones;
-  answer_clones = answer_clones;
 })
 
 -- the laws of a function that is what it writes, whatever it gives
-pub writing_laws : {C R K O : Type 0} {eq : C → C → Bool} {same : R → R → Bool} {eqk : K → K → Bool} {key_clone : K → K → Type 0} {answer_clone : R → R → Type 0} {cloned : O → O → Type 0} {writes : K → (C → R) → O → List C → Type 0} → FunctionLaws eq same eqk key_clone answer_clone cloned writes → FunctionLaws eq same eqk key_clone answer_clone cloned (IsRight (λ _ _ _. ⊤) writes)
+pub writing_laws : {C R K O : Type 0} {eq : C → C → Bool} {same : R → R → Bool} {eqk : K → K → Bool} {key_clone : K → K → Type 0} {cloned : O → O → Type 0} {writes : K → (C → R) → O → List C → Type 0} → FunctionLaws eq same eqk key_clone cloned writes → FunctionLaws eq same eqk key_clone cloned (IsRight (λ _ _ _. ⊤) writes)
 writing_laws l = record {
   outputs = λ key m a b W respects is right. (l.outputs key m a b W respects is right.0, tt);
   keys = λ j k m output W respects is right. (l.keys j k m output W respects is right.0, tt);
   writes = λ key m output V W respects is right. (l.writes key m output V W respects is right.0, tt);
   key_clones = l.key_clones;
-  answer_clones = l.answer_clones;
 }

@@ -19,6 +19,7 @@ use crate::function::{Run, Told, memoized_view};
 use crate::pending::{Begun, Fault, How, Reply, begin};
 use comemo_cache::cache::{Function, Meant};
 use comemo_cache::hold::Hold;
+use comemo_track::answer::Answer;
 use comemo_track::constraint::Constraint;
 use comemo_track::input::KeyedMut;
 use comemo_track::track::{Breaking, Call, Sink, Top, Track, Written};
@@ -59,7 +60,7 @@ pub trait Records {
     type Call: Call;
 
     /// The answer to a read: one type for all calls.
-    type Answer: Clone + Ord;
+    type Answer: Answer;
 
     ghost use Rattle.comemo.specs.declared.pending.Fault.{Fault};
 
@@ -103,7 +104,7 @@ pub trait Records {
     ghost began: { Self → Recording Self.Call Self.Answer
         → (Lent Self.Of Self.Call Self.Answer → Type 0) → Type 0 };
 
-    // wherever such a run was begun, what its recorder is at last agrees
+    // wherever such a run was begun, the last state of its recorder agrees
     ghost agrees_after: { Self → Recording Self.Call Self.Answer → Self → Type 0 };
 
     // what a run learns from a question, a write or a call, which had this result
@@ -168,7 +169,7 @@ pub trait Writes {
     type Call: Call;
 
     /// The answer to a read: one type for all calls.
-    type Answer: Clone + Ord;
+    type Answer: Answer;
 
     ghost use Rattle.comemo.specs.declared.pending.Fault.{Fault};
 

@@ -47,7 +47,7 @@ pub use closure::memoize;
 pub use comemo_base::{Prehashed, hash};
 pub use comemo_cache::{Cache, CacheData, Caches, Contents, Explanation, Function, Hold};
 pub use comemo_track::{
-    Both, BothMut, Call, Constraint, MultiAnswer, MultiCall, ReadAndWrite, Sink, Top, Track,
+    Answer, Both, BothMut, Call, Constraint, MultiAnswer, MultiCall, ReadAndWrite, Sink, Top, Track,
     Tracked, View,
 };
 pub use explanation::explain;

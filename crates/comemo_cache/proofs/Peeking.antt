@@ -14,7 +14,7 @@ use Rattle.comemo_cache.proofs.Entries.{IsSamePath-itself, Stands-found, reads_s
 use Rattle.comemo_cache.proofs.Writings.{written_same}
 use Rattle.comemo_cache.proofs.Named.{named_moved}
 
-module _ {K C R O : Type 0} (M : Meaning K C R O) (calls : IsEquivalence M.same_call) (answers : IsEquivalence M.same_answer) (keys : IsEquivalence M.same_key) (kind : (x y : C) → IsTrue (M.same_call x y) → M.is_write x ≡ M.is_write y) {key_clone : K → K → Type 0} {answer_clone : R → R → Type 0} (laws : FunctionLaws M.same_call M.same_answer M.same_key key_clone answer_clone M.is_clone M.right) where
+module _ {K C R O : Type 0} (M : Meaning K C R O) (calls : IsEquivalence M.same_call) (answers : IsEquivalence M.same_answer) (keys : IsEquivalence M.same_key) (kind : (x y : C) → IsTrue (M.same_call x y) → M.is_write x ≡ M.is_write y) {key_clone : K → K → Type 0} (laws : FunctionLaws M.same_call M.same_answer M.same_key key_clone M.is_clone M.right) where
   -- of a legal entry that agrees, clones of its output and its writes
   pub peeked : (es : Entries K C R O) → All (IsLegal M) es → (key : K) (m : C → R) (b : Bool) (v w : Kept O C) → v ≡ w → Any (λ e. Agrees M.same_answer m e.path × (e.value ≡ w)) (under M.same_key es key) → (output : O) → M.is_clone v.output output → (writes : List C) → SameWrites M.same_call v.writes writes → IsPeeked M es (invocation key m b) output writes v.age
   peeked es all key m b v w is found output clone writes copies =

@@ -43,14 +43,13 @@ abbrev pub TouchesAt : {K C R O : Type 0} → (R → R → Bool) → (K → K �
 TouchesAt same eqk key answers es es' =
     Changes same eqk (λ old new. new ≡ record old { age = 0 }) key answers es es' ⊎ (All (λ e. ¬ HasAnswers same e.path answers) (under eqk es key) × (es' ≡ es))
 
--- clones of keys and of answers are equal; under answers that treat equal calls alike, the definition of a memoized function
--- treats equal keys, equal writes, and an output and its clone alike
-pub record FunctionLaws {K C R O : Type 0} (eq : C → C → Bool) (same : R → R → Bool) (eqk : K → K → Bool) (key_clone : K → K → Type 0) (answer_clone : R → R → Type 0) (cloned : O → O → Type 0) (def : K → (C → R) → O → List C → Type 0) : Type 0 where
+-- clones of keys are equal; under answers that treat equal calls alike, the definition of a memoized function treats equal
+-- keys, equal writes, and an output and its clone alike
+pub record FunctionLaws {K C R O : Type 0} (eq : C → C → Bool) (same : R → R → Bool) (eqk : K → K → Bool) (key_clone : K → K → Type 0) (cloned : O → O → Type 0) (def : K → (C → R) → O → List C → Type 0) : Type 0 where
   pub outputs : (key : K) (m : C → R) (a b : O) (writes : List C) → Respects eq same m → cloned a b → def key m a writes → def key m b writes
   pub keys : (j k : K) (m : C → R) (output : O) (writes : List C) → Respects eq same m → IsTrue (eqk j k) → def j m output writes → def k m output writes
   pub writes : (key : K) (m : C → R) (output : O) (V W : List C) → Respects eq same m → SameWrites eq V W → def key m output V → def key m output W
   pub key_clones : (x y : K) → key_clone x y → IsTrue (eqk x y)
-  pub answer_clones : (x y : R) → answer_clone x y → IsTrue (same x y)
 
 module _ {K C R O : Type 0} (M : Meaning K C R O) where
   -- for all answers that agree with what a run recorded, its output and writes are right at its key

@@ -12,6 +12,7 @@ ghost use Rattle.comemo_base.specs.Tree.{IsTree};
 ghost use Rattle.comemo_cache.specs.Storing.{Stores};
 
 use comemo_base::{CallSequence, InsertError};
+use comemo_track::answer::Answer;
 use comemo_track::input::Input;
 use comemo_track::track::Call;
 use comemo_tree::CallTree;
@@ -31,7 +32,7 @@ pub trait Function {
     type Key: Clone + Eq + Hash;
 
     /// The answer to a read: one type for all calls.
-    type Answer: Clone + Ord;
+    type Answer: Answer;
 
     /// The output.
     type Out: Clone;
@@ -47,10 +48,9 @@ pub trait Function {
     // and complete, and storing a run never fails with `MissingCall`
     ghost naming: { Naming Self.Key Self.Call Self.Answer } = { unnamed };
 
-    // clones of keys and answers are equal; the meaning treats equal keys and equal writes alike, and an output like its
-    // clone
+    // clones of keys are equal; the meaning treats equal keys and equal writes alike, and an output like its clone
     ghost laws: { FunctionLaws Self.Call.eq Self.Answer.eq Self.Key.eq
-        Self.Key.is_clone Self.Answer.is_clone Self.Out.is_clone (IsRight means writes) };
+        Self.Key.is_clone Self.Out.is_clone (IsRight means writes) };
 }
 
 /// What a memoized function means, for contracts, as `⟦<M as Meant>⟧.right`. There is nothing to implement.
@@ -160,7 +160,6 @@ fn find_agreeing<'a, K: Clone + Eq + Hash, In: Input, T>(
     key: &K,
     input: &mut In,
 ) -> Result<Option<(Vec<(In::Call, In::Answer)>, &'a T)>, AllocError>
-    requires clones { (x y : In.Answer) → In.Answer.is_clone x y → IsTrue (In.Answer.eq x y) }
     requires reads { All (λ e. All (λ p. In.Call.is_write p.0 ≡ false) e.path) tree.now }
     ensures same { In.did input.old input.new [] }
     ensures found { IfOk result (λ found. FindsAgreeingPath In.Call.eq In.Answer.eq

@@ -41,7 +41,6 @@ fn note_agreeing<'a, K: Clone + Eq + Hash, In: Input, T>(
     input: &mut In,
     notes: &mut Vec<(In::Call, In::Answer)>,
 ) -> Result<Option<&'a T>, AllocError>
-    requires clones { (x y : In.Answer) → In.Answer.is_clone x y → IsTrue (In.Answer.eq x y) }
     requires reads { All (λ e. All (λ p. In.Call.is_write p.0 ≡ false) e.path) tree.now }
     requires nothing { notes.old.items ≡ [] }
     ensures same { In.did input.old input.new [] }

@@ -15,6 +15,7 @@ ghost use Rattle.comemo_cache.specs.Held.{Held, Leads, Stays};
 use crate::cache::{CacheData, Found, Function, Meant, Peeked};
 use crate::explain::Explanation;
 use comemo_base::{CallSequence, InsertError};
+use comemo_track::answer::Answer;
 use comemo_track::input::Input;
 use comemo_track::track::Call;
 use std::alloc::{AllocError, Global};
@@ -28,7 +29,7 @@ pub trait Reads {
     type Call: Call;
 
     /// The answers.
-    type Answer: Clone + Ord;
+    type Answer: Answer;
 
     // the pairs, in the order in which they were asked
     ghost pairs: { Self → List (Self.Call × Self.Answer) };
@@ -38,7 +39,7 @@ pub trait Reads {
         ensures { result.pairs ≡ pairs self };
 }
 
-impl<C: Call, R: Clone + Ord> Reads for CallSequence<C, R> {
+impl<C: Call, R: Answer> Reads for CallSequence<C, R> {
     type Call = C;
 
     type Answer = R;

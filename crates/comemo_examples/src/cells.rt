@@ -1,5 +1,5 @@
 //! A tracked value: numbers by place.
-ghost use Rattle.std.specs.Prelude.{false, refl};
+ghost use Rattle.std.specs.Prelude.{false};
 ghost use Rattle.std.proofs.Common.{rules};
 
 use comemo::{Call, Track};
@@ -18,9 +18,7 @@ impl Call for Get {
 
     ghost touches = { λ _ _. false };
 
-    ghost same_kind = { λ x y h. refl };
-
-    ghost clones = { λ x y h. Prim.search rules };
+    ghost laws = { Prim.search rules };
 
     fn is_mutable(&self) -> bool {
         false
@@ -68,8 +66,6 @@ impl Track for Cells {
     ghost answers = { λ s get. numbers s.numbers.items get };
 
     ghost alike = { λ s x y h. Prim.search rules };
-
-    ghost clones = { λ x y h. Prim.search rules };
 
     fn ask(&self, get: &Get) -> Result<u64, AllocError> {
         let place = get.place as usize;

@@ -1,5 +1,5 @@
 //! Chains of numbers, linked by plain references, and a function that asks a chain for a number.
-ghost use Rattle.std.specs.Prelude.{◌≡◌, ℕ, ◌||◌, false, nat_eq, refl};
+ghost use Rattle.std.specs.Prelude.{◌≡◌, ℕ, ◌||◌, false, nat_eq};
 ghost use Rattle.std.proofs.Common.{rules};
 ghost use Rattle.comemo_examples.specs.Chains.{has};
 
@@ -18,9 +18,7 @@ impl Call for ChainCall {
 
     ghost touches = { λ _ _. false };
 
-    ghost same_kind = { λ x y h. refl };
-
-    ghost clones = { λ x y h. Prim.search rules };
+    ghost laws = { Prim.search rules };
 
     fn is_mutable(&self) -> bool {
         false
@@ -82,8 +80,6 @@ impl<'a> Track for Chain<'a> {
     ghost answers = { λ s call. chain_answer s call };
 
     ghost alike = { λ s x y h. Prim.search rules };
-
-    ghost clones = { λ x y h. Prim.search rules };
 
     fn ask(&self, call: &ChainCall) -> Result<bool, AllocError> {
         match call {

@@ -1,5 +1,5 @@
 //! Tracked values: two numbers, a text, and a row of numbers.
-ghost use Rattle.std.specs.Prelude.{false, refl};
+ghost use Rattle.std.specs.Prelude.{false};
 ghost use Rattle.std.proofs.Common.{rules};
 
 use comemo::{Call, Track};
@@ -20,9 +20,7 @@ impl Call for ContextCall {
 
     ghost touches = { λ _ _. false };
 
-    ghost same_kind = { λ x y h. refl };
-
-    ghost clones = { λ x y h. Prim.search rules };
+    ghost laws = { Prim.search rules };
 
     fn is_mutable(&self) -> bool {
         false
@@ -53,8 +51,6 @@ impl Track for Context {
 
     ghost alike = { λ s x y h. Prim.search rules };
 
-    ghost clones = { λ x y h. Prim.search rules };
-
     fn ask(&self, call: &ContextCall) -> Result<u64, AllocError> {
         match call {
             ContextCall::Location => Ok(self.location),
@@ -81,8 +77,6 @@ impl Track for Page {
 
     ghost alike = { λ s x y h. Prim.search rules };
 
-    ghost clones = { λ x y h. Prim.search rules };
-
     fn ask(&self, _call: &()) -> Result<String, AllocError> {
         self.text.clone()
     }
@@ -100,9 +94,7 @@ impl Call for Place {
 
     ghost touches = { λ _ _. false };
 
-    ghost same_kind = { λ x y h. refl };
-
-    ghost clones = { λ x y h. Prim.search rules };
+    ghost laws = { Prim.search rules };
 
     fn is_mutable(&self) -> bool {
         false
@@ -130,8 +122,6 @@ impl Track for Row {
     ghost answers = { λ s call. slice_index s.numbers.items call.at };
 
     ghost alike = { λ s x y h. Prim.search rules };
-
-    ghost clones = { λ x y h. Prim.search rules };
 
     fn ask(&self, call: &Place) -> Result<u64, AllocError> {
         let at = call.at as usize;

@@ -21,9 +21,7 @@ impl Call for CounterCall {
 
     ghost touches = { λ _ _. true };
 
-    ghost same_kind = { λ x y h. Prim.search rules };
-
-    ghost clones = { λ x y h. Prim.search rules };
+    ghost laws = { Prim.search rules };
 
     fn is_mutable(&self) -> bool {
         match self {
@@ -57,8 +55,6 @@ impl Track for Counter {
     ghost wrote = { λ s call t. t.number ≡ (s.number + added call) % 2 ^ 64 };
 
     ghost alike = { λ s x y h. Prim.search rules };
-
-    ghost clones = { λ x y h. Prim.search rules };
 
     fn ask(&self, _call: &CounterCall) -> Result<u64, AllocError> {
         Ok(self.number)

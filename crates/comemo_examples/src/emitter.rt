@@ -19,9 +19,7 @@ impl Call for EmitterCall {
 
     ghost touches = { λ _ _. false };
 
-    ghost same_kind = { λ x y h. refl };
-
-    ghost clones = { λ x y h. Prim.search rules };
+    ghost laws = { Prim.search rules };
 
     fn is_mutable(&self) -> bool {
         true
@@ -80,8 +78,6 @@ impl Track for Emitter {
     ghost wrote = { λ s call t. t ≡ s ++ emitted call };
 
     ghost alike = { λ _ _ _ _. refl };
-
-    ghost clones = { λ x y h. Prim.search rules };
 
     fn ask(&self, _call: &EmitterCall) -> Result<(), AllocError> {
         // Each call is a write, so there is no answer.

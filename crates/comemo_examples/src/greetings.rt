@@ -46,8 +46,6 @@ impl Track for Greeting {
 
     ghost alike = { λ s x y h. Prim.search rules };
 
-    ghost clones = { λ x y h. Prim.search rules };
-
     fn ask(&self, _call: &()) -> Result<bool, AllocError> {
         Ok(self.text.as_str() == "hello")
     }

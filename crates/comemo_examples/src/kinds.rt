@@ -1,10 +1,10 @@
 //! A tracked text with two kinds of questions, of which one has an argument, and a function for each.
-ghost use Rattle.std.specs.Prelude.{◌≡◌, false, nat_lt, refl, string_bytes};
+ghost use Rattle.std.specs.Prelude.{◌≡◌, false, nat_lt, string_bytes};
 ghost use Rattle.std.proofs.Common.{rules};
 ghost use Rattle.comemo_examples.specs.Kinds.{text_in, length_in};
 ghost use Rattle.comemo_examples.specs.declared.kinds.TextCall.TheVariants.{Itself, LengthPlus};
 
-use comemo::{Call, Fault, Function, Recorder, Run, Track};
+use comemo::{Answer, Call, Fault, Function, Recorder, Run, Track};
 use std::alloc::AllocError;
 
 /// What can be asked of a text.
@@ -21,9 +21,7 @@ impl Call for TextCall {
 
     ghost touches = { λ _ _. false };
 
-    ghost same_kind = { λ x y h. refl };
-
-    ghost clones = { λ x y h. Prim.search rules };
+    ghost laws = { Prim.search rules };
 
     fn is_mutable(&self) -> bool {
         false
@@ -43,6 +41,10 @@ pub enum TextAnswer {
     Length(u64),
 }
 
+impl Answer for TextAnswer {
+    ghost clones = { λ x y h. Prim.search rules };
+}
+
 /// A text. The answer to `TextCall::Itself` is a copy, and fails if out of memory.
 #[derive(Drop)]
 pub struct Text {
@@ -56,13 +58,11 @@ impl Track for Text {
     type Answer = TextAnswer;
 
     ghost use Rattle.comemo_examples.specs.Kinds.{text_answer};
-    ghost use Rattle.comemo_examples.specs.KindLaws.{answers_alike, answer_clones};
+    ghost use Rattle.comemo_examples.specs.KindLaws.{answers_alike};
 
     ghost answers = { λ s call. text_answer s.text call };
 
     ghost alike = { λ s. answers_alike s.text };
-
-    ghost clones = { answer_clones };
 
     fn ask(&self, call: &TextCall) -> Result<TextAnswer, AllocError> {
         match call {

@@ -31,7 +31,6 @@ impl Function for Listing {
       writes = λ key m output V W r same right.
           (sym (map_writes logged logged_alike V W same) ∙ right.0, tt);
       key_clones = λ x y h. Prim.search (rules, texts_clone);
-      answer_clones = Prim.search rules;
     } };
 }
 

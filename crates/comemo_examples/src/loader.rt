@@ -1,5 +1,5 @@
 //! Bytes by path from a boxed loader, of which only the trait is known, and a function that asks for them.
-ghost use Rattle.std.specs.Prelude.{◌≡◌, ℕ, List, Vec, false, refl, IfOk, string_bytes};
+ghost use Rattle.std.specs.Prelude.{◌≡◌, ℕ, List, Vec, false, IfOk, string_bytes};
 ghost use Rattle.std.specs.Global.{Global as AnyGlobal};
 ghost use Rattle.std.specs.List.{each_same};
 ghost use Rattle.std.proofs.Common.{rules, ◌∙◌};
@@ -30,9 +30,7 @@ impl Call for LibraryCall {
 
     ghost touches = { λ _ _. false };
 
-    ghost same_kind = { λ x y h. refl };
-
-    ghost clones = { λ x y h. Prim.search rules };
+    ghost laws = { Prim.search rules };
 
     fn is_mutable(&self) -> bool {
         false
@@ -61,8 +59,6 @@ impl<L: Loader> Track for Library<L> {
     ghost answers = { λ s call. L.gives s.loader.value (path_in call) };
 
     ghost alike = { λ s x y h. Prim.search rules };
-
-    ghost clones = { λ x y h. equal_bytes x.items y.items (each_same x.items y.items h.0) };
 
     fn ask(&self, call: &LibraryCall) -> Result<Vec<u8>, AllocError> {
         match call {

@@ -19,9 +19,7 @@ impl Call for LogCall {
 
     ghost touches = { λ _ _. false };
 
-    ghost same_kind = { λ x y h. refl };
-
-    ghost clones = { λ x y h. Prim.search rules };
+    ghost laws = { Prim.search rules };
 
     fn is_mutable(&self) -> bool {
         true
@@ -83,8 +81,6 @@ impl Track for Log {
     ghost wrote = { λ s call t. t ≡ s ++ logged call ∷ [] };
 
     ghost alike = { λ _ _ _ _. refl };
-
-    ghost clones = { λ x y h. Prim.search rules };
 
     fn ask(&self, _call: &LogCall) -> Result<(), AllocError> {
         // Each call is a write, so there is no answer.

@@ -22,9 +22,7 @@ impl Call for NotebookCall {
 
     ghost touches = { λ _ _. false };
 
-    ghost same_kind = { λ x y h. Prim.search rules };
-
-    ghost clones = { λ x y h. Prim.search rules };
+    ghost laws = { Prim.search rules };
 
     fn is_mutable(&self) -> bool {
         match self {
@@ -93,8 +91,6 @@ impl Track for Notebook {
         × (t.lines ≡ s.lines ++ noted call) };
 
     ghost alike = { λ s x y h. Prim.search rules };
-
-    ghost clones = { λ x y h. Prim.search rules };
 
     fn ask(&self, _call: &NotebookCall) -> Result<u64, AllocError> {
         Ok(self.owner)

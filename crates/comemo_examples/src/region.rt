@@ -1,5 +1,5 @@
 //! A tracked value that borrows three others, and a function of it.
-ghost use Rattle.std.specs.Prelude.{◌≡◌, false, max, refl};
+ghost use Rattle.std.specs.Prelude.{◌≡◌, false, max};
 ghost use Rattle.std.proofs.Common.{rules};
 
 use crate::{Town, TownCall};
@@ -22,9 +22,7 @@ impl Call for RegionCall {
 
     ghost touches = { λ _ _. false };
 
-    ghost same_kind = { λ x y h. refl };
-
-    ghost clones = { λ x y h. Prim.search rules };
+    ghost laws = { Prim.search rules };
 
     fn is_mutable(&self) -> bool {
         false
@@ -64,8 +62,6 @@ impl<'a> Track for Region<'a> {
         s.coast.now.people s.coast.now.degrees
         s.river.now.people s.river.now.degrees
         s.hill.now.people s.hill.now.degrees };
-
-    ghost clones = { λ x y h. Prim.search rules };
 
     fn ask(&self, call: &RegionCall) -> Result<u64, AllocError> {
         match call {

@@ -1,5 +1,5 @@
 //! A tracked value: the people of a town, and its degrees.
-ghost use Rattle.std.specs.Prelude.{false, refl};
+ghost use Rattle.std.specs.Prelude.{false};
 ghost use Rattle.std.proofs.Common.{rules};
 
 use comemo::{Call, Track};
@@ -19,9 +19,7 @@ impl Call for TownCall {
 
     ghost touches = { λ _ _. false };
 
-    ghost same_kind = { λ x y h. refl };
-
-    ghost clones = { λ x y h. Prim.search rules };
+    ghost laws = { Prim.search rules };
 
     fn is_mutable(&self) -> bool {
         false
@@ -51,8 +49,6 @@ impl Track for Town {
     ghost answers = { λ s call. asked s.people s.degrees call };
 
     ghost alike = { λ s x y h. Prim.search rules };
-
-    ghost clones = { λ x y h. Prim.search rules };
 
     fn ask(&self, call: &TownCall) -> Result<u64, AllocError> {
         match call {

@@ -3,7 +3,7 @@ ghost use Rattle.std.specs.Prelude.{◌≡◌};
 ghost use Rattle.comemo.specs.MeaningLaws.{output_laws};
 ghost use Rattle.std.proofs.Common.{rules};
 ghost use Rattle.comemo_sheet.specs.Sheets.{number_in};
-ghost use Rattle.comemo_sheet.specs.SheetLaws.{content_clones, number_alike};
+ghost use Rattle.comemo_sheet.specs.SheetLaws.{number_alike};
 ghost use Rattle.comemo_sheet.specs.declared.sheet.SheetCall.TheVariants.{Cell};
 
 use crate::sheet::{Content, Sheet, SheetCall};
@@ -23,7 +23,7 @@ impl Function for NumberIn {
 
     ghost means = { λ name m out. out ≡ number_in (m (Cell name)) };
 
-    ghost laws = { output_laws (Prim.search rules) (Prim.search rules) content_clones
+    ghost laws = { output_laws (Prim.search rules) (Prim.search rules)
         (λ j k m r e. number_alike (m (Cell j)) (m (Cell k)) (r (Cell j) (Cell k) e)) };
 }
 

@@ -3,7 +3,6 @@ ghost use Rattle.std.specs.Prelude.{◌≡◌};
 ghost use Rattle.comemo.specs.MeaningLaws.{output_laws};
 ghost use Rattle.std.proofs.Common.{rules};
 ghost use Rattle.comemo_sheet.specs.Plain.{plain_number};
-ghost use Rattle.comemo_sheet.specs.SheetLaws.{content_clones};
 ghost use Rattle.comemo_sheet.specs.PlainLaws.{plain_alike};
 ghost use Rattle.comemo_sheet.specs.declared.sheet.SheetCall.TheVariants.{Cell};
 
@@ -33,7 +32,7 @@ impl Function for PlainNumber {
 
     ghost means = { λ name m out. out ≡ plain_number (m (Cell name)) };
 
-    ghost laws = { output_laws (Prim.search rules) (Prim.search rules) content_clones
+    ghost laws = { output_laws (Prim.search rules) (Prim.search rules)
         (λ j k m r e. plain_alike (m (Cell j)) (m (Cell k)) (r (Cell j) (Cell k) e)) };
 }
 

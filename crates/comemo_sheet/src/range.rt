@@ -6,7 +6,6 @@ ghost use Rattle.std.proofs.Common.{rules};
 ghost use Rattle.comemo.specs.Recursive.{TellsOwn};
 ghost use Rattle.comemo.proofs.Texts.{texts_clone};
 ghost use Rattle.comemo_sheet.specs.Values.{sum_of, value_of};
-ghost use Rattle.comemo_sheet.specs.SheetLaws.{content_clones};
 ghost use Rattle.comemo_sheet.specs.ValueLaws.{range_alike};
 
 use crate::sheet::{Content, Sheet, SheetCall};
@@ -41,7 +40,6 @@ impl Function for RangeTotal {
         out ≡ sum_of (value_of m range.limit) (Some (pos 0)) range.names.items };
 
     ghost laws = { output_laws (Prim.search rules) (λ x y h. Prim.search (rules, texts_clone))
-        content_clones
         (λ j k m r e. Prim.search (rules, range_alike m r j.limit j.names.items k.names.items)) };
 }
 

@@ -3,7 +3,6 @@ ghost use Rattle.std.specs.Prelude.{◌≡◌};
 ghost use Rattle.comemo.specs.MeaningLaws.{output_laws};
 ghost use Rattle.std.proofs.Common.{rules};
 ghost use Rattle.comemo_sheet.specs.Totals.{plus, total_of};
-ghost use Rattle.comemo_sheet.specs.SheetLaws.{content_clones};
 ghost use Rattle.comemo_sheet.specs.TotalLaws.{total_alike};
 ghost use Rattle.comemo.proofs.Texts.{texts_clone};
 
@@ -25,7 +24,7 @@ impl Function for RowTotal {
     ghost means = { λ names m out. out ≡ total_of m names.items };
 
     ghost laws = { output_laws (Prim.search rules) (λ x y h. texts_clone x.items y.items h.0)
-        content_clones (λ j k m r e. total_alike m r j.items k.items e) };
+        (λ j k m r e. total_alike m r j.items k.items e) };
 }
 
 impl Run<Sheet, ()> for RowTotal {

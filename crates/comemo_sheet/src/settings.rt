@@ -1,8 +1,8 @@
 //! How numbers are shown, as a tracked value.
-ghost use Rattle.std.specs.Prelude.{false, refl};
+ghost use Rattle.std.specs.Prelude.{false};
 ghost use Rattle.std.proofs.Common.{rules};
 
-use comemo::{Call, Track};
+use comemo::{Answer, Call, Track};
 use std::alloc::AllocError;
 
 /// What can be asked of settings.
@@ -19,9 +19,7 @@ impl Call for SettingsCall {
 
     ghost touches = { λ _ _. false };
 
-    ghost same_kind = { λ x y h. refl };
-
-    ghost clones = { λ x y h. Prim.search rules };
+    ghost laws = { Prim.search rules };
 
     fn is_mutable(&self) -> bool {
         false
@@ -39,6 +37,10 @@ pub enum Setting {
     Is(bool),
     /// A number.
     Much(u64),
+}
+
+impl Answer for Setting {
+    ghost clones = { λ x y h. Prim.search rules };
 }
 
 /// Settings: what is hidden, and how wide columns are.
@@ -60,8 +62,6 @@ impl Track for Settings {
     ghost answers = { λ s call. setting s.hides_negative s.width call };
 
     ghost alike = { λ s x y h. Prim.search rules };
-
-    ghost clones = { λ x y h. Prim.search rules };
 
     fn ask(&self, call: &SettingsCall) -> Result<Setting, AllocError> {
         match call {

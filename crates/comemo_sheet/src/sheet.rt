@@ -1,9 +1,9 @@
 //! A sheet of cells by name, as a tracked value.
-ghost use Rattle.std.specs.Prelude.{◌≡◌, ℕ, List, false, refl, string_bytes, bytes_eq, if◌then◌else◌, IsTrue, IfOk, OnOk, OnErr};
+ghost use Rattle.std.specs.Prelude.{◌≡◌, ℕ, List, false, string_bytes, bytes_eq, if◌then◌else◌, IsTrue, IfOk, OnOk, OnErr};
 ghost use Rattle.std.proofs.Common.{rules};
 ghost use Rattle.comemo_sheet.specs.Sheets.{content_of, number_in, names_in};
 
-use comemo::{Call, Track};
+use comemo::{Answer, Call, Track};
 use std::alloc::{AllocError, Global};
 use std::collections::HashMap;
 
@@ -19,9 +19,7 @@ impl Call for SheetCall {
 
     ghost touches = { λ _ _. false };
 
-    ghost same_kind = { λ x y h. refl };
-
-    ghost clones = { λ x y h. Prim.search rules };
+    ghost laws = { Prim.search rules };
 
     fn is_mutable(&self) -> bool {
         false
@@ -41,6 +39,12 @@ pub enum Content {
     Number(i64),
     /// The sum of the cells of these names.
     Sum(Vec<String>),
+}
+
+impl Answer for Content {
+    ghost use Rattle.comemo_sheet.specs.SheetLaws.{content_clones};
+
+    ghost clones = { content_clones };
 }
 
 impl Content {
@@ -114,13 +118,11 @@ impl Track for Sheet {
     type Answer = Content;
 
     ghost use Rattle.comemo_sheet.specs.Sheets.{cell_answer};
-    ghost use Rattle.comemo_sheet.specs.SheetLaws.{cells_alike, content_clones};
+    ghost use Rattle.comemo_sheet.specs.SheetLaws.{cells_alike};
 
     ghost answers = { λ s call. cell_answer s.cells call };
 
     ghost alike = { λ s. cells_alike s.cells };
-
-    ghost clones = { content_clones };
 
     fn ask(&self, call: &SheetCall) -> Result<Content, AllocError> {
         match call {

@@ -37,7 +37,7 @@ impl<H> Function for Shown<H> {
     type Out = i64;
 
     ghost use Rattle.comemo.specs.Multi.{OnParts, first_call};
-    ghost use Rattle.comemo_sheet.specs.SheetLaws.{content_clones, number_alike};
+    ghost use Rattle.comemo_sheet.specs.SheetLaws.{number_alike};
     ghost use Rattle.comemo_sheet.specs.Sheets.{number_in};
     ghost use Rattle.comemo_sheet.specs.declared.sheet.SheetCall.TheVariants.{Cell};
     ghost use Rattle.comemo_sheet.specs.declared.settings.SettingsCall.TheVariants.{HidesNegative};
@@ -51,7 +51,6 @@ impl<H> Function for Shown<H> {
           ∙ ap (shown (y HidesNegative)) (number_alike (x (Cell j)) (x (Cell k)) (Prim.search
           (rules, r (first_call (Cell j)) (first_call (Cell k)) e, p (Cell j), p (Cell k))));
       key_clones = Prim.search rules;
-      answer_clones = Prim.search (rules, content_clones);
     }) };
 }
 

@@ -5,7 +5,6 @@ ghost use Rattle.std.proofs.Common.{rules};
 ghost use Rattle.comemo.specs.Recursive.{TellsOwn};
 ghost use Rattle.comemo_sheet.specs.Sheets.{cell_answer};
 ghost use Rattle.comemo_sheet.specs.Values.{both, value_of};
-ghost use Rattle.comemo_sheet.specs.SheetLaws.{content_clones};
 ghost use Rattle.comemo_sheet.specs.ValueLaws.{value_alike};
 
 use crate::row::add;
@@ -31,7 +30,7 @@ impl Function for Value {
 
     ghost means = { λ key m out. out ≡ value_of m key.1 key.0 };
 
-    ghost laws = { output_laws (Prim.search rules) (Prim.search rules) content_clones
+    ghost laws = { output_laws (Prim.search rules) (Prim.search rules)
         (λ j k m r e. Prim.search (rules, value_alike m r j.1 j.0 k.0)) };
 }
 

@@ -1,4 +1,4 @@
--- A site answers equal calls alike, an answer is equal to its clone, and equal answers are one value.
+-- A site answers equal calls alike, and equal answers are one value.
 use Rattle.std.specs.Prelude.{◌≡◌, String}
 use Rattle.std.specs.Global.{Global}
 use Rattle.std.specs.HashMap.{HashMap}
@@ -15,7 +15,6 @@ use Rattle.comemo_site.specs.contracts.block.PlainPartialEq.TheImpl as plain
 use Rattle.comemo_site.specs.contracts.block.BlockPartialEq.TheImpl as block
 use Rattle.comemo_site.specs.contracts.site.SiteCallPartialEq.TheImpl as call
 use Rattle.comemo_site.specs.contracts.site.SiteAnswerPartialEq.TheImpl as answer
-use Rattle.comemo_site.specs.contracts.site.SiteAnswerClone.TheImpl as clone
 
 plain_refl : (x : Plain) → IsTrue (plain.ghosts.eq x x)
 plain_refl x = search (rules, nat_list_eq_equiv)
@@ -25,9 +24,6 @@ plain_same x y h = search (rules, same_text)
 
 pub answer_refl : (x : SiteAnswer) → IsTrue (answer.ghosts.eq x x)
 answer_refl x = search (rules, nat_list_eq_equiv, items_refl block.ghosts.eq (λ l. search (rules, nat_list_eq_equiv, plain_refl)))
-
-pub answer_clones : (x y : SiteAnswer) → clone.ghosts.is_clone x y → IsTrue (answer.ghosts.eq x y)
-answer_clones x y h = search (rules, answer_refl)
 
 pub answer_same : (x y : SiteAnswer) → IsTrue (answer.ghosts.eq x y) → y ≡ x
 answer_same x y h = search (rules, same_text, items_same block.ghosts.eq (λ a b e. search (rules, same_text, plain_same)))

@@ -6,7 +6,6 @@ ghost use Rattle.comemo.specs.FunctionMut.{lent};
 ghost use Rattle.comemo.specs.MeaningLaws.{exact_laws};
 ghost use Rattle.comemo.specs.Multi.{second_call};
 ghost use Rattle.comemo_site.specs.Pages.{OnSite, block_html, block_warnings, page_html, page_warnings};
-ghost use Rattle.comemo_site.specs.SiteLaws.{answer_clones};
 
 use crate::block::Block;
 use crate::html::{Html, Rendered};
@@ -40,7 +39,7 @@ impl Function for Build {
     ghost writes = { λ key m _ W. OnSite m
         (λ site. W ≡ map second_call (page_warnings site key.1 key.0)) };
 
-    ghost laws = { exact_laws (Prim.search (rules, answer_clones)) };
+    ghost laws = { exact_laws (Prim.search rules) };
 }
 
 /// What building keeps: the pages and the titles.
@@ -157,7 +156,7 @@ impl Function for Publish {
 
     ghost writes = { ⟦<Build as Function>⟧.writes };
 
-    ghost laws = { exact_laws (Prim.search (rules, answer_clones)) };
+    ghost laws = { exact_laws (Prim.search rules) };
 }
 
 impl<'a> RunMut<ReadAndWrite<'a, Site, Log>, (Global, Built)> for Publish {

@@ -5,7 +5,6 @@ ghost use Rattle.comemo.specs.FunctionMut.{lent};
 ghost use Rattle.comemo.specs.MeaningLaws.{exact_laws};
 ghost use Rattle.comemo.specs.Multi.{second_call};
 ghost use Rattle.comemo_site.specs.Pages.{OnSite, link_html, missing};
-ghost use Rattle.comemo_site.specs.SiteLaws.{answer_clones};
 ghost use Rattle.comemo_site.specs.Sites.{title_in};
 ghost use Rattle.comemo_site.specs.declared.site.SiteCall.TheVariants.{TitleOf};
 
@@ -37,7 +36,7 @@ impl Function for Link {
     ghost writes = { λ name m _ W. OnSite m
         (λ site. W ≡ map second_call (missing name (title_in (site (TitleOf name))))) };
 
-    ghost laws = { exact_laws (Prim.search (rules, answer_clones)) };
+    ghost laws = { exact_laws (Prim.search rules) };
 }
 
 impl<'a> RunMut<ReadAndWrite<'a, Site, Log>, (Global, CacheData<Title>)> for Link {

@@ -22,9 +22,7 @@ impl Call for Warning {
 
     ghost touches = { λ _ _. false };
 
-    ghost same_kind = { λ x y h. refl };
-
-    ghost clones = { λ x y h. Prim.search rules };
+    ghost laws = { Prim.search rules };
 
     fn is_mutable(&self) -> bool {
         true
@@ -95,8 +93,6 @@ impl Track for Log {
     ghost wrote = { λ s warning t. t ≡ s ++ warning ∷ [] };
 
     ghost alike = { λ _ _ _ _. refl };
-
-    ghost clones = { λ x y h. Prim.search rules };
 
     fn ask(&self, _call: &Warning) -> Result<(), AllocError> {
         // Each call is a write, so there is no answer.

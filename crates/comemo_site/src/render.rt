@@ -3,7 +3,6 @@
 ghost use Rattle.std.specs.Prelude.{◌≡◌, IfOk};
 ghost use Rattle.std.proofs.Common.{rules};
 ghost use Rattle.comemo.specs.Recursive.{TellsOwn};
-ghost use Rattle.comemo_site.specs.SiteLaws.{answer_clones};
 ghost use Rattle.comemo_site.specs.Sites.{site_answer};
 ghost use Rattle.comemo_site.specs.Pages.{block_html, page_html};
 
@@ -30,7 +29,7 @@ impl Function for Render {
 
     ghost means = { λ key m out. out ≡ page_html m key.1 key.0 };
 
-    ghost laws = { Prim.search (rules, answer_clones) };
+    ghost laws = { Prim.search rules };
 }
 
 /// The caches of rendering: of pages and of titles.

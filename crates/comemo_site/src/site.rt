@@ -1,11 +1,11 @@
 //! A site of pages by name: a tracked value that is only read.
-ghost use Rattle.std.specs.Prelude.{◌≡◌, ℕ, List, None, Some, false, refl, bytes_eq, if◌then◌else◌, string_bytes, unwrap_or, [], IfOk, OnOk, OnErr, option_copied};
+ghost use Rattle.std.specs.Prelude.{◌≡◌, ℕ, List, None, Some, false, bytes_eq, if◌then◌else◌, string_bytes, unwrap_or, [], IfOk, OnOk, OnErr, option_copied};
 ghost use Rattle.std.proofs.Common.{rules};
 ghost use Rattle.comemo_site.specs.Sites.{page_of, title_answer, blocks_answer, title_in, blocks_in};
 
 use crate::block::{Block, Blocks};
 use crate::text::Text;
-use comemo::{Call, Track};
+use comemo::{Answer, Call, Track};
 use std::alloc::{AllocError, Global};
 use std::collections::HashMap;
 
@@ -23,9 +23,7 @@ impl Call for SiteCall {
 
     ghost touches = { λ _ _. false };
 
-    ghost same_kind = { λ x y h. refl };
-
-    ghost clones = { λ x y h. Prim.search rules };
+    ghost laws = { Prim.search rules };
 
     fn is_mutable(&self) -> bool {
         false
@@ -45,6 +43,12 @@ pub enum SiteAnswer {
     Title(Text),
     /// Its blocks.
     Blocks(Blocks),
+}
+
+impl Answer for SiteAnswer {
+    ghost use Rattle.comemo_site.specs.SiteLaws.{answer_refl};
+
+    ghost clones = { λ x y h. Prim.search (rules, answer_refl) };
 }
 
 impl SiteAnswer {
@@ -153,13 +157,11 @@ impl Track for Site {
     type Answer = SiteAnswer;
 
     ghost use Rattle.comemo_site.specs.Sites.{site_answer};
-    ghost use Rattle.comemo_site.specs.SiteLaws.{site_alike, answer_clones};
+    ghost use Rattle.comemo_site.specs.SiteLaws.{site_alike};
 
     ghost answers = { λ s call. site_answer s.pages call };
 
     ghost alike = { λ s. site_alike s.pages };
-
-    ghost clones = { answer_clones };
 
     #[tactic(auto, using(crate::specs::SiteLaws::answer_refl))]
     fn ask(&self, call: &SiteCall) -> Result<SiteAnswer, AllocError> {

@@ -1,7 +1,6 @@
 //! The title of a page: a memoized function.
 ghost use Rattle.std.specs.Prelude.{◌≡◌};
 ghost use Rattle.std.proofs.Common.{rules};
-ghost use Rattle.comemo_site.specs.SiteLaws.{answer_clones};
 ghost use Rattle.comemo_site.specs.Sites.{title_in};
 ghost use Rattle.comemo_site.specs.declared.site.SiteCall.TheVariants.{TitleOf};
 
@@ -23,7 +22,7 @@ impl Function for Title {
 
     ghost means = { λ key m out. out ≡ title_in (m (TitleOf key.0)) };
 
-    ghost laws = { Prim.search (rules, answer_clones) };
+    ghost laws = { Prim.search rules };
 }
 
 impl Run<Site, ()> for Title {
@@ -31,7 +30,7 @@ impl Run<Site, ()> for Title {
     fn run(
         key: &(Text, ()),
         site: &mut Recorder<'_, Site>,
-        _needs: &mut (),
+        _: &mut (),
     ) -> Result<Option<Text>, Fault> {
         let answer = site.ask(SiteCall::TitleOf(key.0.clone()?))?;
         Ok(answer.into_title())

@@ -30,7 +30,7 @@ impl Function for Location {
 }
 
 impl Run<Context, ()> for Location {
-    fn run(_key: &(), of: &mut Recorder<'_, Context>, _needs: &mut ()) -> Result<u64, Fault> {
+    fn run(_: &(), of: &mut Recorder<'_, Context>, _: &mut ()) -> Result<u64, Fault> {
         of.ask(ContextCall::Location)
     }
 }

@@ -27,7 +27,7 @@ impl Function for WarmthFor {
 }
 
 impl Run<Town, ()> for WarmthFor {
-    fn run(_key: &u64, town: &mut Recorder<'_, Town>, _needs: &mut ()) -> Result<u64, Fault> {
+    fn run(_: &u64, town: &mut Recorder<'_, Town>, _: &mut ()) -> Result<u64, Fault> {
         let degrees = town.ask(TownCall::Degrees)?;
         Ok(degrees)
     }

@@ -44,7 +44,7 @@ impl Function for Warmth {
 }
 
 impl Run<Town, ()> for Warmth {
-    fn run(_key: &(), town: &mut Recorder<'_, Town>, _needs: &mut ()) -> Result<u64, Fault> {
+    fn run(_: &(), town: &mut Recorder<'_, Town>, _: &mut ()) -> Result<u64, Fault> {
         let degrees = town.ask(TownCall::Degrees)?;
         Ok(degrees)
     }

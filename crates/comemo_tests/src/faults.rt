@@ -29,7 +29,7 @@ impl Function for Refused {
 }
 
 impl Run<Context, ()> for Refused {
-    fn run(_key: &(), _of: &mut Recorder<'_, Context>, _needs: &mut ()) -> Result<u64, Fault> {
+    fn run(_: &(), _: &mut Recorder<'_, Context>, _: &mut ()) -> Result<u64, Fault> {
         Err(Fault::Memory)
     }
 }

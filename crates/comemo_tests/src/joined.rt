@@ -41,7 +41,6 @@ impl Function for ContainsNumber {
       );
       writes = λ key m output V W r same h. (none_alike _ V W same h.0, h.1);
       key_clones = Prim.search rules;
-      answer_clones = Prim.search rules;
     } };
 }
 

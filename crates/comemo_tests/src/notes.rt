@@ -28,11 +28,7 @@ impl Function for NotesThree {
 }
 
 impl RunMut<Notebook, ()> for NotesThree {
-    fn run(
-        n: &u64,
-        book: &mut RecorderMut<'_, '_, Notebook>,
-        _needs: &mut (),
-    ) -> Result<u64, Fault> {
+    fn run(n: &u64, book: &mut RecorderMut<'_, '_, Notebook>, _: &mut ()) -> Result<u64, Fault> {
         book.write(NotebookCall::Note(*n))?;
         let owner = book.ask(NotebookCall::Owner)?;
         book.write(NotebookCall::Note(owner))?;

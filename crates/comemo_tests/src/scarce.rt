@@ -1,6 +1,6 @@
 //! Calls in which one clone fails, whichever it is: how a call of a memoized function ends, and what it leaves of its
 //! sink, its cache and the age of its entry.
-ghost use Rattle.std.specs.Prelude.{◌≡◌, false, nat_eq, refl, IfOk};
+ghost use Rattle.std.specs.Prelude.{◌≡◌, false, nat_eq, IfOk};
 ghost use Rattle.std.specs.List.{All};
 ghost use Rattle.std.proofs.Common.{rules};
 ghost use Rattle.comemo.specs.Steps.{IsStep};
@@ -70,9 +70,7 @@ impl Call for Scarce {
 
     ghost touches = { λ _ _. false };
 
-    ghost same_kind = { λ x y h. refl };
-
-    ghost clones = { λ x y h. Prim.search rules };
+    ghost laws = { Prim.search rules };
 
     fn is_mutable(&self) -> bool {
         false
@@ -95,8 +93,6 @@ impl Track for Echo {
     ghost answers = { λ _ call. call.number };
 
     ghost alike = { λ s x y h. Prim.search rules };
-
-    ghost clones = { λ x y h. Prim.search rules };
 
     fn ask(&self, call: &Scarce) -> Result<u64, AllocError> {
         Ok(call.number)

@@ -1,5 +1,5 @@
 //! A memoized function that asks through a `Tracked`, and a value that counts how often it is asked.
-ghost use Rattle.std.specs.Prelude.{◌≡◌, IfOk, false, refl};
+ghost use Rattle.std.specs.Prelude.{◌≡◌, IfOk, false};
 ghost use Rattle.std.proofs.Common.{rules};
 
 use crate::inputs::LocationOf;
@@ -45,8 +45,6 @@ impl Track for Counting {
     ghost answers = { λ s call. field s.context.location s.context.styles call };
 
     ghost alike = { λ s x y h. Prim.search rules };
-
-    ghost clones = { λ x y h. Prim.search rules };
 
     fn ask(&self, call: &ContextCall) -> Result<u64, AllocError> {
         self.asked.fetch_add(1, Ordering::SeqCst);
@@ -181,9 +179,7 @@ impl Call for Single {
 
     ghost touches = { λ _ _. false };
 
-    ghost same_kind = { λ x y h. refl };
-
-    ghost clones = { λ x y h. Prim.search rules };
+    ghost laws = { Prim.search rules };
 
     fn is_mutable(&self) -> bool {
         false
@@ -208,8 +204,6 @@ impl Track for Echo {
     ghost answers = { λ _ call. call.number };
 
     ghost alike = { λ s x y h. Prim.search rules };
-
-    ghost clones = { λ x y h. Prim.search rules };
 
     fn ask(&self, call: &Single) -> Result<u64, AllocError> {
         self.asked.fetch_add(1, Ordering::SeqCst);

@@ -10,3 +10,5 @@ pub mod InputLaws
 pub mod Writing
 pub mod WritingLaws
 pub mod Answered
+pub mod AnswerLaws
+pub mod Calls

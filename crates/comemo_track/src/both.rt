@@ -25,15 +25,12 @@ impl<'a, A: Track, B: Track> Track for Both<'a, A, B> {
     type Answer = MultiAnswer<A::Answer, B::Answer>;
 
     ghost use Rattle.comemo_track.specs.Multi.{part_answers};
-    ghost use Rattle.comemo_track.specs.MultiLaws.{by_parts, by_answers};
+    ghost use Rattle.comemo_track.specs.MultiLaws.{by_parts};
 
     ghost answers = { λ s. part_answers (A.answers s.first) (B.answers s.second) };
 
     ghost alike = { λ s. by_parts _ (A.alike s.first) (B.alike s.second)
         (λ c d h. Prim.search rules) (λ c d h. Prim.search rules) };
-
-    ghost clones = { by_answers _ A.clones B.clones
-        (λ a b h. Prim.search rules) (λ a b h. Prim.search rules) };
 
     fn ask(
         &self,

@@ -31,6 +31,7 @@
 //! `src/examples.rt`, through the crate `comemo`, which has all that this one has.
 #![tactic(auto)]
 
+pub mod answer;
 pub mod both;
 pub mod both_mut;
 pub mod constraint;
@@ -42,6 +43,7 @@ pub mod track;
 pub mod tracked;
 pub mod writing;
 
+pub use answer::Answer;
 pub use both::Both;
 pub use both_mut::BothMut;
 pub use constraint::Constraint;

@@ -4,6 +4,7 @@ ghost use Rattle.std.proofs.Common.{◌∙◌};
 ghost use Rattle.comemo_track.specs.Mapped.{Through};
 ghost use Rattle.comemo_track.specs.Sending.{Asks, sent_pairs, sent_writes};
 
+use crate::answer::Answer;
 use crate::track::{Call, Sink, Track, View};
 use std::alloc::AllocError;
 
@@ -19,10 +20,10 @@ pub trait CallMap {
     type To: Call;
 
     /// The answers that are sent.
-    type FromAnswer: Clone + Ord;
+    type FromAnswer: Answer;
 
     /// The answers that they become.
-    type ToAnswer: Clone + Ord;
+    type ToAnswer: Answer;
 
     // what a call becomes
     ghost maps: { Self → Self.From → Self.To };

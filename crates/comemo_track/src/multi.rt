@@ -2,6 +2,7 @@
 ghost use Rattle.std.specs.Prelude.{◌≡◌, refl};
 ghost use Rattle.std.proofs.Common.{ap, ◌∙◌, sym, rules};
 
+use crate::answer::Answer;
 use crate::input::Input;
 use crate::mapped::CallMap;
 use crate::track::Call;
@@ -25,11 +26,12 @@ impl<A: Call, B: Call> Call for MultiCall<A, B> {
 
     ghost touches = { part_touches A.touches B.touches };
 
-    ghost same_kind = { by_parts _ A.same_kind B.same_kind
-        (λ c d h. Prim.search rules) (λ c d h. Prim.search rules) };
-
-    ghost clones = { by_parts _ A.clones B.clones
-        (λ c d h. Prim.search rules) (λ c d h. Prim.search rules) };
+    ghost laws = { record {
+      same_kind = by_parts _ A.Call.laws.same_kind B.Call.laws.same_kind
+          (λ c d h. Prim.search rules) (λ c d h. Prim.search rules);
+      clones = by_parts _ A.Call.laws.clones B.Call.laws.clones
+          (λ c d h. Prim.search rules) (λ c d h. Prim.search rules);
+    } };
 
     fn is_mutable(&self) -> bool {
         match self {
@@ -55,6 +57,13 @@ pub enum MultiAnswer<A, B> {
     A(A),
     /// An answer of the second part.
     B(B),
+}
+
+impl<A: Answer, B: Answer> Answer for MultiAnswer<A, B> {
+    ghost use Rattle.comemo_track.specs.MultiLaws.{by_answers};
+
+    ghost clones = { by_answers _ A.clones B.clones
+        (λ a b h. Prim.search rules) (λ a b h. Prim.search rules) };
 }
 
 /// Joined inputs: `()`, or a pair whose parts may be joined inputs themselves.
@@ -178,7 +187,7 @@ impl<A, B, RA, RB> First<A, B, RA, RB> {
     }
 }
 
-impl<A: Call, B: Call, RA: Clone + Ord, RB: Clone + Ord> CallMap for First<A, B, RA, RB> {
+impl<A: Call, B: Call, RA: Answer, RB: Answer> CallMap for First<A, B, RA, RB> {
     type From = A;
 
     type To = MultiCall<A, B>;
@@ -227,7 +236,7 @@ impl<A, B, RA, RB> Second<A, B, RA, RB> {
     }
 }
 
-impl<A: Call, B: Call, RA: Clone + Ord, RB: Clone + Ord> CallMap for Second<A, B, RA, RB> {
+impl<A: Call, B: Call, RA: Answer, RB: Answer> CallMap for Second<A, B, RA, RB> {
     type From = B;
 
     type To = MultiCall<A, B>;

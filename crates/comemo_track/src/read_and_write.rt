@@ -25,15 +25,12 @@ impl<'a, A: Track, B: Track> Track for ReadAndWrite<'a, A, B> {
 
     ghost use Rattle.comemo_track.specs.Multi.{part_answers, OnCall};
     ghost use Rattle.comemo_track.specs.Writing.{WroteAt};
-    ghost use Rattle.comemo_track.specs.MultiLaws.{by_parts, by_answers};
+    ghost use Rattle.comemo_track.specs.MultiLaws.{by_parts};
 
     ghost answers = { λ s. part_answers (A.answers s.first) (B.answers s.second.now) };
 
     ghost alike = { λ s. by_parts _ (A.alike s.first) (B.alike s.second.now)
         (λ c d h. Prim.search rules) (λ c d h. Prim.search rules) };
-
-    ghost clones = { by_answers _ A.clones B.clones
-        (λ a b h. Prim.search rules) (λ a b h. Prim.search rules) };
 
     // a write changes the second value only, and a write to the first always fails
     ghost wrote = { λ s call t. OnCall

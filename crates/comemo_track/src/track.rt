@@ -4,10 +4,12 @@ ghost use Rattle.std.specs.Prelude.{◌≡◌, ◌≤◌, ◌+◌, ◌^◌, ◌|
 ghost use Rattle.std.proofs.Common.{◌∙◌, inl};
 ghost use Rattle.comemo_base.specs.Answers.{Respects};
 ghost use Rattle.comemo_base.specs.Sequence.{held};
+ghost use Rattle.comemo_track.specs.Calls.{CallLaws};
 ghost use Rattle.comemo_track.specs.Sending.{sent_pairs, sent_writes, Asks, BreaksOff, SpoiledAfter, TookAs};
 ghost use Rattle.comemo_track.specs.Views.{value_of, sink_of, place_of, place_in, writing_sink_of};
 ghost use Rattle.comemo_track.specs.Writing.{SameReads, Done};
 
+use crate::answer::Answer;
 use crate::tracked::Tracked;
 use crate::writing::{TrackedMut, TrackedMutWith};
 use std::alloc::{AllocError, Global};
@@ -34,11 +36,8 @@ pub trait Call: Clone + Eq + Hash {
     fn touches(&self, read: &Self) -> bool
         ensures { result ≡ touches self.now read.now };
 
-    // equal calls are both reads or both writes
-    ghost same_kind: { (x y : Self) → IsTrue (Self.eq x y) → is_write x ≡ is_write y };
-
-    // a clone is equal
-    ghost clones: { (x y : Self) → Self.is_clone x y → IsTrue (Self.eq x y) };
+    // equal calls are both reads or both writes, and a clone is equal
+    ghost laws: { CallLaws Self.eq Self.is_clone is_write };
 }
 
 /// The only call of a value that has nothing to ask: a read.
@@ -49,9 +48,7 @@ impl Call for () {
 
     ghost touches = { λ _ _. false };
 
-    ghost same_kind = { λ _ _ _. refl };
-
-    ghost clones = { λ x y h. Prim.search rules };
+    ghost laws = { Prim.search rules };
 
     fn is_mutable(&self) -> bool {
         false
@@ -71,7 +68,7 @@ pub trait Sink {
     type Call: Call;
 
     /// The answer to a read: one type for all calls.
-    type Answer: Clone + Ord;
+    type Answer: Answer;
 
     // t is s after it took these pairs and these writes
     ghost took: { Self → Self → List (Self.Call × Self.Answer) → List Self.Call → Type 0 };
@@ -270,7 +267,7 @@ impl<C, R> Top<C, R> {
     }
 }
 
-impl<C: Call, R: Clone + Ord> Sink for Top<C, R> {
+impl<C: Call, R: Answer> Sink for Top<C, R> {
     type Call = C;
 
     type Answer = R;
@@ -334,7 +331,7 @@ pub trait Track {
     type Call: Call;
 
     /// The answer to a read: one type for all calls.
-    type Answer: Clone + Ord;
+    type Answer: Answer;
 
     // what the value answers
     ghost answers: { Self → Self.Call → Self.Answer };
@@ -429,9 +426,6 @@ pub trait Track {
 
     // equal calls have equal answers
     ghost alike: { (s : Self) → Respects Self.Call.eq Self.Answer.eq (answers s) };
-
-    // a clone of an answer is equal
-    ghost clones: { (x y : Self.Answer) → Self.Answer.is_clone x y → IsTrue (Self.Answer.eq x y) };
 }
 
 /// What writes do to a tracked value, for contracts, as `⟦<T as Written>⟧.did`. There is nothing to implement.
@@ -455,8 +449,6 @@ impl Track for () {
     ghost answers = { λ _ _. tt };
 
     ghost alike = { λ _ _ _ _. refl };
-
-    ghost clones = { λ x y h. Prim.search rules };
 
     fn ask(&self, _call: &()) -> Result<(), AllocError> {
         Ok(())

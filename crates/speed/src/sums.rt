@@ -35,7 +35,7 @@ impl Function for SumOfCells {
 }
 
 impl Run<Cells, ()> for SumOfCells {
-    fn run(key: &SumKey, cells: &mut Recorder<'_, Cells>, _needs: &mut ()) -> Result<u64, Fault> {
+    fn run(key: &SumKey, cells: &mut Recorder<'_, Cells>, _: &mut ()) -> Result<u64, Fault> {
         let mut sum = key.start;
         for place in 0..key.count {
             sum = sum.wrapping_add(cells.ask(Get { place })?);

@@ -1,5 +1,5 @@
 //! The weather, as a tracked value.
-ghost use Rattle.std.specs.Prelude.{false, refl};
+ghost use Rattle.std.specs.Prelude.{false};
 ghost use Rattle.std.proofs.Common.{rules};
 
 use comemo::{Call, Track};
@@ -19,9 +19,7 @@ impl Call for WeatherCall {
 
     ghost touches = { λ _ _. false };
 
-    ghost same_kind = { λ x y h. refl };
-
-    ghost clones = { λ x y h. Prim.search rules };
+    ghost laws = { Prim.search rules };
 
     fn is_mutable(&self) -> bool {
         false
@@ -51,8 +49,6 @@ impl Track for Weather {
     ghost answers = { λ s call. answer s.degrees s.wind call };
 
     ghost alike = { λ s x y h. Prim.search rules };
-
-    ghost clones = { λ x y h. Prim.search rules };
 
     fn ask(&self, call: &WeatherCall) -> Result<u64, AllocError> {
         match call {

@@ -37,7 +37,6 @@ impl Function for FileSize {
       keys = λ j k m output writes r e h. (h.0, size_alike j k m output r e h.1);
       writes = λ key m output V W r same h. (none_alike _ V W same h.0, h.1);
       key_clones = Prim.search rules;
-      answer_clones = Prim.search rules;
     } };
 }
 

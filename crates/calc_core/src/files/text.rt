@@ -4,8 +4,9 @@ ghost use Rattle.std.specs.Hash as fed;
 ghost use Rattle.std.specs.Cmp.Lexicographic.{nat_list_eq_equiv, bytes_decides};
 ghost use Rattle.calc_core.specs.Order.{digest, by_number, by_number_total, by_number_ties, by_number_po};
 ghost use Rattle.std.specs.Cmp.{partial_equiv_from_equiv};
-ghost use Rattle.std.proofs.Common.{ap};
+ghost use Rattle.std.proofs.Common.{ap, rules};
 
+use comemo::Answer;
 use std::alloc::{AllocError, Global};
 use std::cmp::Ordering;
 use std::fmt;
@@ -150,6 +151,10 @@ impl Ord for Text {
             unequal => unequal,
         }
     }
+}
+
+impl Answer for Text {
+    ghost clones = { λ x y h. Prim.search rules };
 }
 
 impl Hash for Text {

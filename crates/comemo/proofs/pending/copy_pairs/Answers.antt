@@ -15,7 +15,7 @@ loop-slot-preserved g c =
     let P = λ (ps : List (_ × _)). IsSamePath g.C.PartialEq.eq g.R.PartialEq.eq ps (remaining (take (i + 1) slots)) in
     elim c.match-slot.branch [
       | in-Some+in_ok-call+in_ok-answer+in_ok-push w ↦
-          let call = turned g.met.C.Eq.laws w.in-Some.call w.in_ok-call.call (g.met.C.Call.clones _ _ w.in_ok-call.ensures.cases) in
+          let call = turned g.met.C.Eq.laws w.in-Some.call w.in_ok-call.call (g.met.C.Call.laws.clones _ _ w.in_ok-call.ensures.cases) in
           let answer = turned g.met.R.Eq.laws w.in-Some.answer w.in_ok-answer.answer (c.requires _ _ w.in_ok-answer.ensures.cases) in
           subst P (sym (ap (λ v. v.items) w.pairs-is ∙ w.in_ok-push.ensures.items)) (copied g.C.PartialEq.eq g.R.PartialEq.eq slots i slot c.loop-slot-test.true c.slot-item.is c.loop-slot.pairs.items c.loop-slot.invariant (w.in_ok-call.call, w.in_ok-answer.answer) (w.in-Some.call, w.in-Some.answer) w.in-Some.is call answer)
       | in_default w ↦ subst P (sym (ap (λ v. v.items) w.pairs-is)) (skipped g.C.PartialEq.eq g.R.PartialEq.eq slots i slot c.loop-slot-test.true c.slot-item.is c.loop-slot.pairs.items c.loop-slot.invariant (λ q e. w.in_default.not-Some q e))

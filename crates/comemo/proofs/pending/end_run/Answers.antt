@@ -12,7 +12,7 @@ pub returns-in_default-clause-gives : goal.returns-in_default-clause-gives
 returns-in_default-clause-gives g c = gives_itself g.met.M.Call.Eq.laws g.met.M.Answer.Eq.laws c.args.reads.pairs c.args.writes.items c.in_ok-give_recording.ensures.ok
 
 pub give_run-requires-clause-reads : goal.give_run-requires-clause-reads
-give_run-requires-clause-reads g c = reads_same g.M.Call.PartialEq.eq g.M.Answer.PartialEq.eq g.M.Call.Call.is_write g.met.M.Call.Call.same_kind _ c.args.reads.pairs c.in-Ok.ensures.pairs c.requires.reads
+give_run-requires-clause-reads g c = reads_same g.M.Call.PartialEq.eq g.M.Answer.PartialEq.eq g.M.Call.Call.is_write g.met.M.Call.Call.laws.same_kind _ c.args.reads.pairs c.in-Ok.ensures.pairs c.requires.reads
 
 pub keep-requires-clause-stands : goal.keep-requires-clause-stands
 keep-requires-clause-stands g c = λ m r a. g.met.M.Function.laws.writes c.args.key m c.in-Ok.kept c.args.writes.items c.in-Ok.copies.items r c.in-Ok.ensures.same (g.met.M.Function.laws.outputs c.args.key m c.args.output.now c.in-Ok.kept c.args.writes.items r c.in-Ok.ensures.output (c.requires.stands m r a))

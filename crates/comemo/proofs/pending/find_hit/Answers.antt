@@ -77,7 +77,7 @@ returns-then-peeked-gt0-clause-none g c =
     let moves : (call : g.row.M-Call.Denot) → M.is_write call ≡ false → IsTrue (M.same_answer (m call) (n call)) = λ call read. g.met.In.Input.keeps s t [] c.peek.ensures.same call read refl in
     let none = rw (stayed o o' c.peek.ensures.stays) at c.look_hit-then-peeked-gt0.ensures.none in
     IfOk-weaker c.look_hit-then-peeked-gt0.result _ _ (λ h k. none_mapped h (λ is. (
-      held_map o _ _ (λ es x. HasNone-alike M keys es key own alike m true true x) (none_left M g.met.M.Call.Eq.laws g.met.M.Answer.Eq.laws g.met.M.Call.Call.same_kind m n moves key true peeked.output peeked.writes.items peeked.age o found (held_map o _ _ (λ es x. HasNone-alike M keys es then key alike' n true true x) is.0)),
+      held_map o _ _ (λ es x. HasNone-alike M keys es key own alike m true true x) (none_left M g.met.M.Call.Eq.laws g.met.M.Answer.Eq.laws g.met.M.Call.Call.laws.same_kind m n moves key true peeked.output peeked.writes.items peeked.age o found (held_map o _ _ (λ es x. HasNone-alike M keys es then key alike' n true true x) is.0)),
       g.met.In.Input.joins _ _ _ [] [] c.peek.ensures.same is.1,
       is.2,
       is.3,

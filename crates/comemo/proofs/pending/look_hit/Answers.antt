@@ -45,7 +45,7 @@ returns-in_ok-output-in-Ok-Some-clause-hit g c =
     let n = g.In.Input.answers s in
     let alike = turned keys _ _ (joined keys (g.In.Input.key_of s) (g.In.Input.key_of c.args.input.now) key (g.met.In.Input.keeps_key s c.args.input.now [] before) c.requires) in
     let moves : (call : g.row.M-Call.Denot) → M.is_write call ≡ false → IsTrue (M.same_answer (g.In.Input.answers c.args.input.now call) (n call)) = λ call read. turned answers _ _ (g.met.In.Input.keeps s c.args.input.now [] before call read refl) in
-    let own : Held o (λ es. HasAged M es (invocation key n true) ran found.age) = held_map o _ _ (λ es k. HasAged-moved M calls answers g.met.M.Call.Call.same_kind (g.In.Input.answers c.args.input.now) n moves key true ran reads es found.age k) aged in
+    let own : Held o (λ es. HasAged M es (invocation key n true) ran found.age) = held_map o _ _ (λ es k. HasAged-moved M calls answers g.met.M.Call.Call.laws.same_kind (g.In.Input.answers c.args.input.now) n moves key true ran reads es found.age k) aged in
     let same = g.met.In.Input.joins _ _ _ [] [] before c.look.ensures.same in
     leads_map o o' _ _ (λ es es' k.
     let peeked : IsPeeked M es (invocation key n true) found.output found.writes.items found.age = record { pairs = found.pairs.items; kept = k.0; stands = stands; reads = reads; written = written; settled = settled } in (
@@ -74,7 +74,7 @@ returns-in_err-output-in-Ok-Some-clause-err g c =
     let n = g.In.Input.answers s in
     let alike = turned keys _ _ (joined keys (g.In.Input.key_of s) (g.In.Input.key_of c.args.input.now) key (g.met.In.Input.keeps_key s c.args.input.now [] before) c.requires) in
     let moves : (call : g.row.M-Call.Denot) → M.is_write call ≡ false → IsTrue (M.same_answer (g.In.Input.answers c.args.input.now call) (n call)) = λ call read. turned answers _ _ (g.met.In.Input.keeps s c.args.input.now [] before call read refl) in
-    let own : Held o (λ es. HasAged M es (invocation key n true) ran found.age) = held_map o _ _ (λ es k. HasAged-moved M calls answers g.met.M.Call.Call.same_kind (g.In.Input.answers c.args.input.now) n moves key true ran reads es found.age k) aged in
+    let own : Held o (λ es. HasAged M es (invocation key n true) ran found.age) = held_map o _ _ (λ es k. HasAged-moved M calls answers g.met.M.Call.Call.laws.same_kind (g.In.Input.answers c.args.input.now) n moves key true ran reads es found.age k) aged in
     let same = g.met.In.Input.joins _ _ _ [] [] before c.look.ensures.same in (
       rw (stayed _ _ c.look.ensures.stays) at memory.0,
       g.met.In.Input.joins _ _ _ [] [] same memory.1,
@@ -86,7 +86,7 @@ returns-in_err-output-in-Ok-Some-clause-err g c =
     let n = g.In.Input.answers s in
     let alike = turned keys _ _ (joined keys (g.In.Input.key_of s) (g.In.Input.key_of c.args.input.now) key (g.met.In.Input.keeps_key s c.args.input.now [] before) c.requires) in
     let moves : (call : g.row.M-Call.Denot) → M.is_write call ≡ false → IsTrue (M.same_answer (g.In.Input.answers c.args.input.now call) (n call)) = λ call read. turned answers _ _ (g.met.In.Input.keeps s c.args.input.now [] before call read refl) in
-    let own : Held o (λ es. HasAged M es (invocation key n true) ran found.age) = held_map o _ _ (λ es k. HasAged-moved M calls answers g.met.M.Call.Call.same_kind (g.In.Input.answers c.args.input.now) n moves key true ran reads es found.age k) aged in
+    let own : Held o (λ es. HasAged M es (invocation key n true) ran found.age) = held_map o _ _ (λ es k. HasAged-moved M calls answers g.met.M.Call.Call.laws.same_kind (g.In.Input.answers c.args.input.now) n moves key true ran reads es found.age k) aged in
     let same = g.met.In.Input.joins _ _ _ [] [] before c.look.ensures.same in
     let touched : Leads o o' (TouchesFound M.same_answer M.same_key key found.pairs.items found.age) = rw (stayed _ _ c.look.ensures.stays) at stop.7 in
     leads_map o o' _ _ (λ es es' k.

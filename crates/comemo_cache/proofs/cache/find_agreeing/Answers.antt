@@ -23,7 +23,7 @@ returns-clause-found g c =
     let s = c.args.input.now in
     let did = g.In.Input.did in
     let m = g.In.Input.answers s in
-    finds _ g.met.In.Call.Eq.laws g.met.In.Answer.Eq.laws g.In.Call.Call.is_write g.met.In.Call.Call.same_kind m (g.met.In.Input.alike s) (λ f. did s f.0.now []) (λ f f' call r i reads k.
+    finds _ g.met.In.Call.Eq.laws g.met.In.Answer.Eq.laws g.In.Call.Call.is_write g.met.In.Call.Call.laws.same_kind m (g.met.In.Input.alike s) (λ f. did s f.0.now []) (λ f f' call r i reads k.
     let called = k.called in
     let own : IsTrue (g.In.Answer.PartialEq.eq (g.In.Input.answers f.0.now k.shown.now) r) = search rules in
     let next : did f.0.now f'.0.now [] = search rules in
@@ -35,7 +35,7 @@ returns-clause-asked g c =
     let s = c.args.input.now in
     let did = g.In.Input.did in
     let m = g.In.Input.answers s in
-    asks _ g.met.In.Call.Eq.laws g.met.In.Answer.Eq.laws g.In.Call.Call.is_write g.met.In.Call.Call.same_kind m (g.met.In.Input.alike s) (λ f. did s f.0.now []) (λ f f' call r i reads k.
+    asks _ g.met.In.Call.Eq.laws g.met.In.Answer.Eq.laws g.In.Call.Call.is_write g.met.In.Call.Call.laws.same_kind m (g.met.In.Input.alike s) (λ f. did s f.0.now []) (λ f f' call r i reads k.
     let called = k.called in
     let own : IsTrue (g.In.Answer.PartialEq.eq (g.In.Input.answers f.0.now k.shown.now) r) = search rules in
     let next : did f.0.now f'.0.now [] = search rules in
@@ -47,7 +47,7 @@ returns-clause-err g c =
     let s = c.args.input.now in
     let did = g.In.Input.did in
     let m = g.In.Input.answers s in
-    refuses _ g.met.In.Call.Eq.laws g.met.In.Answer.Eq.laws g.In.Call.Call.is_write g.met.In.Call.Call.same_kind m (g.met.In.Input.alike s) (λ f. did s f.0.now []) (λ f f' call r i reads k.
+    refuses _ g.met.In.Call.Eq.laws g.met.In.Answer.Eq.laws g.In.Call.Call.is_write g.met.In.Call.Call.laws.same_kind m (g.met.In.Input.alike s) (λ f. did s f.0.now []) (λ f f' call r i reads k.
     let called = k.called in
     let own : IsTrue (g.In.Answer.PartialEq.eq (g.In.Input.answers f.0.now k.shown.now) r) = search rules in
     let next : did f.0.now f'.0.now [] = search rules in

@@ -24,7 +24,7 @@ returns-clause-found g c =
     let s = c.args.input.now in
     let did = g.In.Input.did in
     let m = g.In.Input.answers s in
-    gets _ g.met.In.Call.Eq.laws g.met.In.Answer.Eq.laws g.In.Call.Call.is_write g.met.In.Call.Call.same_kind m (g.met.In.Input.alike s) (λ f. did s f.0.now []) (λ f f' call r i reads k.
+    gets _ g.met.In.Call.Eq.laws g.met.In.Answer.Eq.laws g.In.Call.Call.is_write g.met.In.Call.Call.laws.same_kind m (g.met.In.Input.alike s) (λ f. did s f.0.now []) (λ f f' call r i reads k.
     let called = k.called in
     let own : IsTrue (g.In.Answer.PartialEq.eq (g.In.Input.answers f.0.now k.shown.now) r) = search rules in
     let next : did f.0.now f'.0.now [] = search rules in
@@ -38,7 +38,7 @@ returns-clause-noted g c =
     let m = g.In.Input.answers s in
     let kept = get_keeps _ (λ f f'. f'.1.ghost_name ≡ f.1.ghost_name) (λ f. refl) (λ f f' f'' h k. k ∙ h) (λ f f' x r k. let called = k.called in search rules) _ _ _ _ _ _ c.get.result c.get.ensures.asked c.get.ensures.refused in
     let name = sym kept in
-    notes_value _ g.met.In.Call.Eq.laws g.met.In.Answer.Eq.laws g.In.Call.Call.is_write g.met.In.Call.Call.same_kind m (g.met.In.Input.alike s) (λ f. did s f.0.now []) (λ f f' call r i reads k.
+    notes_value _ g.met.In.Call.Eq.laws g.met.In.Answer.Eq.laws g.In.Call.Call.is_write g.met.In.Call.Call.laws.same_kind m (g.met.In.Input.alike s) (λ f. did s f.0.now []) (λ f f' call r i reads k.
     let called = k.called in
     let own : IsTrue (g.In.Answer.PartialEq.eq (g.In.Input.answers f.0.now k.shown.now) r) = search rules in
     let next : did f.0.now f'.0.now [] = search rules in
@@ -46,7 +46,7 @@ returns-clause-noted g c =
     (λ f. f.1.now.items) (λ f f' call r k.
     let called = k.called in
     let copied : (copy : _ × _) × (f'.1.now.items ≡ f.1.now.items ++ copy ∷ []) × g.In.Call.Clone.is_clone k.shown.now copy.0 × g.In.Answer.Clone.is_clone r copy.1 = search rules in
-    (copied.0, copied.1, subst (λ x. IsTrue (g.In.Call.PartialEq.eq x copied.0.0)) k.shows (g.met.In.Call.Call.clones k.shown.now copied.0.0 copied.2), c.requires.clones r copied.0.1 copied.3))
+    (copied.0, copied.1, subst (λ x. IsTrue (g.In.Call.PartialEq.eq x copied.0.0)) k.shows (g.met.In.Call.Call.laws.clones k.shown.now copied.0.0 copied.2), g.met.In.Answer.Answer.clones r copied.0.1 copied.3))
     g.K.PartialEq.eq c.args.tree.now c.args.key.now (All-under g.K.PartialEq.eq c.args.tree.now c.args.key.now (λ e. All (λ p. g.In.Call.Call.is_write p.0 ≡ false) e.path) (λ k d l _. c.requires.reads k d l)) _ _ (g.met.In.Input.starts s) c.requires.nothing _ c.get.result c.get.ensures.asked _ (search (rules, name))
 
 pub returns-clause-err : goal.returns-clause-err
@@ -54,7 +54,7 @@ returns-clause-err g c =
     let s = c.args.input.now in
     let did = g.In.Input.did in
     let m = g.In.Input.answers s in
-    refuses_answer _ g.met.In.Call.Eq.laws g.met.In.Answer.Eq.laws g.In.Call.Call.is_write g.met.In.Call.Call.same_kind m (g.met.In.Input.alike s) (λ f. did s f.0.now []) (λ f f' call r i reads k.
+    refuses_answer _ g.met.In.Call.Eq.laws g.met.In.Answer.Eq.laws g.In.Call.Call.is_write g.met.In.Call.Call.laws.same_kind m (g.met.In.Input.alike s) (λ f. did s f.0.now []) (λ f f' call r i reads k.
     let called = k.called in
     let own : IsTrue (g.In.Answer.PartialEq.eq (g.In.Input.answers f.0.now k.shown.now) r) = search rules in
     let next : did f.0.now f'.0.now [] = search rules in

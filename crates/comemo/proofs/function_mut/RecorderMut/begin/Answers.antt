@@ -11,13 +11,13 @@ pub returns-in-Ok-Hit-clause-agrees : goal.returns-in-Ok-Hit-clause-agrees
 returns-in-Ok-Hit-clause-agrees g c =
     let s = c.args.self.now in
     let hit = some_led (g.H.Hold.entries c.args.cache.now) (g.H.Hold.entries c.look_up.new.cache) _ (of_hit c.look_up.result _ c.in-Ok-Hit.output _ _ c.in-Ok-Hit.is c.in-Ok-Hit.field-0-is c.look_up.ensures.hit) in
-    called_begun (record { same_call = g.T.Call.PartialEq.eq; same_answer = g.T.Answer.PartialEq.eq; same_key = g.G.Key.PartialEq.eq; is_write = g.T.Call.Call.is_write; is_clone = g.G.Out.Clone.is_clone; right = IsRight g.G.Function.means g.G.Function.writes; naming = g.G.Function.naming }) g.T.Track.wrote g.T.Call.Call.is_write g.T.Call.Call.touches g.T.Track.answers g.met.T.Call.Eq.laws g.met.T.Answer.Eq.laws g.met.T.Call.Call.same_kind g.met.T.Track.alike _ _ refl refl c.requires.agrees c.reveal_reads_and_writes.ensures.reads (record { output = c.in-Ok-Hit.output; how = how.Hit }) (reply_by_done_hit g.met.T.Call.Eq.laws g.met.T.Answer.Eq.laws hit.0 hit.1 hit.2.0 hit.2.1 (Done g.T.Track.wrote g.T.Call.Call.is_write g.T.Call.Call.touches g.T.Answer.PartialEq.eq g.T.Track.answers) s.value.now c.look_up.new.input.value.now c.look_up.new.input.value.now refl hit.2.0.are_done.0)
+    called_begun (record { same_call = g.T.Call.PartialEq.eq; same_answer = g.T.Answer.PartialEq.eq; same_key = g.G.Key.PartialEq.eq; is_write = g.T.Call.Call.is_write; is_clone = g.G.Out.Clone.is_clone; right = IsRight g.G.Function.means g.G.Function.writes; naming = g.G.Function.naming }) g.T.Track.wrote g.T.Call.Call.is_write g.T.Call.Call.touches g.T.Track.answers g.met.T.Call.Eq.laws g.met.T.Answer.Eq.laws g.met.T.Call.Call.laws.same_kind g.met.T.Track.alike _ _ refl refl c.requires.agrees c.reveal_reads_and_writes.ensures.reads (record { output = c.in-Ok-Hit.output; how = how.Hit }) (reply_by_done_hit g.met.T.Call.Eq.laws g.met.T.Answer.Eq.laws hit.0 hit.1 hit.2.0 hit.2.1 (Done g.T.Track.wrote g.T.Call.Call.is_write g.T.Call.Call.touches g.T.Answer.PartialEq.eq g.T.Track.answers) s.value.now c.look_up.new.input.value.now c.look_up.new.input.value.now refl hit.2.0.are_done.0)
 
 pub returns-in-Ok-Hit-clause-tells : goal.returns-in-Ok-Hit-clause-tells
 returns-in-Ok-Hit-clause-tells g c =
     let s = c.args.self.now in
     let hit = some_led (g.H.Hold.entries c.args.cache.now) (g.H.Hold.entries c.look_up.new.cache) _ (of_hit c.look_up.result _ c.in-Ok-Hit.output _ _ c.in-Ok-Hit.is c.in-Ok-Hit.field-0-is c.look_up.ensures.hit) in
-    tells_called (record { same_call = g.T.Call.PartialEq.eq; same_answer = g.T.Answer.PartialEq.eq; same_key = g.G.Key.PartialEq.eq; is_write = g.T.Call.Call.is_write; is_clone = g.G.Out.Clone.is_clone; right = IsRight g.G.Function.means g.G.Function.writes; naming = g.G.Function.naming }) g.T.Track.wrote g.T.Call.Call.is_write g.T.Call.Call.touches g.T.Track.answers g.met.T.Call.Eq.laws g.met.T.Answer.Eq.laws g.met.T.Call.Call.same_kind g.met.T.Track.alike _ _ refl refl c.requires.agrees c.reveal_reads_and_writes.ensures.reads (record { output = c.in-Ok-Hit.output; how = how.Hit }) (reply_by_done_hit g.met.T.Call.Eq.laws g.met.T.Answer.Eq.laws hit.0 hit.1 hit.2.0 hit.2.1 (Done g.T.Track.wrote g.T.Call.Call.is_write g.T.Call.Call.touches g.T.Answer.PartialEq.eq g.T.Track.answers) s.value.now c.look_up.new.input.value.now c.look_up.new.input.value.now refl hit.2.0.are_done.0)
+    tells_called (record { same_call = g.T.Call.PartialEq.eq; same_answer = g.T.Answer.PartialEq.eq; same_key = g.G.Key.PartialEq.eq; is_write = g.T.Call.Call.is_write; is_clone = g.G.Out.Clone.is_clone; right = IsRight g.G.Function.means g.G.Function.writes; naming = g.G.Function.naming }) g.T.Track.wrote g.T.Call.Call.is_write g.T.Call.Call.touches g.T.Track.answers g.met.T.Call.Eq.laws g.met.T.Answer.Eq.laws g.met.T.Call.Call.laws.same_kind g.met.T.Track.alike _ _ refl refl c.requires.agrees c.reveal_reads_and_writes.ensures.reads (record { output = c.in-Ok-Hit.output; how = how.Hit }) (reply_by_done_hit g.met.T.Call.Eq.laws g.met.T.Answer.Eq.laws hit.0 hit.1 hit.2.0 hit.2.1 (Done g.T.Track.wrote g.T.Call.Call.is_write g.T.Call.Call.touches g.T.Answer.PartialEq.eq g.T.Track.answers) s.value.now c.look_up.new.input.value.now c.look_up.new.input.value.now refl hit.2.0.are_done.0)
 
 pub returns-in-Ok-Hit-clause-hit : goal.returns-in-Ok-Hit-clause-hit
 returns-in-Ok-Hit-clause-hit g c =

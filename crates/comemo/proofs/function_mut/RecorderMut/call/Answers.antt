@@ -10,13 +10,13 @@ pub returns-clause-tells : goal.returns-clause-tells
 returns-clause-tells g c =
     let s = c.args.self.now in
     let k = (some_by (g.H.Hold.entries c.args.cache.now) (g.H.Hold.entries c.args.cache.now) (g.H.Hold.entries c.memoized_view.new.cache) _ (rw c.view-view.ensures at c.in_ok-reply.ensures.reply)).3 in
-    tells_read (record { same_call = g.T.Call.PartialEq.eq; same_answer = g.T.Answer.PartialEq.eq; same_key = g.G.Key.PartialEq.eq; is_write = g.T.Call.Call.is_write; is_clone = g.G.Out.Clone.is_clone; right = IsRight g.G.Function.means g.G.Function.writes; naming = g.G.Function.naming }) g.T.Track.wrote g.T.Call.Call.is_write g.T.Call.Call.touches g.T.Track.answers g.met.T.Call.Eq.laws g.met.T.Answer.Eq.laws g.met.T.Call.Call.same_kind g.met.T.Track.alike _ _ refl refl c.requires.agrees c.reveal_reads_and_writes.ensures.reads c.in_ok-reply.reply refl k (c.requires.reads.alone c.args.key (g.T.Track.answers s.value.now) c.in_ok-reply.reply.output k.writes (k.stands (g.T.Track.answers s.value.now) (g.met.T.Track.alike s.value.now) k.agrees).0) (λ n d. d.1)
+    tells_read (record { same_call = g.T.Call.PartialEq.eq; same_answer = g.T.Answer.PartialEq.eq; same_key = g.G.Key.PartialEq.eq; is_write = g.T.Call.Call.is_write; is_clone = g.G.Out.Clone.is_clone; right = IsRight g.G.Function.means g.G.Function.writes; naming = g.G.Function.naming }) g.T.Track.wrote g.T.Call.Call.is_write g.T.Call.Call.touches g.T.Track.answers g.met.T.Call.Eq.laws g.met.T.Answer.Eq.laws g.met.T.Call.Call.laws.same_kind g.met.T.Track.alike _ _ refl refl c.requires.agrees c.reveal_reads_and_writes.ensures.reads c.in_ok-reply.reply refl k (c.requires.reads.alone c.args.key (g.T.Track.answers s.value.now) c.in_ok-reply.reply.output k.writes (k.stands (g.T.Track.answers s.value.now) (g.met.T.Track.alike s.value.now) k.agrees).0) (λ n d. d.1)
 
 pub returns-clause-agrees : goal.returns-clause-agrees
 returns-clause-agrees g c =
     let s = c.args.self.now in
     let k = (some_by (g.H.Hold.entries c.args.cache.now) (g.H.Hold.entries c.args.cache.now) (g.H.Hold.entries c.memoized_view.new.cache) _ (rw c.view-view.ensures at c.in_ok-reply.ensures.reply)).3 in
-    read_begun (record { same_call = g.T.Call.PartialEq.eq; same_answer = g.T.Answer.PartialEq.eq; same_key = g.G.Key.PartialEq.eq; is_write = g.T.Call.Call.is_write; is_clone = g.G.Out.Clone.is_clone; right = IsRight g.G.Function.means g.G.Function.writes; naming = g.G.Function.naming }) g.T.Track.wrote g.T.Call.Call.is_write g.T.Call.Call.touches g.T.Track.answers g.met.T.Call.Eq.laws g.met.T.Answer.Eq.laws g.met.T.Call.Call.same_kind g.met.T.Track.alike _ _ refl refl c.requires.agrees c.reveal_reads_and_writes.ensures.reads c.in_ok-reply.reply refl k (c.requires.reads.alone c.args.key (g.T.Track.answers s.value.now) c.in_ok-reply.reply.output k.writes (k.stands (g.T.Track.answers s.value.now) (g.met.T.Track.alike s.value.now) k.agrees).0)
+    read_begun (record { same_call = g.T.Call.PartialEq.eq; same_answer = g.T.Answer.PartialEq.eq; same_key = g.G.Key.PartialEq.eq; is_write = g.T.Call.Call.is_write; is_clone = g.G.Out.Clone.is_clone; right = IsRight g.G.Function.means g.G.Function.writes; naming = g.G.Function.naming }) g.T.Track.wrote g.T.Call.Call.is_write g.T.Call.Call.touches g.T.Track.answers g.met.T.Call.Eq.laws g.met.T.Answer.Eq.laws g.met.T.Call.Call.laws.same_kind g.met.T.Track.alike _ _ refl refl c.requires.agrees c.reveal_reads_and_writes.ensures.reads c.in_ok-reply.reply refl k (c.requires.reads.alone c.args.key (g.T.Track.answers s.value.now) c.in_ok-reply.reply.output k.writes (k.stands (g.T.Track.answers s.value.now) (g.met.T.Track.alike s.value.now) k.agrees).0)
 
 pub returns-clause-writes : goal.returns-clause-writes
 returns-clause-writes g c =

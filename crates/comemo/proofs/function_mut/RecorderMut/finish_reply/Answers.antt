@@ -20,14 +20,14 @@ end-requires-clause-stands g c =
 pub returns-in-Ok-clause-agrees : goal.returns-in-Ok-clause-agrees
 returns-in-Ok-clause-agrees g c =
     let done = (some_led (g.H.Hold.entries c.args.cache.now) (g.H.Hold.entries c.end.new.cache) _ (rw (c.replace-recording.ensures.value, c.replace-recording.ensures.after) at c.in-Ok.ensures.finished).2).2 in
-    λ s within. within_agrees (record { same_call = g.T.Call.PartialEq.eq; same_answer = g.T.Answer.PartialEq.eq; same_key = g.G.Key.PartialEq.eq; is_write = g.T.Call.Call.is_write; is_clone = g.G.Out.Clone.is_clone; right = IsRight g.G.Function.means g.G.Function.writes; naming = g.G.Function.naming }) g.met.T.Call.Eq.laws g.met.T.Answer.Eq.laws g.T.Track.wrote g.T.Call.Call.is_write g.T.Call.Call.touches g.T.Track.answers g.met.T.Call.Call.same_kind g.met.T.Track.alike s (lent c.args.self.now.value c.args.self.now.recording) (lent c.args.self.now.value (record c.args.self.now.recording { now = c.end.new.sink })) within refl within.same_recording done.complete c.reveal_reads_and_writes-in-Ok.ensures.reads done.gives
+    λ s within. within_agrees (record { same_call = g.T.Call.PartialEq.eq; same_answer = g.T.Answer.PartialEq.eq; same_key = g.G.Key.PartialEq.eq; is_write = g.T.Call.Call.is_write; is_clone = g.G.Out.Clone.is_clone; right = IsRight g.G.Function.means g.G.Function.writes; naming = g.G.Function.naming }) g.met.T.Call.Eq.laws g.met.T.Answer.Eq.laws g.T.Track.wrote g.T.Call.Call.is_write g.T.Call.Call.touches g.T.Track.answers g.met.T.Call.Call.laws.same_kind g.met.T.Track.alike s (lent c.args.self.now.value c.args.self.now.recording) (lent c.args.self.now.value (record c.args.self.now.recording { now = c.end.new.sink })) within refl within.same_recording done.complete c.reveal_reads_and_writes-in-Ok.ensures.reads done.gives
 
 pub returns-in-Ok-clause-tells : goal.returns-in-Ok-clause-tells
 returns-in-Ok-clause-tells g c =
     let ended = rw (c.replace-recording.ensures.value, c.replace-recording.ensures.after) at c.in-Ok.ensures.finished in
     let done = (some_led (g.H.Hold.entries c.args.cache.now) (g.H.Hold.entries c.end.new.cache) _ ended.2).2 in
     let right = rw ended.1 at c.requires.right in
-    λ s within. of_reply c.in-Ok.reply (λ o m W. (IsRight g.G.Function.means g.G.Function.writes) c.args.key.now m o W) (within_tells (record { same_call = g.T.Call.PartialEq.eq; same_answer = g.T.Answer.PartialEq.eq; same_key = g.G.Key.PartialEq.eq; is_write = g.T.Call.Call.is_write; is_clone = g.G.Out.Clone.is_clone; right = IsRight g.G.Function.means g.G.Function.writes; naming = g.G.Function.naming }) g.met.T.Call.Eq.laws g.met.T.Answer.Eq.laws g.T.Track.wrote g.T.Call.Call.is_write g.T.Call.Call.touches g.T.Track.answers g.met.T.Call.Call.same_kind g.met.T.Track.alike s (lent c.args.self.now.value c.args.self.now.recording) (lent c.args.self.now.value (record c.args.self.now.recording { now = c.end.new.sink })) within refl within.same_recording done.complete c.reveal_reads_and_writes-in-Ok.ensures.reads done.gives c.args.key.now c.in-Ok.reply.output (λ n f. subst (λ o. (IsRight g.G.Function.means g.G.Function.writes) c.args.key.now n o c.args.self.now.recording.now.writes) (sym done.same) (right n f)))
+    λ s within. of_reply c.in-Ok.reply (λ o m W. (IsRight g.G.Function.means g.G.Function.writes) c.args.key.now m o W) (within_tells (record { same_call = g.T.Call.PartialEq.eq; same_answer = g.T.Answer.PartialEq.eq; same_key = g.G.Key.PartialEq.eq; is_write = g.T.Call.Call.is_write; is_clone = g.G.Out.Clone.is_clone; right = IsRight g.G.Function.means g.G.Function.writes; naming = g.G.Function.naming }) g.met.T.Call.Eq.laws g.met.T.Answer.Eq.laws g.T.Track.wrote g.T.Call.Call.is_write g.T.Call.Call.touches g.T.Track.answers g.met.T.Call.Call.laws.same_kind g.met.T.Track.alike s (lent c.args.self.now.value c.args.self.now.recording) (lent c.args.self.now.value (record c.args.self.now.recording { now = c.end.new.sink })) within refl within.same_recording done.complete c.reveal_reads_and_writes-in-Ok.ensures.reads done.gives c.args.key.now c.in-Ok.reply.output (λ n f. subst (λ o. (IsRight g.G.Function.means g.G.Function.writes) c.args.key.now n o c.args.self.now.recording.now.writes) (sym done.same) (right n f)))
 
 pub returns-in-Ok-clause-finished : goal.returns-in-Ok-clause-finished
 returns-in-Ok-clause-finished g c =

@@ -29,8 +29,8 @@ parts g = record {
   second_equal = g.met.B.Call.Eq.laws;
   first_alike = g.met.A.Answer.Eq.laws;
   second_alike = g.met.B.Answer.Eq.laws;
-  first_kind = g.met.A.Call.Call.same_kind;
-  second_kind = g.met.B.Call.Call.same_kind;
+  first_kind = g.met.A.Call.Call.laws.same_kind;
+  second_kind = g.met.B.Call.Call.laws.same_kind;
   first_respects = g.met.A.Track.alike;
   second_respects = g.met.B.Track.alike;
 }

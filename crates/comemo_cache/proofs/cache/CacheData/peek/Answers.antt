@@ -28,6 +28,6 @@ pub returns-clause-found : goal.returns-clause-found
 returns-clause-found g c =
     let M : Meaning g.row.M-Key.Denot g.row.M-Call.Denot g.row.M-Answer.Denot g.row.M-Out.Denot = record { same_call = g.M.Call.PartialEq.eq; same_answer = g.M.Answer.PartialEq.eq; same_key = g.M.Key.PartialEq.eq; is_write = g.M.Call.Call.is_write; is_clone = g.M.Out.Clone.is_clone; right = IsRight g.M.Function.means g.M.Function.writes; naming = g.M.Function.naming } in
     let found = rw (c.self.view_is, c.in-Ok-Some.is, c.in-Ok-Some.field-0-is) at c.get_agreeing.ensures.found in
-    let writes = SameWrites-cloned g.M.Call.PartialEq.eq g.M.Call.Clone.is_clone g.met.M.Call.Call.clones _ _ c.in_ok-copies.ensures.cases.0 in
+    let writes = SameWrites-cloned g.M.Call.PartialEq.eq g.M.Call.Clone.is_clone g.met.M.Call.Call.laws.clones _ _ c.in_ok-copies.ensures.cases.0 in
     let legal = rw c.self.view_is at c.self.invariant in
-    peeked M g.met.M.Call.Eq.laws g.met.M.Answer.Eq.laws g.met.M.Key.Eq.laws g.met.M.Call.Call.same_kind g.met.M.Function.laws c.args.self.now legal c.args.key.now (g.In.Input.answers c.args.input.now) true _ _ c.kept.view_is found c.in_ok-output.output c.in_ok-output.ensures.cases c.in_ok-copies.copies.items writes
+    peeked M g.met.M.Call.Eq.laws g.met.M.Answer.Eq.laws g.met.M.Key.Eq.laws g.met.M.Call.Call.laws.same_kind g.met.M.Function.laws c.args.self.now legal c.args.key.now (g.In.Input.answers c.args.input.now) true _ _ c.kept.view_is found c.in_ok-output.output c.in_ok-output.ensures.cases c.in_ok-copies.copies.items writes

@@ -16,7 +16,7 @@ invariant_of-self g c =
     let old = c.self.inside.tree in
     by_result c.insert.result c.insert.ensures.stored c.insert.ensures.err
     (λ h.
-    let legal = IsLegal-stored M g.met.M.Call.Eq.laws g.met.M.Answer.Eq.laws (under g.M.Key.PartialEq.eq old c.args.key) c.args.key h.own c.args.sequence.pairs h.path c.args.output c.args.writes.items g.met.M.Call.Call.same_kind (λ m r d. g.met.M.Function.laws.keys c.args.key h.own m c.args.output c.args.writes.items r (turned g.met.M.Key.Eq.laws h.own c.args.key h.is_key) d) c.reveal_distinct_calls.ensures.distinct c.requires.reads c.requires.written c.requires.stands h.is_new (named_new g.met.M.Call.Eq.laws g.met.M.Answer.Eq.laws g.met.M.Key.Eq.laws old c.args.key c.args.sequence.pairs c.reveal_distinct_calls.ensures.distinct M.naming (settled_from_legal M old c.self.invariant) c.requires.settled h.own h.path h.is_key h.is_new) in
+    let legal = IsLegal-stored M g.met.M.Call.Eq.laws g.met.M.Answer.Eq.laws (under g.M.Key.PartialEq.eq old c.args.key) c.args.key h.own c.args.sequence.pairs h.path c.args.output c.args.writes.items g.met.M.Call.Call.laws.same_kind (λ m r d. g.met.M.Function.laws.keys c.args.key h.own m c.args.output c.args.writes.items r (turned g.met.M.Key.Eq.laws h.own c.args.key h.is_key) d) c.reveal_distinct_calls.ensures.distinct c.requires.reads c.requires.written c.requires.stands h.is_new (named_new g.met.M.Call.Eq.laws g.met.M.Answer.Eq.laws g.met.M.Key.Eq.laws old c.args.key c.args.sequence.pairs c.reveal_distinct_calls.ensures.distinct M.naming (settled_from_legal M old c.self.invariant) c.requires.settled h.own h.path h.is_key h.is_new) in
     All-permutation P _ c.insert.new.self h.entries (All-cons P _ old legal c.self.invariant))
     (λ e. rw e c.self.invariant)
 
