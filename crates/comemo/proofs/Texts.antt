@@ -8,6 +8,7 @@ use Rattle.std.specs.Cmp.{IsEquivalence}
 use Rattle.std.specs.Cmp.Lexicographic.{pointwise, same_text}
 use Rattle.std.proofs.lemmas.Cmp.{nat_list_eq_equiv}
 use Rattle.comemo_base.specs.Answers.{Respects}
+use Rattle.comemo_track.specs.AnswerLaws.{items_clone}
 use Rattle.comemo_base.proofs.Paths.{turned, joined}
 use Rattle.comemo_track.specs.Multi.{first_call, first_answer}
 use Rattle.comemo_track.specs.declared.multi.MultiCall.{MultiCall}
@@ -26,13 +27,6 @@ module _ {X : Type 0} (same : X → X → Bool) where
   pub items_refl : ((x : X) → IsTrue (same x x)) → (xs : List X) → IsTrue (pointwise same xs xs)
   items_refl each [] = search rules
   items_refl each (x ∷ xs) = search (rules, each x, items_refl each xs)
-
-  -- and to its clone where each item is to its own
-  pub items_clone : (clone : X → X → Type 0) → ((x y : X) → clone x y → IsTrue (same x y)) → (xs ys : List X) → AllZip clone xs ys → IsTrue (pointwise same xs ys)
-  items_clone clone each [] [] h = search rules
-  items_clone clone each [] (y ∷ ys) h = search rules
-  items_clone clone each (x ∷ xs) [] h = search rules
-  items_clone clone each (x ∷ xs) (y ∷ ys) h = search (rules, each x y h.0, items_clone clone each xs ys h.1)
 
   -- if equal items are the same, so are lists of equal items
   pub items_same : ((x y : X) → IsTrue (same x y) → y ≡ x) → (xs ys : List X) → IsTrue (pointwise same xs ys) → ys ≡ xs

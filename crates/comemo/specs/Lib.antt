@@ -17,6 +17,8 @@ pub use Rattle.comemo_cache.specs.Steps
 pub use Rattle.comemo_cache.specs.StepLaws
 pub use Rattle.comemo_cache.specs.Explaining
 pub use Rattle.comemo_cache.specs.Contents
+pub use Rattle.comemo_track.specs.AnswerLaws
+pub use Rattle.comemo_track.specs.Calls
 pub use Rattle.comemo_track.specs.Sending
 pub use Rattle.comemo_track.specs.Writing
 pub use Rattle.comemo_track.specs.WritingLaws
