@@ -47,8 +47,8 @@ pub use closure::memoize;
 pub use comemo_base::{Prehashed, hash};
 pub use comemo_cache::{Cache, CacheData, Caches, Contents, Explanation, Function, Hold};
 pub use comemo_track::{
-    Answer, Both, BothMut, Call, Constraint, MultiAnswer, MultiCall, ReadAndWrite, Sink, Top, Track,
-    Tracked, View,
+    Answer, Both, BothMut, Call, Constraint, MultiAnswer, MultiCall, ReadAndWrite, Sink, Top,
+    Track, Tracked, View,
 };
 pub use explanation::explain;
 pub use function::{Recorder, Run, memoized, memoized_with};
