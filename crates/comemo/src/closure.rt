@@ -10,7 +10,6 @@ ghost use Rattle.comemo.specs.Closure.{Starts, Ran, RanTo, Ended, IsFault, IsBro
 use crate::pending::{Begun, Calling, Fault, How, Invoked, Reply, begin};
 use comemo_cache::cache::{Function, Meant};
 use comemo_cache::hold::Hold;
-use comemo_track::answer::Answer;
 use comemo_track::constraint::Constraint;
 use comemo_track::input::Input;
 use comemo_track::track::{Breaking, Call, Sink};
@@ -24,7 +23,7 @@ pub trait Record {
     type Call: Call;
 
     /// The answer to a read: one type for all calls.
-    type Answer: Answer;
+    type Answer: Clone + Ord;
 
     // what it holds
     ghost recorded: { Self → Recording Self.Call Self.Answer };
@@ -41,7 +40,7 @@ pub trait Record {
         ensures { result ≡ recorded self };
 }
 
-impl<C: Call, R: Answer> Record for Constraint<C, R> {
+impl<C: Call, R: Clone + Ord> Record for Constraint<C, R> {
     type Call = C;
 
     type Answer = R;

@@ -19,7 +19,6 @@ use crate::function::{Run, Told, memoized_view};
 use crate::pending::{Begun, Fault, How, Reply, begin};
 use comemo_cache::cache::{Function, Meant};
 use comemo_cache::hold::Hold;
-use comemo_track::answer::Answer;
 use comemo_track::constraint::Constraint;
 use comemo_track::input::KeyedMut;
 use comemo_track::track::{Breaking, Call, Sink, Top, Track, Written};
@@ -60,7 +59,7 @@ pub trait Records {
     type Call: Call;
 
     /// The answer to a read: one type for all calls.
-    type Answer: Answer;
+    type Answer: Clone + Ord;
 
     ghost use Rattle.comemo.specs.declared.pending.Fault.{Fault};
 
@@ -169,7 +168,7 @@ pub trait Writes {
     type Call: Call;
 
     /// The answer to a read: one type for all calls.
-    type Answer: Answer;
+    type Answer: Clone + Ord;
 
     ghost use Rattle.comemo.specs.declared.pending.Fault.{Fault};
 

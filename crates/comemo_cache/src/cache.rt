@@ -160,6 +160,8 @@ fn find_agreeing<'a, K: Clone + Eq + Hash, In: Input, T>(
     key: &K,
     input: &mut In,
 ) -> Result<Option<(Vec<(In::Call, In::Answer)>, &'a T)>, AllocError>
+where
+    In::Answer: Answer,
     requires reads { All (λ e. All (λ p. In.Call.is_write p.0 ≡ false) e.path) tree.now }
     ensures same { In.did input.old input.new [] }
     ensures found { IfOk result (λ found. FindsAgreeingPath In.Call.eq In.Answer.eq

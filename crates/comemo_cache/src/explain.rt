@@ -8,6 +8,7 @@ ghost use Rattle.comemo_cache.specs.Meaning.{invocation};
 ghost use Rattle.comemo_cache.specs.Explaining.{Explains};
 
 use crate::cache::{CacheData, Function, Meant};
+use comemo_track::answer::Answer;
 use comemo_track::input::Input;
 use comemo_track::track::Call;
 use comemo_tree::CallTree;
@@ -41,6 +42,8 @@ fn note_agreeing<'a, K: Clone + Eq + Hash, In: Input, T>(
     input: &mut In,
     notes: &mut Vec<(In::Call, In::Answer)>,
 ) -> Result<Option<&'a T>, AllocError>
+where
+    In::Answer: Answer,
     requires reads { All (λ e. All (λ p. In.Call.is_write p.0 ≡ false) e.path) tree.now }
     requires nothing { notes.old.items ≡ [] }
     ensures same { In.did input.old input.new [] }

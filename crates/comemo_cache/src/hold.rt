@@ -15,7 +15,6 @@ ghost use Rattle.comemo_cache.specs.Held.{Held, Leads, Stays};
 use crate::cache::{CacheData, Found, Function, Meant, Peeked};
 use crate::explain::Explanation;
 use comemo_base::{CallSequence, InsertError};
-use comemo_track::answer::Answer;
 use comemo_track::input::Input;
 use comemo_track::track::Call;
 use std::alloc::{AllocError, Global};
@@ -29,7 +28,7 @@ pub trait Reads {
     type Call: Call;
 
     /// The answers.
-    type Answer: Answer;
+    type Answer: Clone + Ord;
 
     // the pairs, in the order in which they were asked
     ghost pairs: { Self → List (Self.Call × Self.Answer) };
@@ -39,7 +38,7 @@ pub trait Reads {
         ensures { result.pairs ≡ pairs self };
 }
 
-impl<C: Call, R: Answer> Reads for CallSequence<C, R> {
+impl<C: Call, R: Clone + Ord> Reads for CallSequence<C, R> {
     type Call = C;
 
     type Answer = R;

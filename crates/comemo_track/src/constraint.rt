@@ -7,7 +7,6 @@ ghost use Rattle.comemo_track.specs.Recording.{Took, Spoiled, MarkedLate, Agrees
 ghost use Rattle.comemo_track.specs.Writing.{touched, touched_by};
 ghost use Rattle.comemo_track.specs.Sending.{sent_pairs, sent_writes};
 
-use crate::answer::Answer;
 use crate::track::{Call, Sink, Track};
 use comemo_base::CallSequence;
 use std::alloc::{AllocError, Global};
@@ -180,7 +179,7 @@ fn touch_some<C: Call, R>(writes: &Vec<C>, reads: &CallSequence<C, R>) -> bool
     false
 }
 
-impl<C: Call, R: Answer> Constraint<C, R> {
+impl<C: Call, R: Clone + Ord> Constraint<C, R> {
     /// Whether a value returns each recorded answer again. Asks the reads in order, up to the first that differs.
     ///
     /// Fails only if the value does, after equal answers. Writes don't matter.
@@ -202,7 +201,7 @@ impl<C: Call, R: Answer> Constraint<C, R> {
 
 /// Records a read by `CallSequence::insert`, which clones a new call and keeps the first answer. A read that a recorded
 /// write touches makes the recording late, even if it is recorded already; each write is asked that.
-impl<C: Call, R: Answer> Sink for Constraint<C, R> {
+impl<C: Call, R: Clone + Ord> Sink for Constraint<C, R> {
     type Call = C;
 
     type Answer = R;

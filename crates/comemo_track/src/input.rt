@@ -8,7 +8,6 @@ ghost use Rattle.comemo_track.specs.WritingLaws.{done_both, done_keeps};
 ghost use Rattle.comemo_track.specs.Views.{place_of};
 ghost use Rattle.comemo_track.specs.Writing.{touched_by};
 
-use crate::answer::Answer;
 use crate::track::{Call, Track, View, Written};
 use crate::writing::TrackedMut;
 use std::alloc::AllocError;
@@ -27,7 +26,7 @@ pub trait Input {
     type Key: Clone + Eq + Hash;
 
     /// The answer to a read: one type for all calls.
-    type Answer: Answer;
+    type Answer: Clone + Ord;
 
     // the key
     ghost key_of: { Self → Self.Key };

@@ -4,7 +4,6 @@ ghost use Rattle.std.proofs.Common.{◌∙◌};
 ghost use Rattle.comemo_track.specs.Mapped.{Through};
 ghost use Rattle.comemo_track.specs.Sending.{Asks, sent_pairs, sent_writes};
 
-use crate::answer::Answer;
 use crate::track::{Call, Sink, Track, View};
 use std::alloc::AllocError;
 
@@ -20,10 +19,10 @@ pub trait CallMap {
     type To: Call;
 
     /// The answers that are sent.
-    type FromAnswer: Answer;
+    type FromAnswer: Clone + Ord;
 
     /// The answers that they become.
-    type ToAnswer: Answer;
+    type ToAnswer: Clone + Ord;
 
     // what a call becomes
     ghost maps: { Self → Self.From → Self.To };

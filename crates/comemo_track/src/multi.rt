@@ -187,7 +187,7 @@ impl<A, B, RA, RB> First<A, B, RA, RB> {
     }
 }
 
-impl<A: Call, B: Call, RA: Answer, RB: Answer> CallMap for First<A, B, RA, RB> {
+impl<A: Call, B: Call, RA: Clone + Ord, RB: Clone + Ord> CallMap for First<A, B, RA, RB> {
     type From = A;
 
     type To = MultiCall<A, B>;
@@ -236,7 +236,7 @@ impl<A, B, RA, RB> Second<A, B, RA, RB> {
     }
 }
 
-impl<A: Call, B: Call, RA: Answer, RB: Answer> CallMap for Second<A, B, RA, RB> {
+impl<A: Call, B: Call, RA: Clone + Ord, RB: Clone + Ord> CallMap for Second<A, B, RA, RB> {
     type From = B;
 
     type To = MultiCall<A, B>;

@@ -68,7 +68,7 @@ pub trait Sink {
     type Call: Call;
 
     /// The answer to a read: one type for all calls.
-    type Answer: Answer;
+    type Answer: Clone + Ord;
 
     // t is s after it took these pairs and these writes
     ghost took: { Self → Self → List (Self.Call × Self.Answer) → List Self.Call → Type 0 };
@@ -267,7 +267,7 @@ impl<C, R> Top<C, R> {
     }
 }
 
-impl<C: Call, R: Answer> Sink for Top<C, R> {
+impl<C: Call, R: Clone + Ord> Sink for Top<C, R> {
     type Call = C;
 
     type Answer = R;
