@@ -7,6 +7,7 @@ pub mod RecordersMut
 pub mod Calls
 pub mod Hits
 pub mod Closures
+pub mod Faults
 pub mod Growing
 pub mod JoinedHits
 pub mod ThroughMaps

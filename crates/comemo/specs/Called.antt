@@ -5,9 +5,11 @@ use Rattle.std.specs.List.Sorted.{IsPermutation}
 use Rattle.comemo_base.specs.Answers.{Agrees}
 use Rattle.comemo_cache.specs.Meaning.{Meaning, Invocation, Run, run, IsNamedRun}
 use Rattle.comemo_cache.specs.Cache.{Entries, Stands, HasNone, Has, Touches, young}
-use Rattle.comemo_cache.specs.Held.{LeadsBy}
+use Rattle.comemo_cache.specs.Held.{Held, LeadsBy}
 use Rattle.comemo_track.specs.Recording.{Recording}
 use Rattle.comemo.specs.Finish.{Ends, Finished, Gives}
+use Rattle.comemo.specs.declared.pending.Fault.{Fault}
+use Rattle.comemo.specs.declared.pending.Fault.TheVariants as fault
 use Rattle.comemo.specs.declared.pending.Reply.{Reply}
 use Rattle.comemo.specs.declared.pending.How.{How}
 use Rattle.comemo.specs.declared.pending.How.TheVariants as how
@@ -87,3 +89,8 @@ HeldReply M call before sent reply after = LeadsBy before before after (λ es mi
 -- the same for a function that writes
 abbrev pub HeldReplyMut : {K C R O : Type 0} → Meaning K C R O → (C → C → Bool) → Invocation K C R → Option (Entries K C R O) → (Bool → List (C × R) → List C → Type 0) → Reply O → Option (Entries K C R O) → Type 0
 HeldReplyMut M touches call before sent reply after = LeadsBy before before after (λ es mid es'. IsReplyMut M call touches es mid sent reply es')
+
+-- the fault of a call that only reads: out of memory; or a run was due, since no entry of those before has the key and
+-- agrees, or the call is not enabled
+abbrev pub HeldFault : {K C R O : Type 0} → Meaning K C R O → Invocation K C R → Option (Entries K C R O) → Fault → Type 0
+HeldFault M call before f = (f ≡ fault.Memory) ⊎ Held before (λ es. call.enabled ≡ true → HasNone M es call)

@@ -2,7 +2,7 @@
 //! costs; any other call costs what `begin`, the run and `Pending::finish` cost.
 ghost use Rattle.std.specs.Prelude.{◌≡◌, ◌⊎◌, [], List, Bool, true, false, IsTrue, IfOk, IfErr, OnOk, OnErr, ⊤};
 ghost use Rattle.comemo_cache.specs.Meaning.{invocation};
-ghost use Rattle.comemo.specs.Called.{RanAs, IsOfRun, HeldReply};
+ghost use Rattle.comemo.specs.Called.{RanAs, IsOfRun, HeldReply, HeldFault};
 ghost use Rattle.comemo_cache.specs.Held.{Held, Leads, Stays};
 ghost use Rattle.comemo.specs.Finish.{BrokeOff};
 ghost use Rattle.comemo_track.specs.Recording.{Recording, Took, Spoiled};
@@ -129,6 +129,8 @@ impl<'a, T: Track> Recorder<'a, T> {
             × HeldReply ⟦<G as Meant>⟧.meaning (invocation key (T.answers self.old.value) true)
             (H.entries cache.old)
             (⟦<T as Told>⟧.took self.old self.new) reply (H.entries cache.new)) }
+        ensures fault { IfErr result (HeldFault ⟦<G as Meant>⟧.meaning
+            (invocation key (T.answers self.old.value) true) (H.entries cache.old)) }
         ensures err { OnErr result (Stays (H.entries cache.old) (H.entries cache.new)
             × ⟦<T as Told>⟧.broke_off self.old self.new) }
     {
@@ -151,6 +153,8 @@ impl<'a, T: Track> Recorder<'a, T> {
             (invocation key (T.answers self.old.value) enabled)
             (H.entries cache.old)
             (⟦<T as Told>⟧.took self.old self.new) reply (H.entries cache.new)) }
+        ensures fault { IfErr result (HeldFault ⟦<G as Meant>⟧.meaning
+            (invocation key (T.answers self.old.value) enabled) (H.entries cache.old)) }
         ensures err { OnErr result (Stays (H.entries cache.old) (H.entries cache.new)
             × ⟦<T as Told>⟧.broke_off self.old self.new) }
     {
@@ -318,6 +322,8 @@ pub fn memoized<M: Run<T, ()>, H: Hold<M>, T: Track>(
     ensures reply { IfOk result (λ reply. HeldReply ⟦<M as Meant>⟧.meaning
         (invocation key (T.answers of.now) true) (H.entries cache.old)
         (λ _ _. ⊤) reply (H.entries cache.new)) }
+    ensures fault { IfErr result (HeldFault ⟦<M as Meant>⟧.meaning
+        (invocation key (T.answers of.now) true) (H.entries cache.old)) }
     ensures err { OnErr result (Stays (H.entries cache.old) (H.entries cache.new)) }
 {
     memoized_with(alloc, cache, &mut (), key, of, &mut Top::new(), true)

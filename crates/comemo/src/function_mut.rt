@@ -1,7 +1,7 @@
 //! Memoized functions that write: a function of a key and a tracked value that its run reads and writes. A hit costs
 //! what `begin` costs; any other call costs what `begin`, the run and `Pending::finish` cost.
 ghost use Rattle.std.specs.Prelude.{◌≡◌, Result, [], ◌∷◌, ◌++◌, ◌⊎◌, List, Bool, true, false, IsTrue, IfOk, IfErr, OnOk, OnErr, ⊤};
-ghost use Rattle.comemo.specs.Called.{HeldReply, HeldReplyMut};
+ghost use Rattle.comemo.specs.Called.{HeldReply, HeldReplyMut, HeldFault};
 ghost use Rattle.comemo_cache.specs.Meaning.{IsRight, invocation};
 ghost use Rattle.comemo_cache.specs.Held.{Leads, Stays};
 ghost use Rattle.comemo.specs.Begin.{Reaches};
@@ -9,7 +9,7 @@ ghost use Rattle.comemo.specs.Finish.{BrokeOff};
 ghost use Rattle.comemo.specs.Function.{SettlesAs, SettlesRun, WritesNone};
 ghost use Rattle.std.specs.Borrow.{MutBor};
 ghost use Rattle.comemo.specs.RecursiveMut.{Within};
-ghost use Rattle.comemo.specs.FunctionMut.{Lent, lent, HasBegun, NoneTouches, Goes, TellsMut, TellsWrites, WasStopped, IsFailed, FailsBy};
+ghost use Rattle.comemo.specs.FunctionMut.{Lent, lent, HasBegun, NoneTouches, Goes, TellsMut, TellsWrites, IsFailed, FailsBy};
 ghost use Rattle.comemo_base.specs.Answers.{Agrees};
 ghost use Rattle.comemo_track.specs.Recording.{Recording, Took, Spoiled, MarkedLate};
 ghost use Rattle.comemo_track.specs.Writing.{Done};
@@ -278,6 +278,8 @@ impl<'a, 'b, T: Track> RecorderMut<'a, 'b, T> {
             (H.entries cache.old)
             (⟦<Self as Records>⟧.took self.old self.new)
             reply (H.entries cache.new)) }
+        ensures fault { IfErr result (HeldFault ⟦<G as Meant>⟧.meaning
+            (invocation key (T.answers self.old.value.now) true) (H.entries cache.old)) }
         ensures err { OnErr result (Stays (H.entries cache.old) (H.entries cache.new)
             × ⟦<Self as Records>⟧.broke_off self.old self.new) }
     {
@@ -305,6 +307,10 @@ impl<'a, 'b, T: Track> RecorderMut<'a, 'b, T> {
             × ⟦<G as AnsweringMut<H, T, Constraint<T::Call, T::Answer>>>⟧.replies true key
             self.old.value.now self.new.value.now cache.old cache.new
             self.old.recording.now self.new.recording.now reply) }
+        ensures fault { IfErr result
+            (⟦<G as AnsweringMut<H, T, Constraint<T::Call, T::Answer>>>⟧.fails true key
+            self.old.value.now self.new.value.now cache.old cache.new
+            self.old.recording.now self.new.recording.now) }
         ensures err { OnErr result
             (⟦<G as AnsweringMut<H, T, Constraint<T::Call, T::Answer>>>⟧.breaks true key
             self.old.value.now self.new.value.now cache.old cache.new
@@ -493,10 +499,10 @@ pub fn memoized_mut<M: RunMut<T, ()>, H: Hold<M>, T: Track>(
         reply (H.entries cache.new)) }
     ensures early { IfOk result (λ reply. NoneTouches T.Call.touches → reply.how ≡ How.Late → ⊥) }
     ensures reached { Reaches ⟦<T as Written>⟧.did of.old of.new }
-    ensures err { OnErr result (Leads (H.entries cache.old) (H.entries cache.new) (λ es es'.
-        (es' ≡ es) ⊎ WasStopped ⟦<M as Meant>⟧.meaning es
-        (invocation key (T.answers of.old) true)
-        (⟦<T as Written>⟧.did of.old of.new) (λ _ _. ⊤) es')) }
+    ensures fault { IfErr result (λ fault.
+        Leads (H.entries cache.old) (H.entries cache.new) (λ es es'. FailsBy
+        ⟦<M as Meant>⟧.meaning es (invocation key (T.answers of.old) true)
+        (⟦<T as Written>⟧.did of.old of.new) ⊤ (λ _ _. ⊤) fault es')) }
 {
     memoized_mut_with(alloc, cache, &mut (), key, of, &mut Top::new(), true)
 }

@@ -1,6 +1,6 @@
 //! What a run asks of two joined values.
 ghost use Rattle.std.specs.Prelude.{◌≡◌, [], true, false, IsTrue, IfOk, IfErr, OnOk, OnErr};
-ghost use Rattle.comemo.specs.Called.{HeldReply};
+ghost use Rattle.comemo.specs.Called.{HeldReply, HeldFault};
 ghost use Rattle.comemo_cache.specs.Meaning.{invocation};
 ghost use Rattle.comemo_cache.specs.Held.{Stays};
 ghost use Rattle.comemo_track.specs.Sending.{Asks};
@@ -40,6 +40,8 @@ impl<'a, T: Track> Recorder<'a, T> {
             (invocation key (A.answers of.now) true) (H.entries cache.old)
             (Through (P.maps map) (P.maps_answer map) (⟦<T as Told>⟧.took self.old self.new))
             reply (H.entries cache.new)) }
+        ensures fault { IfErr result (HeldFault ⟦<G as Meant>⟧.meaning
+            (invocation key (A.answers of.now) true) (H.entries cache.old)) }
         ensures err { OnErr result (Stays (H.entries cache.old) (H.entries cache.new)
             × ⟦<T as Told>⟧.broke_off self.old self.new) }
     {
@@ -112,6 +114,8 @@ impl<'a, 'b, A: Track, B: Track> Recorder<'a, Both<'b, A, B>> {
             (H.entries cache.old)
             (Through first_call first_answer
             (⟦<Both<'b, A, B> as Told>⟧.took self.old self.new)) reply (H.entries cache.new)) }
+        ensures fault { IfErr result (HeldFault ⟦<G as Meant>⟧.meaning
+            (invocation key (A.answers self.old.value.first) true) (H.entries cache.old)) }
         ensures err { OnErr result (Stays (H.entries cache.old) (H.entries cache.new)
             × ⟦<Both<'b, A, B> as Told>⟧.broke_off self.old self.new) }
     {
@@ -135,6 +139,8 @@ impl<'a, 'b, A: Track, B: Track> Recorder<'a, Both<'b, A, B>> {
             (H.entries cache.old)
             (Through second_call second_answer
             (⟦<Both<'b, A, B> as Told>⟧.took self.old self.new)) reply (H.entries cache.new)) }
+        ensures fault { IfErr result (HeldFault ⟦<G as Meant>⟧.meaning
+            (invocation key (B.answers self.old.value.second) true) (H.entries cache.old)) }
         ensures err { OnErr result (Stays (H.entries cache.old) (H.entries cache.new)
             × ⟦<Both<'b, A, B> as Told>⟧.broke_off self.old self.new) }
     {

@@ -1,6 +1,6 @@
 //! The calls and writes of a run that reads one value and writes another.
 ghost use Rattle.std.specs.Prelude.{◌≡◌, [], ◌∷◌, true, false, IsTrue, IfOk, IfErr, OnOk, OnErr, map, ⊤};
-ghost use Rattle.comemo.specs.Called.{HeldReply, HeldReplyMut};
+ghost use Rattle.comemo.specs.Called.{HeldReply, HeldReplyMut, HeldFault};
 ghost use Rattle.comemo_cache.specs.Meaning.{IsRight, invocation};
 ghost use Rattle.comemo_cache.specs.Held.{Leads, Stays};
 ghost use Rattle.comemo.specs.Function.{OnPart, WritesNone};
@@ -106,6 +106,8 @@ impl<'a, 'b, 'c, A: Track, B: Track> RecorderMut<'a, 'b, ReadAndWrite<'c, A, B>>
             (invocation key (A.answers self.old.value.now.first) true) (H.entries cache.old)
             (Through first_call first_answer (⟦<Self as Records>⟧.took self.old self.new))
             reply (H.entries cache.new)) }
+        ensures fault { IfErr result (HeldFault ⟦<G as Meant>⟧.meaning
+            (invocation key (A.answers self.old.value.now.first) true) (H.entries cache.old)) }
         ensures err { OnErr result (Stays (H.entries cache.old) (H.entries cache.new)
             × ⟦<Self as Records>⟧.broke_off self.old self.new) }
     {

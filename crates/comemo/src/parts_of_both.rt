@@ -1,6 +1,6 @@
 //! The calls and writes of a run that reads and writes two values.
 ghost use Rattle.std.specs.Prelude.{◌≡◌, [], ◌∷◌, true, false, IsTrue, IfOk, IfErr, OnOk, OnErr, map, ⊤};
-ghost use Rattle.comemo.specs.Called.{HeldReply, HeldReplyMut};
+ghost use Rattle.comemo.specs.Called.{HeldReply, HeldReplyMut, HeldFault};
 ghost use Rattle.comemo.specs.Finish.{BrokeOff};
 ghost use Rattle.comemo_cache.specs.Meaning.{IsRight, invocation};
 ghost use Rattle.comemo_cache.specs.Held.{Leads, Stays};
@@ -132,6 +132,8 @@ impl<'a, 'b, 'c, A: Track, B: Track> RecorderMut<'a, 'b, BothMut<'c, A, B>> {
             (invocation key (A.answers self.old.value.now.first.now) true) (H.entries cache.old)
             (Through first_call first_answer (⟦<Self as Records>⟧.took self.old self.new))
             reply (H.entries cache.new)) }
+        ensures fault { IfErr result (HeldFault ⟦<G as Meant>⟧.meaning
+            (invocation key (A.answers self.old.value.now.first.now) true) (H.entries cache.old)) }
         ensures err { OnErr result (Stays (H.entries cache.old) (H.entries cache.new)
             × ⟦<Self as Records>⟧.broke_off self.old self.new) }
     {
@@ -164,6 +166,8 @@ impl<'a, 'b, 'c, A: Track, B: Track> RecorderMut<'a, 'b, BothMut<'c, A, B>> {
             (invocation key (B.answers self.old.value.now.second.now) true) (H.entries cache.old)
             (Through second_call second_answer (⟦<Self as Records>⟧.took self.old self.new))
             reply (H.entries cache.new)) }
+        ensures fault { IfErr result (HeldFault ⟦<G as Meant>⟧.meaning
+            (invocation key (B.answers self.old.value.now.second.now) true) (H.entries cache.old)) }
         ensures err { OnErr result (Stays (H.entries cache.old) (H.entries cache.new)
             × ⟦<Self as Records>⟧.broke_off self.old self.new) }
     {
@@ -281,6 +285,8 @@ where
     requires reads { WritesNone G.writes }
     ensures reply { IfOk result (⟦<G as Answering<H, T, S>>⟧.replies
         true key of.old cache.old cache.new sink.old sink.new) }
+    ensures fault { IfErr result (HeldFault ⟦<G as Meant>⟧.meaning
+        (invocation key (T.answers of.old) true) (H.entries cache.old)) }
     ensures same { of.new ≡ of.old }
     ensures err { OnErr result (Stays (H.entries cache.old) (H.entries cache.new)
         × BrokeOff T.Answer.eq (T.answers of.old)

@@ -6,6 +6,8 @@ use Rattle.comemo.proofs.Recorders.{broken_keeps}
 use Rattle.comemo.proofs.ThroughMaps.{keeps_through, tells_through, broke_through}
 use Rattle.comemo_cache.proofs.Holding.{some_by, by_map}
 use Rattle.comemo_cache.specs.Meaning.{IsRight}
+use Rattle.comemo.proofs.Recursions.{handed}
+use Rattle.comemo.proofs.Faults.{without_sink}
 use Rattle.comemo.proofs.function.Recorder.call_through.Goals as goal
 
 pub invariant_of-self-2 : goal.invariant_of-self-2
@@ -34,3 +36,6 @@ invariant_of-self g c =
     let err = c.in_err-reply.ensures.err in
     let broke = broke_through g.A.Call.PartialEq.eq g.A.Answer.PartialEq.eq g.T.Call.PartialEq.eq g.T.Answer.PartialEq.eq (g.P.CallMap.maps c.args.map) (g.P.CallMap.maps_answer c.args.map) (g.met.P.CallMap.apart c.args.map) (g.met.P.CallMap.answers_apart c.args.map) {takes = Took g.T.Call.PartialEq.eq g.T.Call.Call.touches} {breaks = Spoiled} (λ s. s.sink.now) c.new-sink.result (λ t P took. rw c.new-sink.ensures.map at took.sent) (λ t u spoils. spoils.spoiled) (g.T.Track.answers i.view) (g.A.Track.answers c.args.of.now) (rw (← c.self.view_is) at c.requires.through) c.memoized_view.new.sink err.1 in
     rw c.drop-sink.ensures (broken_keeps i.recording _ c.self.invariant (rw c.new-sink.ensures.value at broke))
+
+pub returns-in_err-reply-clause-fault : goal.returns-in_err-reply-clause-fault
+returns-in_err-reply-clause-fault g c = handed c.from_residual.result c.in_err-reply.field-0.0 c.from_residual.ensures.1 _ (without_sink (g.H.Hold.entries c.args.cache.now) _ _ c.in_err-reply.field-0.0 c.in_err-reply.ensures.fault)

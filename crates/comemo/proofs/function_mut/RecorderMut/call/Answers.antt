@@ -4,6 +4,8 @@ use Rattle.comemo.proofs.Recorders.{not_complete}
 use Rattle.comemo.proofs.RecordersMut.{tells_read, read_writes, tells_failed, read_begun, spoiled_any}
 use Rattle.comemo_cache.proofs.Holding.{some_by}
 use Rattle.comemo_cache.specs.Meaning.{IsRight}
+use Rattle.comemo.proofs.Recursions.{handed}
+use Rattle.comemo.proofs.Faults.{without_sink}
 use Rattle.comemo.proofs.function_mut.RecorderMut.call.Goals as goal
 
 pub returns-clause-tells : goal.returns-clause-tells
@@ -35,3 +37,6 @@ returns-in_err-reply-clause-err g c = on_err c.from_residual.result (rw c.view-v
 
 pub returns-clause-reply : goal.returns-clause-reply
 returns-clause-reply g c = (c.in_ok-reply.reply, refl, rw c.view-view.ensures at c.in_ok-reply.ensures.reply)
+
+pub returns-in_err-reply-clause-fault : goal.returns-in_err-reply-clause-fault
+returns-in_err-reply-clause-fault g c = handed c.from_residual.result c.in_err-reply.field-0.0 c.from_residual.ensures.1 _ (without_sink (g.H.Hold.entries c.args.cache.now) _ _ c.in_err-reply.field-0.0 (rw c.view-view.ensures at c.in_err-reply.ensures.fault))

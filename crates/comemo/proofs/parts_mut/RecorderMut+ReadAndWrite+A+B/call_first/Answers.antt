@@ -11,6 +11,8 @@ use Rattle.comemo.proofs.ThroughMaps.{broke_through}
 use Rattle.comemo.proofs.PartsMut.{Parts, read_and_write, Answers, read_first_begun, tells_read_first, part_writes, tells_failed_part}
 use Rattle.comemo.proofs.parts_mut.RecorderMut+ReadAndWrite+A+B.call_first.Given as given
 use Rattle.comemo_cache.specs.Meaning.{IsRight}
+use Rattle.comemo.proofs.Recursions.{handed}
+use Rattle.comemo.proofs.Faults.{without_sink}
 use Rattle.comemo.proofs.parts_mut.RecorderMut+ReadAndWrite+A+B.call_first.Goals as goal
 
 -- both values
@@ -70,3 +72,6 @@ returns-in_err-reply-clause-tells g c = tells_failed_part (read_and_write (parts
 
 pub returns-in_err-reply-clause-agrees : goal.returns-in_err-reply-clause-agrees
 returns-in_err-reply-clause-agrees g c = spoiled_any _ (rw c.drop-sink.ensures c.in_err-reply.ensures.err.1.is_broken.spoiled.spoiled.complete)
+
+pub returns-in_err-reply-clause-fault : goal.returns-in_err-reply-clause-fault
+returns-in_err-reply-clause-fault g c = handed c.from_residual.result c.in_err-reply.field-0.0 c.from_residual.ensures.1 _ (without_sink (g.H.Hold.entries c.args.cache.now) _ _ c.in_err-reply.field-0.0 (rw c.fork-view.ensures at c.in_err-reply.ensures.fault))

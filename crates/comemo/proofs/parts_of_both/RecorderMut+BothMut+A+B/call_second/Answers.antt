@@ -11,6 +11,7 @@ use Rattle.comemo.proofs.ThroughMaps.{broke_through}
 use Rattle.comemo.proofs.PartsMut.{Parts, both_mut, Answers, second_mut_as, read_second_begun, tells_read_second, part_writes, tells_failed_part}
 use Rattle.comemo.proofs.parts_of_both.RecorderMut+BothMut+A+B.call_second.Given as given
 use Rattle.comemo_cache.specs.Meaning.{IsRight}
+use Rattle.comemo.proofs.Recursions.{handed}
 use Rattle.comemo.proofs.parts_of_both.RecorderMut+BothMut+A+B.call_second.Goals as goal
 
 -- both values
@@ -70,3 +71,6 @@ returns-in_err-reply-clause-tells g c = tells_failed_part (both_mut (parts g)) r
 
 pub returns-in_err-reply-clause-agrees : goal.returns-in_err-reply-clause-agrees
 returns-in_err-reply-clause-agrees g c = spoiled_any _ (rw c.drop-sink.ensures c.in_err-reply.ensures.err.1.is_broken.spoiled.spoiled.complete)
+
+pub returns-in_err-reply-clause-fault : goal.returns-in_err-reply-clause-fault
+returns-in_err-reply-clause-fault g c = handed c.from_residual.result c.in_err-reply.field-0.0 c.from_residual.ensures.1 _ c.in_err-reply.ensures.fault

@@ -1,0 +1,6 @@
+use Rattle.std.proofs.lemmas.Result.{IfErr-weaker}
+use Rattle.comemo.proofs.Faults.{without_sink}
+use Rattle.comemo.proofs.function.memoized.Goals as goal
+
+pub returns-clause-fault : goal.returns-clause-fault
+returns-clause-fault g c = IfErr-weaker c.memoized_with.result _ _ (without_sink (g.H.Hold.entries c.args.cache.now) _ _) c.memoized_with.ensures.fault
