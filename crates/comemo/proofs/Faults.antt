@@ -6,6 +6,7 @@ use Rattle.comemo_cache.specs.Meaning.{Meaning, Invocation}
 use Rattle.comemo_cache.specs.Cache.{Entries}
 use Rattle.comemo_cache.specs.Held.{Held}
 use Rattle.comemo_cache.proofs.Holding.{held_map}
+use Rattle.comemo.specs.Begin.{IsStopped}
 use Rattle.comemo.specs.FunctionMut.{FailsBy}
 use Rattle.comemo.specs.declared.pending.Fault.{Fault}
 use Rattle.comemo.specs.declared.pending.Fault.TheVariants as fault
@@ -16,22 +17,25 @@ without_sink before P S f which = ⊎_map (λ memory. memory) (λ held. held_map
 
 -- of a call that may write
 module _ {K C R O : Type 0} {M : Meaning K C R O} {call : Invocation K C R} where
+  stopped_so : {es : Entries K C R O} {done : List C → Type 0} {spoiled : List (C × R) → List C → Type 0} → IsStopped M es call done spoiled → IsStopped M es call done (λ _ _. ⊤)
+  stopped_so s = record {
+    pairs = s.pairs;
+    output = s.output;
+    prefix = s.prefix;
+    next = s.next;
+    rest = s.rest;
+    is_refused = s.is_refused;
+    is_enabled = s.is_enabled;
+    kept = s.kept;
+    agrees = s.agrees;
+    stands = s.stands;
+    reads = s.reads;
+    written = s.written;
+    are_done = s.are_done;
+    is_spoiled = tt;
+  }
+
   pub without_sink_mut : {es es' : Entries K C R O} {done : List C → Type 0} {spoils : Type 0} {spoiled : List (C × R) → List C → Type 0} (f : Fault) → FailsBy M es call done spoils spoiled f es' → FailsBy M es call done ⊤ (λ _ _. ⊤) f es'
   without_sink_mut f (inl (same, inl memory)) = inl (same, inl memory)
   without_sink_mut f (inl (same, inr run)) = inl (same, inr (run.0, tt))
-  without_sink_mut f (inr (write, was_stopped)) = inr (write, (was_stopped.0, record {
-    pairs = was_stopped.1.pairs;
-    output = was_stopped.1.output;
-    prefix = was_stopped.1.prefix;
-    next = was_stopped.1.next;
-    rest = was_stopped.1.rest;
-    is_refused = was_stopped.1.is_refused;
-    is_enabled = was_stopped.1.is_enabled;
-    kept = was_stopped.1.kept;
-    agrees = was_stopped.1.agrees;
-    stands = was_stopped.1.stands;
-    reads = was_stopped.1.reads;
-    written = was_stopped.1.written;
-    are_done = was_stopped.1.are_done;
-    is_spoiled = tt;
-  }))
+  without_sink_mut f (inr (write, stopped)) = inr (write, (stopped.0, stopped_so stopped.1))

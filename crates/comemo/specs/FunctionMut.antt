@@ -1,5 +1,5 @@
 -- What a memoized function that writes means, and what its run does and learns.
-use Rattle.std.specs.Prelude.{◌≡◌, ◌⊎◌, ◌++◌, Bool, true, false, IsTrue, List, map, Result, IfOk, OnOk, IfErr}
+use Rattle.std.specs.Prelude.{◌≡◌, ◌⊎◌, ◌++◌, Bool, true, false, List, map, Result, IfOk, OnOk, IfErr}
 use Rattle.std.specs.Borrow.{MutBor}
 use Rattle.comemo_base.specs.Answers.{Agrees}
 use Rattle.comemo_track.specs.Recording.{Recording}
