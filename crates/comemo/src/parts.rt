@@ -36,10 +36,9 @@ impl<'a, T: Track> Recorder<'a, T> {
             (λ output m. OnPart (P.maps map) (P.maps_answer map) m
             (λ part. G.means key part output)) }
         ensures reply { IfOk result (λ output. (reply : Reply G.Out) × (reply.output ≡ output)
-            × HeldReply ⟦<G as Meant>⟧.meaning
-            (invocation key (A.answers of.now) true) (H.entries cache.old)
-            (Through (P.maps map) (P.maps_answer map) (⟦<T as Told>⟧.took self.old self.new))
-            reply (H.entries cache.new)) }
+            × HeldReply ⟦<G as Meant>⟧.meaning (invocation key (A.answers of.now) true)
+            (H.entries cache.old) (Through (P.maps map) (P.maps_answer map)
+            (⟦<T as Told>⟧.took self.old self.new)) reply (H.entries cache.new)) }
         ensures fault { IfErr result (HeldFault ⟦<G as Meant>⟧.meaning
             (invocation key (A.answers of.now) true) (H.entries cache.old)) }
         ensures err { OnErr result (Stays (H.entries cache.old) (H.entries cache.new)
