@@ -1,3 +1,4 @@
+pub mod Branching
 pub mod Endings
 pub mod PartsAsked
 pub mod PartsMut

@@ -1,18 +1,19 @@
 -- A call of a function of a part, as a call of the whole: its calls and answers went through a map.
-use Rattle.std.proofs.Common.{◌≡◌, ◌∙◌, Bool, true, List, [], ◌∷◌, ◌++◌, Ok, map, ap}
+use Rattle.std.proofs.Common.{◌≡◌, ◌∙◌, Bool, true, IsTrue, List, [], ◌∷◌, ◌++◌, Result, Ok, Err, IfOk, OnErr, map, ap}
 use Rattle.std.proofs.lemmas.List.{map-append}
 use Rattle.std.specs.Cmp.{IsEquivalence}
 use Rattle.comemo_base.specs.Answers.{Respects, Agrees}
 use Rattle.comemo_track.specs.Mapped.{mapped_pairs, Through}
 use Rattle.comemo_track.specs.Recording.{Recording, Took}
-use Rattle.comemo_track.specs.Sending.{BreaksOff}
+use Rattle.comemo_track.specs.Sending.{Asks, BreaksOff}
 use Rattle.comemo_cache.specs.Meaning.{Naming, invocation}
 use Rattle.comemo_cache.specs.Cache.{Entries}
 use Rattle.comemo.specs.Called.{IsReply}
 use Rattle.comemo.specs.Finish.{BrokeOff}
 use Rattle.comemo.specs.Function.{Recorded, IsRecorded, Fits, Tells, OnPart}
+use Rattle.comemo.specs.FunctionMut.{Lent, TellsMut}
 use Rattle.comemo.specs.declared.pending.Reply.{Reply}
-use Rattle.comemo.proofs.Recorders.{fitted, fits_taken, still_agrees, stays_early}
+use Rattle.comemo.proofs.Recorders.{fitted, fits_taken, still_agrees, stays_early, asked_keeps}
 
 module _ {C D R Q : Type 0} (eq : C → C → Bool) (same : R → R → Bool) (eqd : D → D → Bool) (like : Q → Q → Bool) (f : C → D) (g : R → Q) (apart : (x y : C) → eqd (f x) (f y) ≡ eq x y) (answers_apart : (x y : R) → like (g x) (g y) ≡ same x y) where
   module _ (n : D → Q) (m : C → R) (each : (c : C) → n (f c) ≡ g (m c)) where
@@ -72,4 +73,40 @@ module _ {C D R Q : Type 0} (eq : C → C → Bool) (same : R → R → Bool) (e
       taken = sends is.is_broken.mid is.is_broken.prefix is.is_broken.taken;
       spoiled = spoiled is.is_broken.mid t is.is_broken.spoiled;
     };
+  }
+
+  -- a read of a part, as one of the whole
+  pub asks_whole : (n : D → Q) (m : C → R) → ((c : C) → n (f c) ≡ g (m c)) → {went : List (D × Q) → List D → Type 0} (call : C) (answer : R) → Asks same m call answer (Through f g went) → Asks like n (f call) (g answer) went
+  asks_whole n m each call answer k = record {
+    gives = rw (each call) (rw (answers_apart (m call) answer) k.gives);
+    noted = g k.noted;
+    alike = rw (each call) (rw (answers_apart (m call) k.noted) k.alike);
+    sent = k.sent;
+  }
+
+  -- so it keeps what a recorder of the whole knows
+  pub part_asked_keeps : (touches : D → D → Bool) → IsEquivalence eqd → IsEquivalence like → (n : D → Q) → Respects eqd like n → (m : C → R) → ((c : C) → n (f c) ≡ g (m c)) → (s t : Recording D Q) → IsRecorded like n s → {E : Type 0} (call : C) (r : Result R E) → IfOk r (λ answer. Asks same m call answer (Through f g (Took eqd touches s t))) → OnErr r (Took eqd touches s t [] []) → IsRecorded like n t
+  part_asked_keeps touches calls answers n respects m each s t before {E} call (Ok answer) k e =
+      asked_keeps touches calls answers n respects s t before (f call) (let r : Result Q E = Ok (g answer) in r) (asks_whole n m each call answer k) tt
+  part_asked_keeps touches calls answers n respects m each s t before {E} call (Err x) k e =
+      asked_keeps touches calls answers n respects s t before (f call) (let r : Result Q E = Err x in r) tt e
+
+  -- and what was told of the whole is told of the part
+  pub part_tells : {V : Type 0} {s t : Recorded V D Q} (call : C) (answer : R) → Tells (Fits eqd like) s t (Ok (g answer)) (λ a o. IsTrue (like (o (f call)) a)) → Tells (Fits eqd like) s t (Ok answer) (λ a o. OnPart f g o (λ part. IsTrue (same (part call) a)))
+  part_tells call answer k = record {
+    same_value = k.same_value;
+    before = k.before;
+    told = λ o fits part e. rw (answers_apart (part call) answer) at (rw (e call) at (k.told o fits));
+    complete = k.complete;
+    fault = tt;
+  }
+
+  -- the same of a recorder that writes
+  pub part_tells_mut : {V : Type 0} {leads : Lent V D Q → Lent V D Q → Type 0} {s t : Lent V D Q} (call : C) (answer : R) → TellsMut leads (Fits eqd like) s t (Ok (g answer)) (λ a o. IsTrue (like (o (f call)) a)) → TellsMut leads (Fits eqd like) s t (Ok answer) (λ a o. OnPart f g o (λ part. IsTrue (same (part call) a)))
+  part_tells_mut call answer k = record {
+    goes = k.goes;
+    before = k.before;
+    told = λ o fits part e. rw (answers_apart (part call) answer) at (rw (e call) at (k.told o fits));
+    complete = k.complete;
+    fault = tt;
   }

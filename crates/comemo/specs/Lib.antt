@@ -8,6 +8,7 @@ pub mod Function
 pub mod FunctionMut
 pub mod Recursive
 pub mod RecursiveMut
+pub mod Branch
 pub use Rattle.comemo_cache.specs.Meaning
 pub use Rattle.comemo_cache.specs.Cache
 pub use Rattle.comemo_cache.specs.Storing

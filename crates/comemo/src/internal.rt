@@ -3,6 +3,7 @@
 pub use crate::closure::{Does, Record};
 pub use crate::function::{Answering, Told};
 pub use crate::function_mut::{AnsweringMut, Records, ToldMut, Writes};
+pub use crate::parts::Part;
 pub use crate::pending::{Calling, Invoked, Pending};
 pub use crate::recursive::Inner;
 pub use crate::recursive_mut::{InnerMut, Nesting};

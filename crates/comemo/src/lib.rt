@@ -31,11 +31,14 @@
 //! `src/examples.rt`, where `Warmth` is too. `docs/GUIDE.md` explains how to write such a function.
 #![tactic(auto)]
 
+mod branch;
 mod closure;
 mod explanation;
 mod function;
 mod function_mut;
 pub mod internal;
+mod known;
+mod outputs;
 mod parts;
 mod parts_mut;
 mod parts_of_both;
@@ -43,6 +46,7 @@ mod pending;
 mod recursive;
 mod recursive_mut;
 
+pub use branch::Branch;
 pub use closure::memoize;
 pub use comemo_base::{Prehashed, hash};
 pub use comemo_cache::{Cache, CacheData, Caches, Contents, Explanation, Function, Hold};
@@ -53,4 +57,6 @@ pub use comemo_track::{
 pub use explanation::explain;
 pub use function::{Recorder, Run, memoized, memoized_with};
 pub use function_mut::{RecorderMut, RunMut, memoized_mut, memoized_mut_with};
+pub use known::{Given, Known, Promised, look};
+pub use outputs::{At, Outputs, Single};
 pub use pending::{Begun, Fault, How, Reply, begin};

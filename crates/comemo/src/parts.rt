@@ -1,5 +1,5 @@
 //! What a run asks of two joined values.
-ghost use Rattle.std.specs.Prelude.{◌≡◌, [], true, false, IsTrue, IfOk, IfErr, OnOk, OnErr};
+ghost use Rattle.std.specs.Prelude.{◌≡◌, [], true, false, IsTrue, IfOk, IfErr, OnOk, OnErr, refl};
 ghost use Rattle.comemo.specs.Called.{HeldReply, HeldFault};
 ghost use Rattle.comemo_cache.specs.Meaning.{invocation};
 ghost use Rattle.comemo_cache.specs.Held.{Stays};
@@ -14,7 +14,84 @@ use comemo_cache::hold::Hold;
 use comemo_track::both::Both;
 use comemo_track::mapped::{CallMap, MappedSink};
 use comemo_track::multi::{First, MultiAnswer, MultiCall, Second};
-use comemo_track::track::{Track, View};
+use comemo_track::track::{Call, Track, View};
+use std::alloc::Global;
+
+/// A part of a joined value: which value it is, and what its calls and answers are in the whole.
+pub trait Part<W: Track, A: Track>:
+    CallMap<From = A::Call, FromAnswer = A::Answer, To = W::Call, ToAnswer = W::Answer>
+{
+    // the part of a value
+    ghost part: { W → A };
+
+    /// A view of the part.
+    fn view<'a>(&self, whole: &View<'a, W>, alloc: Global) -> View<'a, A>
+        ensures { result ≡ part whole.now };
+
+    // the whole answers the part's calls as the part does
+    ghost agrees: { (s : Self) (w : W) (call : A.Call)
+        → W.answers w (Self.maps s call) ≡ Self.maps_answer s (A.answers (part w) call) };
+}
+
+impl<'b, A: Track, B: Track> Part<Both<'b, A, B>, A>
+    for First<A::Call, B::Call, A::Answer, B::Answer>
+{
+    ghost part = { λ w. w.first };
+
+    ghost agrees = { λ s w call. refl };
+
+    fn view<'a>(&self, whole: &View<'a, Both<'b, A, B>>, alloc: Global) -> View<'a, A> {
+        whole.first(alloc)
+    }
+}
+
+impl<'a, T: Track> Recorder<'a, T> {
+    /// Asks a part of the value a read, and records it as a call of the whole.
+    pub fn ask_part<A: Track, P: Part<T, A> + Drop>(
+        &mut self,
+        part: P,
+        call: A::Call,
+    ) -> Result<A::Answer, Fault>
+        requires { A.Call.is_write call ≡ false }
+        ensures tells { Tells ⟦<T as Told>⟧.fits self.old self.new result
+            (λ answer m. OnPart (P.maps part) (P.maps_answer part) m
+            (λ of. IsTrue (A.Answer.eq (of call) answer))) }
+        ensures asks { IfOk result
+            (λ answer. Asks A.Answer.eq (A.answers (P.part self.old.value)) call answer
+            (Through (P.maps part) (P.maps_answer part) (⟦<T as Told>⟧.took self.old self.new))) }
+        ensures err { IfErr result (λ fault. (fault ≡ Fault.Memory)
+            × ⟦<T as Told>⟧.took self.old self.new [] []) }
+    {
+        let mut view = part.view(&self.view, self.alloc);
+        Ok(view.ask_through(call, part, &mut self.recording)?)
+    }
+
+    /// Calls a memoized function of a part of the value, and records what it asked, as `call`.
+    pub fn call_part<A: Track, P: Part<T, A> + Drop, G: Run<A, N>, H: Hold<G>, N>(
+        &mut self,
+        part: P,
+        cache: &mut H,
+        needs: &mut N,
+        key: G::Key,
+    ) -> Result<G::Out, Fault>
+        requires { WritesNone G.writes }
+        ensures tells { Tells ⟦<T as Told>⟧.fits self.old self.new result
+            (λ output m. OnPart (P.maps part) (P.maps_answer part) m
+            (λ of. G.means key of output)) }
+        ensures reply { IfOk result (λ output. (reply : Reply G.Out) × (reply.output ≡ output)
+            × HeldReply ⟦<G as Meant>⟧.meaning
+            (invocation key (A.answers (P.part self.old.value)) true) (H.entries cache.old)
+            (Through (P.maps part) (P.maps_answer part)
+            (⟦<T as Told>⟧.took self.old self.new)) reply (H.entries cache.new)) }
+        ensures fault { IfErr result (HeldFault ⟦<G as Meant>⟧.meaning
+            (invocation key (A.answers (P.part self.old.value)) true) (H.entries cache.old)) }
+        ensures err { OnErr result (Stays (H.entries cache.old) (H.entries cache.new)
+            × ⟦<T as Told>⟧.broke_off self.old self.new) }
+    {
+        let view = part.view(&self.view, self.alloc);
+        self.call_through(cache, needs, key, &view, part)
+    }
+}
 
 impl<'a, T: Track> Recorder<'a, T> {
     /// As `call`, for a function of a part of the value: what it asked is recorded, renamed by a map.

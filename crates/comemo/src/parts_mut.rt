@@ -10,13 +10,102 @@ ghost use Rattle.comemo_track.specs.Sending.{Asks};
 
 use crate::function::{Run, memoized_view};
 use crate::function_mut::{RecorderMut, Records, RunMut, Writes, memoized_mut_with};
+use crate::parts::Part;
 use crate::pending::{Fault, Reply};
 use comemo_cache::cache::Meant;
 use comemo_cache::hold::Hold;
-use comemo_track::mapped::MappedSink;
+use comemo_track::mapped::{CallMap, MappedSink};
 use comemo_track::multi::{First, Second};
 use comemo_track::read_and_write::ReadAndWrite;
-use comemo_track::track::Track;
+use comemo_track::track::{Call, Track};
+
+impl<'a, 'b, T: Track> RecorderMut<'a, 'b, T> {
+    /// Asks a part of the value a read, and records it as a call of the whole, as `ask`.
+    pub fn ask_part<A: Track, P: Part<T, A> + Drop>(
+        &mut self,
+        part: P,
+        call: A::Call,
+    ) -> Result<A::Answer, Fault>
+        requires agrees { ⟦<Self as Records>⟧.agrees self.old }
+        requires read { A.Call.is_write call ≡ false }
+        ensures agrees { ⟦<Self as Records>⟧.agrees self.new }
+        ensures tells { ⟦<Self as Records>⟧.tells self.old self.new result
+            (λ answer m. OnPart (P.maps part) (P.maps_answer part) m
+            (λ of. IsTrue (A.Answer.eq (of call) answer))) }
+        ensures asks { IfOk result
+            (λ answer. Asks A.Answer.eq (A.answers (P.part self.old.value.now)) call answer
+            (Through (P.maps part) (P.maps_answer part)
+            (⟦<Self as Records>⟧.took self.old self.new))) }
+        ensures writes { self.new.recording.now.writes ≡ self.old.recording.now.writes }
+        ensures value { self.new.value ≡ self.old.value }
+        ensures err { IfErr result (λ fault. (fault ≡ Fault.Memory)
+            × ⟦<Self as Records>⟧.took self.old self.new [] []) }
+    {
+        let whole = self.value.view(self.alloc);
+        let mut view = part.view(&whole, self.alloc);
+        Ok(view.ask_through(call, part, self.recording)?)
+    }
+
+    /// Calls a memoized function of a part of the value, which only reads, and records its calls, as `call`.
+    pub fn call_part<A: Track, P: Part<T, A> + Drop, G: Run<A, N>, H: Hold<G>, N>(
+        &mut self,
+        part: P,
+        cache: &mut H,
+        needs: &mut N,
+        key: G::Key,
+    ) -> Result<G::Out, Fault>
+        requires reads { WritesNone G.writes }
+        requires agrees { ⟦<Self as Records>⟧.agrees self.old }
+        ensures agrees { ⟦<Self as Records>⟧.agrees self.new }
+        ensures tells { ⟦<Self as Records>⟧.tells self.old self.new result
+            (λ output m. OnPart (P.maps part) (P.maps_answer part) m
+            (λ of. G.means key of output)) }
+        ensures writes { OnOk result
+            (self.new.recording.now.writes ≡ self.old.recording.now.writes) }
+        ensures value { self.new.value ≡ self.old.value }
+        ensures reply { IfOk result (λ output. (reply : Reply G.Out) × (reply.output ≡ output)
+            × HeldReply ⟦<G as Meant>⟧.meaning
+            (invocation key (A.answers (P.part self.old.value.now)) true) (H.entries cache.old)
+            (Through (P.maps part) (P.maps_answer part)
+            (⟦<Self as Records>⟧.took self.old self.new))
+            reply (H.entries cache.new)) }
+        ensures fault { IfErr result (HeldFault ⟦<G as Meant>⟧.meaning
+            (invocation key (A.answers (P.part self.old.value.now)) true) (H.entries cache.old)) }
+        ensures err { OnErr result (Stays (H.entries cache.old) (H.entries cache.new)
+            × ⟦<Self as Records>⟧.broke_off self.old self.new) }
+    {
+        let whole = self.value.view(self.alloc);
+        let view = part.view(&whole, self.alloc);
+        let mut sink = MappedSink::new(&mut *self.recording, part);
+        let reply = memoized_view(self.alloc, cache, needs, key, &view, &mut sink, true)?;
+        drop(sink);
+        // For the proof: its pairs are reads, and its writes are writes.
+        self.recording.reveal_reads_and_writes();
+        Ok(reply.output)
+    }
+
+    /// Does a write of a part on the value, and records it, as `write`.
+    pub fn write_part<P: CallMap<To = T::Call, ToAnswer = T::Answer>>(
+        &mut self,
+        part: &P,
+        call: P::From,
+    ) -> Result<(), Fault>
+        requires agrees { ⟦<Self as Records>⟧.agrees self.old }
+        requires write { P.From.is_write call ≡ true }
+        ensures agrees { ⟦<Self as Records>⟧.agrees self.new }
+        ensures tells { ⟦<Self as Records>⟧.tells self.old self.new result
+            (λ _ _. ⊤) }
+        ensures sent { OnOk result
+            (⟦<Self as Records>⟧.took self.old self.new [] (P.maps part.now call ∷ [])) }
+        ensures did { OnOk result
+            (⟦<Self as Records>⟧.did self.old self.new (P.maps part.now call ∷ [])) }
+        ensures kept { OnErr result (self.new.value.now ≡ self.old.value.now) }
+        ensures err { IfErr result (λ fault. (fault ≡ Fault.Memory)
+            × ⟦<Self as Records>⟧.took self.old self.new [] []) }
+    {
+        self.write(part.map(call))
+    }
+}
 
 /// The calls of each part, and the writes of the second part. Each call is recorded as a call of the whole.
 impl<'a, 'b, 'c, A: Track, B: Track> RecorderMut<'a, 'b, ReadAndWrite<'c, A, B>> {

@@ -12,3 +12,4 @@ pub mod Named
 pub mod Peeking
 pub mod Tallying
 pub mod Sums
+pub mod Reaching

@@ -7,3 +7,4 @@ pub mod Held
 pub mod Found
 pub mod Steps
 pub mod StepLaws
+pub mod Reaching

@@ -12,6 +12,7 @@ pub mod eviction;
 pub mod evictors;
 pub mod explain;
 pub mod hold;
+pub mod reached;
 pub mod shared;
 pub mod steps;
 

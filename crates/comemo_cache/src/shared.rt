@@ -280,6 +280,20 @@ impl<M: Function> Cache<M> {
         held
     }
 
+    /// The keys under which a kept run asked one of these calls, cloned, as `CacheData::reached`.
+    ///
+    /// Each shard is locked in turn: other threads may change the shards that were looked at and those that are left.
+    pub fn reached<R: Wait>(&self, rt: &R, calls: &[M::Call]) -> Result<Vec<M::Key>, AllocError> {
+        let mut keys = Vec::new(self.alloc);
+        for shard in &self.shards {
+            let entries = shard[0].entries.read(rt);
+            if let Some(data) = &entries.data {
+                put_reached(data, calls, &mut keys)?;
+            }
+        }
+        Ok(keys)
+    }
+
     /// The shard that has the entries under a key. The key is hashed here and again by the shard's map, which ignores
     /// the bits that choose the shard.
     fn shard(&self, key: &M::Key) -> &[Lane<M>; LANES] {
@@ -287,6 +301,19 @@ impl<M: Function> Cache<M> {
         key.hash(&mut hasher);
         &self.shards[(hasher.finish() >> 58) as usize]
     }
+}
+
+/// Appends clones of the keys that a change of these calls reaches. On error some may be missing.
+fn put_reached<M: Function>(
+    kept: &CacheData<M>,
+    calls: &[M::Call],
+    keys: &mut Vec<M::Key>,
+) -> Result<(), AllocError> {
+    for key in kept.reached(calls)? {
+        let own = key.clone()?;
+        keys.push(own)?;
+    }
+    Ok(())
 }
 
 /// Drops old entries of these shards, and locks them all in order first.

@@ -19,6 +19,8 @@ mod joined;
 #[cfg(test)]
 mod notes;
 #[cfg(test)]
+mod reached;
+#[cfg(test)]
 mod runs;
 #[cfg(test)]
 mod scarce;

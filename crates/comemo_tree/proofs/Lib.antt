@@ -20,3 +20,4 @@ pub mod Planting
 pub mod Insertions
 pub mod Left
 pub mod StepLists
+pub mod Reaching

@@ -26,7 +26,7 @@ pub is_some-map : {X Y : Type 0} (f : X → Y) (o : Option X) → is_some (optio
 is_some-map f None = refl
 is_some-map f (Some x) = refl
 
-cases_below : (i n : ℕ) → (i < n) ⊎ (n ≤ i)
+pub cases_below : (i n : ℕ) → (i < n) ⊎ (n ≤ i)
 cases_below i n = grind arith
 
 -- ---- children that are there

@@ -22,7 +22,7 @@ use Rattle.comemo_tree.proofs.Forest.{first_alike, any_entry, same_child, knows_
 
 module _ {C R : Type 0} (inner : slab.Slab (InnerNode C R)) where
   -- where a way of two parts comes through
-  Leads-split : (from : Node) (ps qs : List (C × R)) (to : Node) → Leads inner from (ps ++ qs) to → (mid : Node) × Leads inner from ps mid × Leads inner mid qs to
+  pub Leads-split : (from : Node) (ps qs : List (C × R)) (to : Node) → Leads inner from (ps ++ qs) to → (mid : Node) × Leads inner from ps mid × Leads inner mid qs to
   Leads-split from [] qs to h = (from, refl, h)
   Leads-split from (p ∷ ps) qs to h = let r = Leads-split h.2 ps qs to h.7 in (r.0, (h.0, h.1, h.2, h.3, h.4, h.5, h.6, r.1), r.2)
 
@@ -138,7 +138,7 @@ module _ {K C R T S : Type 0} {eq : C → C → Bool} {same : R → R → Bool} 
       (r.0, subst (λ n. IsAt inner leaves to r.0 n) e r.1)
 
   -- a prefix leads to each inner node
-  inner_reached : (at : ℕ) (node : InnerNode C R) → slab.get inner at ≡ Some node → (f : K × List (C × R)) × Reaches (Inner at) f
+  pub inner_reached : (at : ℕ) (node : InnerNode C R) → slab.get inner at ≡ Some node → (f : K × List (C × R)) × Reaches (Inner at) f
   inner_reached at node e = let b = forest.below at node e in up b.0 b.1 b.2 b.3
     where
       up : (to : Node) (rest : List (C × R)) → Leads inner (Inner at) rest to → IsEnd None to → (f : K × List (C × R)) × Reaches (Inner at) f

@@ -8,3 +8,4 @@ pub mod Shape
 pub mod Values
 pub mod Growth
 pub mod StepLists
+pub mod Reach

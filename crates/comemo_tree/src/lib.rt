@@ -30,6 +30,7 @@ pub mod children;
 mod ghost_key;
 mod insertion;
 mod print;
+mod reach;
 mod retention;
 pub mod settled;
 mod shape;

@@ -4,7 +4,7 @@
 //! inner node has its children in rising order of answers. One step of a look-up is a search in an ordered map of a
 //! node's answers; the key is found in constant expected time. Only `insert` and `find` allocate.
 ghost use Rattle.std.specs.Prelude.{◌≡◌, ◌≤◌, ◌<◌, ◌+◌, ◌^◌, ◌⊎◌, [], false, length, IsTrue, Some, None, IfSome, IfOk, IfErr, OnOk, OnErr, IsOk, option_copied, option_map};
-ghost use Rattle.std.specs.List.{All, AllZip};
+ghost use Rattle.std.specs.List.{All, AllZip, Any};
 ghost use Rattle.std.specs.Map.{lookup};
 ghost use Rattle.std.specs.HashMap as map;
 ghost use Rattle.std.specs.Fn.{AlwaysReturns};
@@ -15,6 +15,7 @@ ghost use Rattle.comemo_base.specs.Insertion.{Exists, Misses, IsReason, Adds};
 ghost use Rattle.comemo_tree.specs.Retain.{Retains, ReturnsAtMut};
 ghost use Rattle.comemo_tree.specs.Change.{Changes, HasAnswers, LeavesAt};
 ghost use Rattle.comemo_tree.specs.Nodes.{AddsInner, AddsLeaf, Forks, IsForest, contents, first_of};
+ghost use Rattle.comemo_tree.specs.Reach.{AsksUnder, asks_one};
 ghost use Rattle.comemo_tree.specs.Shape.{IsShape};
 ghost use Rattle.comemo_tree.specs.Values.{values_of};
 
@@ -23,6 +24,7 @@ use crate::children::{Children, Node};
 use crate::ghost_key::GhostKey;
 use crate::insertion::{begin_key, insert_below, plant};
 use crate::print::print_tree;
+use crate::reach::keys_reached;
 use crate::retention::{prune, retain_leaves, retain_starts};
 use crate::shape::shape_of;
 use crate::values::Values;
@@ -352,6 +354,18 @@ impl<K: Eq + Hash, C: Eq + Hash, R: Ord, T> CallTree<K, C, R, T> {
         };
         f(&mut self.leaves[at].value);
         true
+    }
+
+    /// The keys under which a path asks one of these calls, each once, by reference and in no particular order.
+    ///
+    /// Asks nothing. Linear in the nodes that there is room for, times the calls.
+    pub fn reached(&self, calls: &[C]) -> Result<Vec<&K>, AllocError>
+        ensures all { IfOk result (λ keys. All (λ e. IsTrue (asks_one C.eq calls.now e.path)
+            → Any (λ k. IsTrue (K.eq e.key k.now)) keys.items) self.now) }
+        ensures only { IfOk result (λ keys.
+            All (λ k. AsksUnder C.eq calls.now K.eq self.now k.now) keys.items) }
+    {
+        keys_reached(self.alloc, &self.inner, &self.leaves, &self.starts, calls)
     }
 
     /// How many inner nodes, leaves, edges and keys the tree has. Constant time.

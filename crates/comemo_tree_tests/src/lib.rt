@@ -26,6 +26,8 @@ mod printed;
 #[cfg(test)]
 mod random;
 #[cfg(test)]
+mod reached;
+#[cfg(test)]
 mod refusals;
 #[cfg(test)]
 mod rows;

@@ -1,0 +1,106 @@
+//! Branches of a run: recorders of their own, whose recordings the recorder of the run absorbs. A branch may be asked
+//! in another thread. Making one does not allocate.
+ghost use Rattle.std.specs.Prelude.{◌≡◌, [], true, false, IfErr, OnOk, Ok};
+ghost use Rattle.comemo_track.specs.Recording.{Recording};
+ghost use Rattle.comemo.specs.Function.{Recorded};
+ghost use Rattle.comemo.specs.Recursive.{TellsOwn};
+ghost use Rattle.comemo.specs.Branch.{IsBranch, Spoils};
+
+use crate::function::{Recorder, Told};
+use crate::pending::Fault;
+use comemo_track::track::Track;
+use std::alloc::Global;
+
+impl<'a, T: Track> Recorder<'a, T> {
+    /// A recorder of the same value with an empty recording, for a branch of the run.
+    ///
+    /// What the branch is told counts for the run once it is absorbed. If it is dropped, as by `?`, the run takes
+    /// nothing.
+    pub fn branch(&self) -> Recorder<'a, T>
+        ensures { IsBranch self.now result }
+    {
+        Recorder::new(self.alloc, self.view.fork(self.alloc))
+    }
+
+    /// Takes what a branch recorded: the reads that aren't recorded here, in their order. So the order of the calls of
+    /// `absorb` decides the recording, and not when the branches ended.
+    ///
+    /// On error this recording is incomplete, and the branch is dropped.
+    pub fn absorb(&mut self, branch: Recorder<'_, T>) -> Result<(), Fault>
+        requires value { branch.value ≡ self.now.value }
+        requires complete { branch.recording.complete ≡ true }
+        ensures tells { TellsOwn ⟦<T as Told>⟧.fits self.old self.new result
+            (λ _ m. ⟦<T as Told>⟧.fits branch.entry.recording m) }
+        ensures took { OnOk result
+            (⟦<T as Told>⟧.took self.old self.new branch.entry.recording.pairs []) }
+        ensures err { IfErr result (λ fault. (fault ≡ Fault.Memory) × Spoils self.old self.new) }
+    {
+        let Recorder {
+            alloc: _,
+            view: _,
+            recording,
+        } = branch;
+        self.recording.absorb(recording)?;
+        Ok(())
+    }
+}
+
+/// What asks in a branch: a `Recorder`. There is no other implementation.
+///
+/// It is a trait, since the type of a closure, as that of a branch is, can't name `Recorder` in a bound.
+pub trait Branch: Sized {
+    /// The tracked value.
+    type Value;
+
+    /// What can be asked.
+    type Call;
+
+    /// The answer to a read.
+    type Answer;
+
+    // the recorder, as contracts see it
+    ghost seen: { Self → Recorded Self.Value Self.Call Self.Answer };
+
+    // the recording is complete and not late, and the answers agree with it
+    ghost fits: { Recording Self.Call Self.Answer → (Self.Call → Self.Answer) → Type 0 };
+
+    /// The allocator of the recorder.
+    fn allocator(&self) -> Global;
+
+    /// A new branch, as `Recorder::branch`.
+    fn fork(&self) -> Self
+        ensures { IsBranch (seen self.now) (seen result) };
+
+    /// Takes what a branch recorded, as `Recorder::absorb`.
+    fn join(&mut self, branch: Self) -> Result<(), Fault>
+        requires value { (seen branch).value ≡ (seen self.now).value }
+        requires complete { (seen branch).recording.complete ≡ true }
+        ensures { TellsOwn fits (seen self.old) (seen self.new) result
+            (λ _ m. fits (seen branch).recording m) };
+}
+
+impl<'a, T: Track> Branch for Recorder<'a, T> {
+    type Value = T;
+
+    type Call = T::Call;
+
+    type Answer = T::Answer;
+
+    ghost use Rattle.comemo.specs.Function.{Fits};
+
+    ghost seen = { λ s. s };
+
+    ghost fits = { Fits T.Call.eq T.Answer.eq };
+
+    fn allocator(&self) -> Global {
+        self.alloc
+    }
+
+    fn fork(&self) -> Self {
+        self.branch()
+    }
+
+    fn join(&mut self, branch: Self) -> Result<(), Fault> {
+        self.absorb(branch)
+    }
+}

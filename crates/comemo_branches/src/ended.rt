@@ -1,0 +1,76 @@
+//! One branch, and what becomes of those that ended.
+ghost use Rattle.std.specs.Prelude.{◌≡◌, ◌<◌, ℕ, ◌++◌, ◌∷◌, [], length, vec_len, slice_index_or, IfOk, OnOk, Ok};
+ghost use Rattle.std.specs.List.{AllZip};
+ghost use Rattle.comemo.specs.Recursive.{TellsOwn};
+ghost use Rattle.comemo_branches.specs.Branches.{BranchRan, BranchTold, GaveTo, IsEnded, KeepsBranches};
+
+use comemo::{Branch, Fault};
+use std::alloc::AllocError;
+
+/// Does a branch: the closure's output, and the recorder that it asked through.
+pub fn run_branch<P: Branch + Drop, J, X: Drop, F: Fn(&mut P, &J) -> Result<X, Fault>>(
+    of: &P,
+    item: &J,
+    f: &F,
+) -> Result<(X, P), Fault>
+    requires { F.IsAlwaysCallable f.now }
+    ensures { IfOk result (λ ended. BranchRan F.Fn f.now P.seen (P.seen of.now) item.now
+        (Ok ended.0) ended.1) }
+{
+    let mut branch = of.fork();
+    let output = f(&mut branch, item)?;
+    Ok((output, branch))
+}
+
+/// Joins the branches of these items, which ended so, in their order, and returns their outputs.
+///
+/// The first fault is returned, `Incomplete` as `Memory`; the branches after it are dropped. The closure is not called.
+pub fn join_each<P: Branch + Drop, J, X: Drop, F: Fn(&mut P, &J) -> Result<X, Fault>>(
+    of: &mut P,
+    items: &[J],
+    f: &F,
+    ended: Vec<Result<(X, P), Fault>>,
+) -> Result<Vec<X>, Fault>
+    requires len { vec_len ended ≡ length items.now }
+    requires ran { (i : ℕ) (d : _) (e : _) → i < length items.now
+        → IfOk (slice_index_or ended.items i e) (λ end. BranchRan F.Fn f.now P.seen
+        (P.seen of.now) (slice_index_or items.now i d) (Ok end.0) end.1) }
+    requires keeps { KeepsBranches F.Fn f.now P.seen (P.seen of.now) }
+    ensures { TellsOwn P.fits (P.seen of.old) (P.seen of.new) result (λ outputs m. AllZip
+        (BranchTold F.Fn f.now P.seen (P.seen of.old) P.fits m) items.now outputs.items) }
+{
+    let _ = items;
+    let _ = f;
+    let mut outputs = Vec::new(of.allocator());
+    for end in ended {
+        let output = join_one(of, end)?;
+        keep(&mut outputs, output)?;
+    }
+    Ok(outputs)
+}
+
+/// Appends an output.
+pub fn keep<X: Drop>(outputs: &mut Vec<X>, output: X) -> Result<(), AllocError>
+    ensures { OnOk result (outputs.new.items ≡ outputs.old.items ++ output ∷ []) }
+{
+    Ok(outputs.push(output)?)
+}
+
+/// Joins a branch that ended, and returns its output.
+pub fn join_one<P: Branch + Drop, X: Drop>(
+    of: &mut P,
+    end: Result<(X, P), Fault>,
+) -> Result<X, Fault>
+    requires { IsEnded P.seen (P.seen of.now) end }
+    ensures { TellsOwn P.fits (P.seen of.old) (P.seen of.new) result
+        (λ output m. GaveTo P.seen P.fits m end output) }
+{
+    match end {
+        Ok((output, branch)) => {
+            of.join(branch)?;
+            Ok(output)
+        }
+        Err(Fault::Incomplete) => Err(Fault::Memory),
+        Err(fault) => Err(fault),
+    }
+}

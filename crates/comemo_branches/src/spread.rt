@@ -1,0 +1,80 @@
+//! A list of items, each done by a branch: in threads, or in turn.
+ghost use Rattle.std.specs.Prelude.{◌≡◌, ◌<◌, ℕ, length, IfOk, slice_index_or, Ok};
+ghost use Rattle.std.specs.List.{AllZip};
+ghost use Rattle.comemo.specs.Recursive.{TellsOwn};
+ghost use Rattle.comemo_branches.specs.Branches.{BranchRan, BranchTold, KeepsBranches};
+
+use crate::ended::{join_each, join_one, keep, run_branch};
+use comemo::{Branch, Fault};
+use std::marker::{Send, Sync};
+use std::thread::{Threads, for_each_mut};
+
+/// Calls a closure at each item, each call a branch with a recorder of its own, in at most so many threads; with one
+/// or none, in the thread of the run. Joins the branches in the order of the items, and returns the outputs in that order.
+///
+/// The first fault in that order is returned, `Incomplete` as `Memory`; nothing after it is recorded.
+pub fn map_in_threads<
+    R: Threads + Sync,
+    P: Branch + Send + Sync + Drop,
+    J: Sync,
+    X: Send + Drop,
+    F: Fn(&mut P, &J) -> Result<X, Fault> + Sync,
+>(rt: &R, threads: usize, of: &mut P, items: &[J], f: &F) -> Result<Vec<X>, Fault>
+    requires callable { F.IsAlwaysCallable f.now }
+    requires keeps { KeepsBranches F.Fn f.now P.seen (P.seen of.now) }
+    ensures { TellsOwn P.fits (P.seen of.old) (P.seen of.new) result (λ outputs m. AllZip
+        (BranchTold F.Fn f.now P.seen (P.seen of.old) P.fits m) items.now outputs.items) }
+{
+    let mut ended: Vec<Result<(X, P), Fault>> = Vec::new(of.allocator());
+    ended.resize_with(items.len(), || Err(Fault::Memory))?;
+    run_branches(rt, threads.max(1), of, items, f, ended.as_mut_slice());
+    join_each(of, items, f, ended)
+}
+
+/// As `map_in_threads`, in the thread of the run, for functions that have no right to start threads.
+pub fn map_in_turn<P: Branch + Drop, J, X: Drop, F: Fn(&mut P, &J) -> Result<X, Fault>>(
+    of: &mut P,
+    items: &[J],
+    f: &F,
+) -> Result<Vec<X>, Fault>
+    requires callable { F.IsAlwaysCallable f.now }
+    requires keeps { KeepsBranches F.Fn f.now P.seen (P.seen of.now) }
+    ensures { TellsOwn P.fits (P.seen of.old) (P.seen of.new) result (λ outputs m. AllZip
+        (BranchTold F.Fn f.now P.seen (P.seen of.old) P.fits m) items.now outputs.items) }
+{
+    let mut outputs = Vec::new(of.allocator());
+    for item in items {
+        let ended = run_branch(of, item, f);
+        let output = join_one(of, ended)?;
+        keep(&mut outputs, output)?;
+    }
+    Ok(outputs)
+}
+
+/// Does the branches of these items, each to its place.
+fn run_branches<
+    R: Threads + Sync,
+    P: Branch + Send + Sync + Drop,
+    J: Sync,
+    X: Send + Drop,
+    F: Fn(&mut P, &J) -> Result<X, Fault> + Sync,
+>(rt: &R, threads: usize, of: &P, items: &[J], f: &F, ended: &mut [Result<(X, P), Fault>])
+    requires threads { 0 < threads }
+    requires callable { F.IsAlwaysCallable f.now }
+    requires len { length ended.old ≡ length items.now }
+    ensures len { length ended.new ≡ length ended.old }
+    ensures ran { (i : ℕ) (d : _) (e : _) → i < length items.now
+        → IfOk (slice_index_or ended.new i e) (λ end. BranchRan F.Fn f.now P.seen
+        (P.seen of.now) (slice_index_or items.now i d) (Ok end.0) end.1) }
+{
+    for_each_mut(
+        rt,
+        ended,
+        threads,
+        &|i, end|
+            requires { (i < length items.now) × F.IsAlwaysCallable f.now }
+            ensures { (d : _) → IfOk end.new (λ e. BranchRan F.Fn f.entry.now P.seen
+                (P.seen of.entry.now) (slice_index_or items.entry.now i d) (Ok e.0) e.1) }
+        { *end = run_branch(of, &items[i], f) },
+    );
+}

@@ -1,0 +1,4 @@
+pub mod Cells
+pub mod Rolls
+pub mod RollLaws
+pub mod RollTells

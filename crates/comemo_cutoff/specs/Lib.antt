@@ -1,0 +1,4 @@
+pub mod Cells
+pub mod Modules
+pub mod Rounds
+pub mod Sums

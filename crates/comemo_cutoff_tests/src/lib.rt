@@ -1,0 +1,5 @@
+//! Tests of the functions that ask outputs of others.
+#![tactic(auto)]
+
+#[cfg(test)]
+mod cutoff;

@@ -1,0 +1,4 @@
+pub mod History
+pub mod Statements
+pub mod Requests
+pub mod Coarse
