@@ -5,7 +5,7 @@ use Rattle.comemo.specs.Recording.{Recording, Took}
 use Rattle.comemo.specs.Writing.{touched}
 use Rattle.comemo.specs.WritingLaws.{neither}
 use Rattle.comemo.specs.FunctionMut.{NoneTouches}
-use Rattle.comemo.proofs.RecordersMut.{none_touched}
+use Rattle.comemo.proofs.Lateness.{none_touched}
 use Rattle.comemo_track.specs.declared.multi.MultiCall.TheVariants as call
 use Rattle.calc_core.specs.Files.{JoinedCall, JoinedAnswer}
 use Rattle.calc_core.specs.Joined.{same_call, same_answer, touches}

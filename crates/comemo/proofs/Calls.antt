@@ -3,7 +3,7 @@ use Rattle.std.specs.Prelude.{⊤}
 use Rattle.std.proofs.Common.{◌≡◌, Bool, true, false, List, [], ◌∷◌, ◌++◌, inl, inr, Result, Ok, Err, IfOk, IfErr, OnErr, IsErrAnd, refl, sym, subst, ◌∙◌}
 use Rattle.std.specs.Cmp.{IsEquivalence}
 use Rattle.comemo_base.specs.Answers.{Respects, Agrees}
-use Rattle.comemo_track.specs.Recording.{Recording}
+use Rattle.comemo_track.specs.Recording.{Recording, IsLateByTouch}
 use Rattle.comemo.specs.Begin.{PendingRun, came_to, HasToRun, IsHit, IsRun, IsBrokenOff, IsStopped}
 use Rattle.comemo.specs.Begun.{OnBegun, OnFault}
 use Rattle.comemo.specs.declared.pending.Begun.{Begun}
@@ -100,6 +100,10 @@ finished_early {pending = pending} took lates early done = record { complete = d
 ended_late : {K C R O : Type 0} (M : Meaning K C R O) (es es' : Entries K C R O) (ran : Run K C R O) {h : How} → h ≡ how.Late → Ends M es ran h es' → es' ≡ es
 ended_late M es es' ran e ends = subst (λ x. Ends M es ran x es') e ends
 
+-- a run that was finished is no hit
+pub never_hit : {K C R O : Type 0} {M : Meaning K C R O} {es es' : Entries K C R O} {pending : PendingRun K C R} {sent : List (C × R) → List C → Type 0} {output : O} {reply : Reply O} → Finished M es pending sent output reply es' → reply.how ≡ how.Hit → ⊥
+never_hit {M = M} {es} {es'} {pending} {output = output} done e = subst (λ x. Ends M es (came_to pending output) x es') e done.ends
+
 module _ {K C R O : Type 0} {M : Meaning K C R O} {es : Entries K C R O} {call : Invocation K C R} where
   -- a run that began, however it is seen
   pub run_seen : {seen begun : PendingRun K C R} → seen ≡ begun → IsRun M es call begun → IsRun M es call seen
@@ -181,7 +185,7 @@ module _ {K C R O : Type 0} {M : Meaning K C R O} {es : Entries K C R O} {call :
   reply_by_done_hit calls answers mid es' hit touched did i j k e d = also_done did i j k e (reply_by_hit calls answers mid es' hit touched) d
 
   -- a run of which the writes were done too, and which is late or not
-  pub reply_by_done_run : {begun : PendingRun K C R} (t : Recording C R) (touches : C → C → Bool) → (t.late ≡ true → ((c d : C) → touches c d ≡ false) → ⊥) → IsRun M es call begun → (t.late ≡ false → Agrees M.same_answer call.answers t.pairs) → {mid es' : Entries K C R O} {S : Type 0} (took : S → S → List (C × R) → List C → Type 0) (lates : S → S → Type 0) {a b : S} {output : O} {reply : Reply O} → (t.late ≡ false → Stands M (came_to (recorded begun t) output)) → Finished M mid (recorded begun t) (TookAs took lates t.late a b) output reply es' → {V : Type 0} (did : V → V → List C → Type 0) (i j k : V) → k ≡ j → did i j t.writes → IsReplyMut M call touches es mid (λ late P W. TookAs took lates late a b P W × did i k W) reply es'
+  pub reply_by_done_run : {begun : PendingRun K C R} (t : Recording C R) (touches : C → C → Bool) → IsLateByTouch M.same_call touches t → IsRun M es call begun → (t.late ≡ false → Agrees M.same_answer call.answers t.pairs) → {mid es' : Entries K C R O} {S : Type 0} (took : S → S → List (C × R) → List C → Type 0) (lates : S → S → Type 0) {a b : S} {output : O} {reply : Reply O} → (t.late ≡ false → Stands M (came_to (recorded begun t) output)) → Finished M mid (recorded begun t) (TookAs took lates t.late a b) output reply es' → {V : Type 0} (did : V → V → List C → Type 0) (i j k : V) → k ≡ j → did i j t.writes → IsReplyMut M call touches es mid (λ late P W. TookAs took lates late a b P W × did i k W) reply es'
   unfolding reply_by_run
   reply_by_done_run {begun} t touches touching is agrees {mid = mid} {es' = es'} took lates {a = a} {b = b} {output = output} {reply = reply} stands done did i j k e d =
       elim (cases_Bool t.late) [

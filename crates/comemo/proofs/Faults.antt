@@ -1,6 +1,6 @@
--- Which fault a call returned, where nothing is said of its sink.
+-- Which fault a call returned, where nothing is said of its sink; and what became of what its run needs.
 use Rattle.std.specs.Bool.{⊤}
-use Rattle.std.proofs.Common.{◌≡◌, ◌⊎◌, List, Option, inl, inr}
+use Rattle.std.proofs.Common.{◌≡◌, ◌⊎◌, true, false, List, Option, Result, Ok, Err, IfOk, IsErr, inl, inr}
 use Rattle.std.proofs.Math.Logic.{⊎_map}
 use Rattle.comemo_cache.specs.Meaning.{Meaning, Invocation}
 use Rattle.comemo_cache.specs.Cache.{Entries}
@@ -37,5 +37,11 @@ module _ {K C R O : Type 0} {M : Meaning K C R O} {call : Invocation K C R} wher
 
   pub without_sink_mut : {es es' : Entries K C R O} {done : List C → Type 0} {spoils : Type 0} {spoiled : List (C × R) → List C → Type 0} (f : Fault) → FailsBy M es call done spoils spoiled f es' → FailsBy M es call done ⊤ (λ _ _. ⊤) f es'
   without_sink_mut f (inl (same, inl memory)) = inl (same, inl memory)
-  without_sink_mut f (inl (same, inr run)) = inl (same, inr (run.0, tt))
+  without_sink_mut f (inl (same, inr (due, inl memory))) = inl (same, inr (due, inl memory))
+  without_sink_mut f (inl (same, inr (due, inr spoils))) = inl (same, inr (due, inr tt))
   without_sink_mut f (inr (write, stopped)) = inr (write, (stopped.0, stopped_so stopped.1))
+
+-- what holds of any result of a call, and what holds of a reply, where the call failed
+pub spared : {A F X : Type 0} (P : A → Type 0) (r : Result A F) → IsErr r → X → X × IfOk r P
+spared P (Ok x) h kept = let no : false ≡ true = h in cc
+spared P (Err f) h kept = (kept, tt)

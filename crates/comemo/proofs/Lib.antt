@@ -4,6 +4,7 @@ pub mod PartsAsked
 pub mod PartsMut
 pub mod Recorders
 pub mod NamedRuns
+pub mod Lateness
 pub mod RecordersMut
 pub mod Calls
 pub mod Hits

@@ -27,6 +27,7 @@ use Rattle.comemo.specs.declared.pending.Reply.{Reply}
 use Rattle.comemo.specs.declared.pending.Fault.{Fault}
 use Rattle.comemo.specs.declared.pending.Fault.TheVariants as fault
 use Rattle.comemo.proofs.Calls.{resent}
+use Rattle.comemo.proofs.Lateness.{touches_alike, path_mapped, touches_mapped}
 use Rattle.comemo.proofs.RecordersMut.{AreReads, took_reads, has_begun_on, goes_on, fitted_mut, taken_mut, asked_begun, tells_answer_mut, has_begun_late, tells_late, written_begun, tells_write, refused_begun, tells_refused, tells_failed, writes_failed}
 use Rattle.comemo.proofs.ThroughMaps.{part_respects, agrees_mapped, agrees_part}
 
@@ -118,7 +119,7 @@ module _ {C D R Q : Type 0} (eq : C → C → Bool) (same : R → R → Bool) (e
       pub part_asked_begun : HasBegun (Done wrote w touches like answers) like answers t
       part_asked_begun = asked_begun wrote w touches like answers calls laws alike place same_recording has value (f call) read (g answer) (asked_complete (answers s.value.now) m each call answer k)
 
-      pub tells_asked_part : TellsMut (Goes (Done wrote w touches like answers) touches like answers) (Fits eqd like) s t (Ok answer) (λ a n. OnPart f g n (λ part. IsTrue (same (part call) a)))
+      pub tells_asked_part : TellsMut (Goes (Done wrote w touches like answers) eqd touches like answers) (Fits eqd like) s t (Ok answer) (λ a n. OnPart f g n (λ part. IsTrue (same (part call) a)))
       tells_asked_part =
           let a = tells_answer_mut wrote w touches like answers calls laws alike place same_recording has value (f call) read (g answer) (asked_complete (answers s.value.now) m each call answer k) in
           record {
@@ -142,7 +143,7 @@ module _ {C D R Q : Type 0} (eq : C → C → Bool) (same : R → R → Bool) (e
         part_begun : HasBegun (Done wrote w touches like answers) like answers t
         part_begun = has_begun_on wrote w touches like answers calls laws alike s t (mapped_pairs f g k.gives.given) (map f k.writes) took are_reads agreed did has
 
-        part_goes : Goes (Done wrote w touches like answers) touches like answers s t
+        part_goes : Goes (Done wrote w touches like answers) eqd touches like answers s t
         part_goes = goes_on wrote w touches like answers calls laws alike s t (mapped_pairs f g k.gives.given) (map f k.writes) took are_reads agreed place same_recording did
 
         part_before : (n : D → Q) → Fits eqd like t.recording.now n → Fits eqd like s.recording.now n
@@ -153,7 +154,7 @@ module _ {C D R Q : Type 0} (eq : C → C → Bool) (same : R → R → Bool) (e
             let r = part_respects eq same eqd like f g apart answers_apart n part e fits.respects in
             k.stands part r ((k.gives.agreeing part r).0 (agrees_part eq same eqd like f g apart answers_apart n part e k.gives.given (taken_mut wrote w touches like answers calls laws alike s t (mapped_pairs f g k.gives.given) (map f k.writes) took are_reads agreed has n fits)))
 
-        tells_part : TellsWrites (Goes (Done wrote w touches like answers) touches like answers) (Fits eqd like) s t (Ok reply.output) (λ output n writes. OnPartWrites f g n writes (λ part W. def key part output W))
+        tells_part : TellsWrites (Goes (Done wrote w touches like answers) eqd touches like answers) (Fits eqd like) s t (Ok reply.output) (λ output n writes. OnPartWrites f g n writes (λ part W. def key part output W))
         tells_part = record {
           goes = part_goes;
           before = part_before;
@@ -173,7 +174,7 @@ module _ {C D R Q : Type 0} (eq : C → C → Bool) (same : R → R → Bool) (e
         pub part_read_begun : HasBegun (Done wrote w touches like answers) like answers t
         part_read_begun = part_begun k k.gives.are_sent nothing
 
-        pub tells_read_part : {P : O → (C → R) → Type 0} → ((part : C → R) → def key part reply.output k.writes → P reply.output part) → TellsMut (Goes (Done wrote w touches like answers) touches like answers) (Fits eqd like) s t (Ok reply.output) (λ output n. OnPart f g n (P output))
+        pub tells_read_part : {P : O → (C → R) → Type 0} → ((part : C → R) → def key part reply.output k.writes → P reply.output part) → TellsMut (Goes (Done wrote w touches like answers) eqd touches like answers) (Fits eqd like) s t (Ok reply.output) (λ output n. OnPart f g n (P output))
         tells_read_part so = record {
           goes = part_goes k k.gives.are_sent nothing;
           before = part_before k k.gives.are_sent nothing;
@@ -190,10 +191,10 @@ module _ {C D R Q : Type 0} (eq : C → C → Bool) (same : R → R → Bool) (e
           | inr b ↦ has_begun_late wrote w touches like answers calls laws alike s t (mapped_pairs f g b.gives.given) (map f b.writes) b.gives.are_sent.0 b.gives.are_sent.1 has
         ]
 
-        pub tells_any_part : TellsWrites (Goes (Done wrote w touches like answers) touches like answers) (Fits eqd like) s t (Ok reply.output) (λ output n writes. OnPartWrites f g n writes (λ part W. def key part output W))
+        pub tells_any_part : TellsWrites (Goes (Done wrote w touches like answers) eqd touches like answers) (Fits eqd like) s t (Ok reply.output) (λ output n writes. OnPartWrites f g n writes (λ part W. def key part output W))
         tells_any_part = elim k [
           | inl a ↦ tells_part a a.gives.are_sent.0 a.gives.are_sent.1
-          | inr b ↦ tells_late wrote w touches like answers calls laws alike s t (mapped_pairs f g b.gives.given) (map f b.writes) b.gives.are_sent.0 b.gives.are_sent.1 (λ none. b.touching (λ c d. sym (same_touch c d) ∙ none (f c) (f d))) place same_recording reply.output
+          | inr b ↦ tells_late wrote w touches like answers calls laws alike s t (mapped_pairs f g b.gives.given) (map f b.writes) b.gives.are_sent.0 b.gives.are_sent.1 (touches_alike calls touches like (mapped_pairs f g b.gives.given) (mapped_pairs f g b.pairs) (map f b.writes) (path_mapped eq same eqd like f g apart answers_apart b.gives.given b.pairs b.gives.alike) (touches_mapped eq touching eqd touches f g apart same_touch b.writes b.pairs b.touching)) place same_recording reply.output
         ]
 
 -- what a call of a function of a part that reads wrote: nothing
@@ -398,7 +399,7 @@ module _ {S U V X Y P Q : Type 0} (j : Joined S U V X Y P Q) where
       pub asked_first_begun : HasBegun Did j.parts.likes Answers t
       asked_first_begun = part_asked_begun j.parts.first_calls j.parts.first_likes j.parts.calls j.parts.likes first_call first_answer j.parts.by_calls.firsts j.parts.by_likes.firsts j.wrote are_writes touch Answers equal alike respects s t place same_recording has (j.parts.first_answers (j.first_of s.value.now)) (λ c. refl) value call read answer k
 
-      pub tells_asked_first : TellsMut (Goes Did touch j.parts.likes Answers) (Fits j.parts.calls j.parts.likes) s t (Ok answer) (λ a n. OnPart first_call first_answer n (λ part. IsTrue (j.parts.first_likes (part call) a)))
+      pub tells_asked_first : TellsMut (Goes Did j.parts.calls touch j.parts.likes Answers) (Fits j.parts.calls j.parts.likes) s t (Ok answer) (λ a n. OnPart first_call first_answer n (λ part. IsTrue (j.parts.first_likes (part call) a)))
       tells_asked_first = tells_asked_part j.parts.first_calls j.parts.first_likes j.parts.calls j.parts.likes first_call first_answer j.parts.by_calls.firsts j.parts.by_likes.firsts j.wrote are_writes touch Answers equal alike respects s t place same_recording has (j.parts.first_answers (j.first_of s.value.now)) (λ c. refl) value call read answer k
 
     -- after one of the second
@@ -406,7 +407,7 @@ module _ {S U V X Y P Q : Type 0} (j : Joined S U V X Y P Q) where
       pub asked_second_begun : HasBegun Did j.parts.likes Answers t
       asked_second_begun = part_asked_begun j.parts.second_calls j.parts.second_likes j.parts.calls j.parts.likes second_call second_answer j.parts.by_calls.seconds j.parts.by_likes.seconds j.wrote are_writes touch Answers equal alike respects s t place same_recording has (j.parts.second_answers (j.second_of s.value.now)) (λ c. refl) value call read answer k
 
-      pub tells_asked_second : TellsMut (Goes Did touch j.parts.likes Answers) (Fits j.parts.calls j.parts.likes) s t (Ok answer) (λ a n. OnPart second_call second_answer n (λ part. IsTrue (j.parts.second_likes (part call) a)))
+      pub tells_asked_second : TellsMut (Goes Did j.parts.calls touch j.parts.likes Answers) (Fits j.parts.calls j.parts.likes) s t (Ok answer) (λ a n. OnPart second_call second_answer n (λ part. IsTrue (j.parts.second_likes (part call) a)))
       tells_asked_second = tells_asked_part j.parts.second_calls j.parts.second_likes j.parts.calls j.parts.likes second_call second_answer j.parts.by_calls.seconds j.parts.by_likes.seconds j.wrote are_writes touch Answers equal alike respects s t place same_recording has (j.parts.second_answers (j.second_of s.value.now)) (λ c. refl) value call read answer k
 
     -- after a call of a function of the first, which reads
@@ -414,7 +415,7 @@ module _ {S U V X Y P Q : Type 0} (j : Joined S U V X Y P Q) where
       pub read_first_begun : HasBegun Did j.parts.likes Answers t
       read_first_begun = part_read_begun j.parts.first_calls j.parts.first_likes j.parts.calls j.parts.likes first_call first_answer j.parts.by_calls.firsts j.parts.by_likes.firsts j.wrote are_writes touch Answers equal alike respects s t place same_recording has (j.parts.first_answers (j.first_of s.value.now)) (λ c. refl) eqk j.parts.first_writes cloned def naming kinds all key reply value reads k
 
-      pub tells_read_first : {T : O → (X → P) → Type 0} → ((part : X → P) → def key part reply.output k.writes → T reply.output part) → TellsMut (Goes Did touch j.parts.likes Answers) (Fits j.parts.calls j.parts.likes) s t (Ok reply.output) (λ output n. OnPart first_call first_answer n (T output))
+      pub tells_read_first : {T : O → (X → P) → Type 0} → ((part : X → P) → def key part reply.output k.writes → T reply.output part) → TellsMut (Goes Did j.parts.calls touch j.parts.likes Answers) (Fits j.parts.calls j.parts.likes) s t (Ok reply.output) (λ output n. OnPart first_call first_answer n (T output))
       tells_read_first so = tells_read_part j.parts.first_calls j.parts.first_likes j.parts.calls j.parts.likes first_call first_answer j.parts.by_calls.firsts j.parts.by_likes.firsts j.wrote are_writes touch Answers equal alike respects s t place same_recording has (j.parts.first_answers (j.first_of s.value.now)) (λ c. refl) eqk j.parts.first_writes cloned def naming kinds all key reply value reads k so
 
     -- after a call of a function of the second, which reads
@@ -422,7 +423,7 @@ module _ {S U V X Y P Q : Type 0} (j : Joined S U V X Y P Q) where
       pub read_second_begun : HasBegun Did j.parts.likes Answers t
       read_second_begun = part_read_begun j.parts.second_calls j.parts.second_likes j.parts.calls j.parts.likes second_call second_answer j.parts.by_calls.seconds j.parts.by_likes.seconds j.wrote are_writes touch Answers equal alike respects s t place same_recording has (j.parts.second_answers (j.second_of s.value.now)) (λ c. refl) eqk j.parts.second_writes cloned def naming kinds all key reply value reads k
 
-      pub tells_read_second : {T : O → (Y → Q) → Type 0} → ((part : Y → Q) → def key part reply.output k.writes → T reply.output part) → TellsMut (Goes Did touch j.parts.likes Answers) (Fits j.parts.calls j.parts.likes) s t (Ok reply.output) (λ output n. OnPart second_call second_answer n (T output))
+      pub tells_read_second : {T : O → (Y → Q) → Type 0} → ((part : Y → Q) → def key part reply.output k.writes → T reply.output part) → TellsMut (Goes Did j.parts.calls touch j.parts.likes Answers) (Fits j.parts.calls j.parts.likes) s t (Ok reply.output) (λ output n. OnPart second_call second_answer n (T output))
       tells_read_second so = tells_read_part j.parts.second_calls j.parts.second_likes j.parts.calls j.parts.likes second_call second_answer j.parts.by_calls.seconds j.parts.by_likes.seconds j.wrote are_writes touch Answers equal alike respects s t place same_recording has (j.parts.second_answers (j.second_of s.value.now)) (λ c. refl) eqk j.parts.second_writes cloned def naming kinds all key reply value reads k so
 
     -- after a call of a function of the first, which writes
@@ -430,7 +431,7 @@ module _ {S U V X Y P Q : Type 0} (j : Joined S U V X Y P Q) where
       pub called_first_begun : HasBegun Did j.parts.likes Answers t
       called_first_begun = part_any_begun j.parts.first_calls j.parts.first_likes j.parts.calls j.parts.likes first_call first_answer j.parts.by_calls.firsts j.parts.by_likes.firsts j.wrote are_writes touch Answers equal alike respects s t place same_recording has (j.parts.first_answers (j.first_of s.value.now)) (λ c. refl) eqk j.parts.first_writes cloned def naming kinds all key reply j.parts.first_touches (λ x y. refl) k
 
-      pub tells_called_first : TellsWrites (Goes Did touch j.parts.likes Answers) (Fits j.parts.calls j.parts.likes) s t (Ok reply.output) (λ output n writes. OnPartWrites first_call first_answer n writes (λ part W. def key part output W))
+      pub tells_called_first : TellsWrites (Goes Did j.parts.calls touch j.parts.likes Answers) (Fits j.parts.calls j.parts.likes) s t (Ok reply.output) (λ output n writes. OnPartWrites first_call first_answer n writes (λ part W. def key part output W))
       tells_called_first = tells_any_part j.parts.first_calls j.parts.first_likes j.parts.calls j.parts.likes first_call first_answer j.parts.by_calls.firsts j.parts.by_likes.firsts j.wrote are_writes touch Answers equal alike respects s t place same_recording has (j.parts.first_answers (j.first_of s.value.now)) (λ c. refl) eqk j.parts.first_writes cloned def naming kinds all key reply j.parts.first_touches (λ x y. refl) k
 
     -- after a call of a function of the second, which writes
@@ -438,7 +439,7 @@ module _ {S U V X Y P Q : Type 0} (j : Joined S U V X Y P Q) where
       pub called_second_begun : HasBegun Did j.parts.likes Answers t
       called_second_begun = part_any_begun j.parts.second_calls j.parts.second_likes j.parts.calls j.parts.likes second_call second_answer j.parts.by_calls.seconds j.parts.by_likes.seconds j.wrote are_writes touch Answers equal alike respects s t place same_recording has (j.parts.second_answers (j.second_of s.value.now)) (λ c. refl) eqk j.parts.second_writes cloned def naming kinds all key reply j.parts.second_touches (λ x y. refl) k
 
-      pub tells_called_second : TellsWrites (Goes Did touch j.parts.likes Answers) (Fits j.parts.calls j.parts.likes) s t (Ok reply.output) (λ output n writes. OnPartWrites second_call second_answer n writes (λ part W. def key part output W))
+      pub tells_called_second : TellsWrites (Goes Did j.parts.calls touch j.parts.likes Answers) (Fits j.parts.calls j.parts.likes) s t (Ok reply.output) (λ output n writes. OnPartWrites second_call second_answer n writes (λ part W. def key part output W))
       tells_called_second = tells_any_part j.parts.second_calls j.parts.second_likes j.parts.calls j.parts.likes second_call second_answer j.parts.by_calls.seconds j.parts.by_likes.seconds j.wrote are_writes touch Answers equal alike respects s t place same_recording has (j.parts.second_answers (j.second_of s.value.now)) (λ c. refl) eqk j.parts.second_writes cloned def naming kinds all key reply j.parts.second_touches (λ x y. refl) k
 
     -- after writes
@@ -446,7 +447,7 @@ module _ {S U V X Y P Q : Type 0} (j : Joined S U V X Y P Q) where
       pub wrote_part_begun : HasBegun Did j.parts.likes Answers t
       wrote_part_begun = written_begun j.wrote are_writes touch j.parts.likes Answers equal alike respects place same_recording has W took did
 
-      pub tells_wrote_part : {Z : Type 0} (x : Z) → TellsMut (Goes Did touch j.parts.likes Answers) (Fits j.parts.calls j.parts.likes) s t (Ok x) (λ _ _. ⊤)
+      pub tells_wrote_part : {Z : Type 0} (x : Z) → TellsMut (Goes Did j.parts.calls touch j.parts.likes Answers) (Fits j.parts.calls j.parts.likes) s t (Ok x) (λ _ _. ⊤)
       tells_wrote_part x = tells_write j.wrote are_writes touch j.parts.likes Answers equal alike respects place same_recording has W took did x
 
     -- after what was refused
@@ -454,15 +455,15 @@ module _ {S U V X Y P Q : Type 0} (j : Joined S U V X Y P Q) where
       pub refused_part_begun : HasBegun Did j.parts.likes Answers t
       refused_part_begun = refused_begun j.wrote are_writes touch j.parts.likes Answers equal alike respects place same_recording has value took
 
-      pub tells_refused_part : {Z : Type 0} {H : Z → (MultiCall X Y → MultiAnswer P Q) → Type 0} (r : Result Z Fault) → IsErrAnd r (λ f. f ≡ fault.Memory) → TellsMut (Goes Did touch j.parts.likes Answers) (Fits j.parts.calls j.parts.likes) s t r H
+      pub tells_refused_part : {Z : Type 0} {H : Z → (MultiCall X Y → MultiAnswer P Q) → Type 0} (r : Result Z Fault) → IsErrAnd r (λ f. f ≡ fault.Memory) → TellsMut (Goes Did j.parts.calls touch j.parts.likes Answers) (Fits j.parts.calls j.parts.likes) s t r H
       tells_refused_part r h = tells_refused j.wrote are_writes touch j.parts.likes Answers equal alike respects place same_recording has value took r h
 
   module _ {s t : Lent S (MultiCall X Y) (MultiAnswer P Q)} (place : t.value.ghost_name ≡ s.value.ghost_name) (same_recording : t.recording.ghost_name ≡ s.recording.ghost_name) (reached : Reaches Did s.value.now t.value.now) (broken : t.recording.now.complete ≡ false) where
     -- after a fault that made the recording incomplete
-    pub tells_failed_part : {fits : Recording (MultiCall X Y) (MultiAnswer P Q) → (MultiCall X Y → MultiAnswer P Q) → Type 0} {Z : Type 0} {H : Z → (MultiCall X Y → MultiAnswer P Q) → Type 0} (r : Result Z Fault) → IsErr r → TellsMut (Goes Did touch j.parts.likes Answers) fits s t r H
+    pub tells_failed_part : {fits : Recording (MultiCall X Y) (MultiAnswer P Q) → (MultiCall X Y → MultiAnswer P Q) → Type 0} {Z : Type 0} {H : Z → (MultiCall X Y → MultiAnswer P Q) → Type 0} (r : Result Z Fault) → IsErr r → TellsMut (Goes Did j.parts.calls touch j.parts.likes Answers) fits s t r H
     tells_failed_part r h = tells_failed j.wrote are_writes touch j.parts.likes Answers place same_recording reached broken r h
 
-    pub writes_failed_part : {fits : Recording (MultiCall X Y) (MultiAnswer P Q) → (MultiCall X Y → MultiAnswer P Q) → Type 0} {Z : Type 0} {H : Z → (MultiCall X Y → MultiAnswer P Q) → List (MultiCall X Y) → Type 0} (r : Result Z Fault) → IsErr r → TellsWrites (Goes Did touch j.parts.likes Answers) fits s t r H
+    pub writes_failed_part : {fits : Recording (MultiCall X Y) (MultiAnswer P Q) → (MultiCall X Y → MultiAnswer P Q) → Type 0} {Z : Type 0} {H : Z → (MultiCall X Y → MultiAnswer P Q) → List (MultiCall X Y) → Type 0} (r : Result Z Fault) → IsErr r → TellsWrites (Goes Did j.parts.calls touch j.parts.likes Answers) fits s t r H
     writes_failed_part r h = writes_failed j.wrote are_writes touch j.parts.likes Answers place same_recording reached broken r h
 
 module _ {U V X Y P Q : Type 0} (p : Parts U V X Y P Q) where

@@ -12,7 +12,7 @@ use Rattle.comemo_base.proofs.Paths.{turned, joined, Agrees-same, IsSamePath-tur
 use Rattle.comemo_track.specs.Multi.{OnParts}
 use Rattle.comemo_track.specs.declared.multi.MultiAnswer.{MultiAnswer}
 use Rattle.comemo_track.specs.declared.multi.MultiCall.{MultiCall}
-use Rattle.comemo_track.specs.Recording.{Recording, Took, Spoiled, MarkedLate}
+use Rattle.comemo_track.specs.Recording.{Recording, Took, Spoiled, MarkedLate, TouchesHeld, IsLateByTouch}
 use Rattle.comemo_track.specs.RecordingLaws.{held-absorbed}
 use Rattle.comemo_track.specs.Sending.{Asks, BreaksOff, SpoiledAfter, TookAs}
 use Rattle.comemo_track.specs.Writing.{Done, touched, touched_by}
@@ -27,24 +27,12 @@ use Rattle.comemo.specs.Finish.{BreaksOffRun}
 use Rattle.comemo.specs.FunctionMut.{Lent, Began, HasBegun, NoneTouches, Goes, TellsMut, TellsWrites, BrokeOffMut, IsFailed}
 use Rattle.comemo.specs.declared.pending.Fault.{Fault}
 use Rattle.comemo.specs.declared.pending.Fault.TheVariants as fault
+use Rattle.comemo.proofs.Lateness.{held_now, took_late, marked_late, touches_alike}
 use Rattle.comemo.proofs.Recorders.{was_complete, in_time, agrees_from, fitted_from, taken_from}
 
 -- for authors of functions of two values that write: output and writes, both right by the parts' answers
 pub right_on_parts : {X Y P Q : Type 0} {right written : (X → P) → (Y → Q) → Type 0} (m : MultiCall X Y → MultiAnswer P Q) → OnParts m (λ a b. right a b × written a b) → OnParts m written × OnParts m right
 right_on_parts m both = (λ a b p q. (both a b p q).1, λ a b p q. (both a b p q).0)
-
-or_true : (a : Bool) → (a || true) ≡ true
-or_true true = refl
-or_true false = refl
-
--- if no write touches a read, none is touched
-none_touched_by : {C : Type 0} (touches : C → C → Bool) → NoneTouches touches → (W : List C) (call : C) → touched_by touches W call ≡ false
-none_touched_by touches none [] call = refl
-none_touched_by touches none (c ∷ W) call = ap (λ b. b || touched_by touches W call) (none c call) ∙ none_touched_by touches none W call
-
-pub none_touched : {C R : Type 0} (touches : C → C → Bool) → NoneTouches touches → (W : List C) (P : List (C × R)) → touched touches W P ≡ false
-none_touched touches none W [] = refl
-none_touched touches none W (p ∷ P) = ap (λ b. b || touched touches W P) (none_touched_by touches none W p.0) ∙ none_touched touches none W P
 
 -- the calls of pairs are reads
 abbrev pub AreReads : {C R : Type 0} → (C → Bool) → List (C × R) → Type 0
@@ -61,17 +49,10 @@ module _ {C R : Type 0} {eq : C → C → Bool} (calls : IsEquivalence eq) (w : 
         | inr e ↦ held_is_read ps (All-tail (λ (q : C × R). w q.0 ≡ false) p ps all) call (rw e at h)
       ]
 
-  held_now : (ps : List (C × R)) (q : C × R) → held eq (cond (held eq ps q.0) ps (ps ++ q ∷ [])) q.0 ≡ true
-  held_now ps q =
-      elim (cases_Bool (held eq ps q.0)) [
-        | inl h ↦ rw h h
-        | inr h ↦ rw h (held-push eq ps q.0 q.1 q.0 ∙ ap (λ b. held eq ps q.0 || b) (calls.refl q.0) ∙ or_true (held eq ps q.0))
-      ]
-
   -- what reads took are reads
   absorbed_reads : (ps qs : List (C × R)) → All (λ p. w p.0 ≡ false) (absorbed eq ps qs) → AreReads w qs
   absorbed_reads ps [] all = tt
-  absorbed_reads ps (q ∷ qs) all = (held_is_read (absorbed eq (cond (held eq ps q.0) ps (ps ++ q ∷ [])) qs) all q.0 (held-absorbed eq (cond (held eq ps q.0) ps (ps ++ q ∷ [])) qs q.0 (held_now ps q)), absorbed_reads (cond (held eq ps q.0) ps (ps ++ q ∷ [])) qs all)
+  absorbed_reads ps (q ∷ qs) all = (held_is_read (absorbed eq (cond (held eq ps q.0) ps (ps ++ q ∷ [])) qs) all q.0 (held-absorbed eq (cond (held eq ps q.0) ps (ps ++ q ∷ [])) qs q.0 (held_now calls ps q)), absorbed_reads (cond (held eq ps q.0) ps (ps ++ q ∷ [])) qs all)
 
   pub took_reads : {touches : C → C → Bool} {s t : Recording C R} (P : List (C × R)) (W : List C) → Took eq touches s t P W → All (λ p. w p.0 ≡ false) t.pairs → AreReads w P
   took_reads {s = s} P W took all = absorbed_reads s.pairs P (subst (λ ps. All (λ p. w p.0 ≡ false) ps) took.pairs all)
@@ -120,13 +101,13 @@ module _ {V C R : Type 0} (wrote : V → C → V → Type 0) (w : C → Bool) (t
           taken_from calls laws (answers b.0) (alike b.0) P W took (b.1.agrees (in_time took f.early).0) (taken_agrees b.0 b.1 f.early) n f
 
     -- so it goes
-    pub goes_on : t.value.ghost_name ≡ s.value.ghost_name → t.recording.ghost_name ≡ s.recording.ghost_name → Done wrote w touches same answers s.value.now t.value.now W → Goes (Done wrote w touches same answers) touches same answers s t
+    pub goes_on : t.value.ghost_name ≡ s.value.ghost_name → t.recording.ghost_name ≡ s.recording.ghost_name → Done wrote w touches same answers s.value.now t.value.now W → Goes (Done wrote w touches same answers) eq touches same answers s t
     goes_on place same_recording did = record {
       same_value = place;
       same_recording = same_recording;
       was_complete = was_complete took;
       began = λ complete start b. began_on did start b;
-      early = λ none complete l. took.late ∙ ap (λ x. x || touched touches s.recording.now.writes P) l ∙ none_touched touches none s.recording.now.writes P;
+      late = λ complete before. took_late calls touches P W took before;
       reached = λ start r. (r.0 ++ W, done_both wrote w touches same answers start s.value.now t.value.now r.0 W r.1 did);
     }
 
@@ -150,14 +131,14 @@ module _ {V C R : Type 0} (wrote : V → C → V → Type 0) (w : C → Bool) (t
     pub has_begun_late : HasBegun (Done wrote w touches same answers) same answers s → HasBegun (Done wrote w touches same answers) same answers t
     has_begun_late has = λ complete. let b = has (sym late_complete ∙ complete) in (b.0, began_late b.0 b.1)
 
-    pub tells_late : (NoneTouches touches → ⊥) → t.value.ghost_name ≡ s.value.ghost_name → t.recording.ghost_name ≡ s.recording.ghost_name → {X : Type 0} (x : X) {Q : X → (C → R) → List C → Type 0} → TellsWrites (Goes (Done wrote w touches same answers) touches same answers) (Fits eq same) s t (Ok x) Q
+    pub tells_late : TouchesHeld eq touches W P → t.value.ghost_name ≡ s.value.ghost_name → t.recording.ghost_name ≡ s.recording.ghost_name → {X : Type 0} (x : X) {Q : X → (C → R) → List C → Type 0} → TellsWrites (Goes (Done wrote w touches same answers) eq touches same answers) (Fits eq same) s t (Ok x) Q
     tells_late touching place same_recording x = record {
       goes = record {
         same_value = place;
         same_recording = same_recording;
         was_complete = λ complete. sym late_complete ∙ complete;
         began = λ complete start b. began_late start b;
-        early = λ none complete l. absurd (touching none);
+        late = λ complete before. marked_late calls touches P W took touching;
         reached = λ start r. (r.0 ++ W, done_both wrote w touches same answers start s.value.now t.value.now r.0 W r.1 did);
       };
       before = λ m f. late_any f.early;
@@ -172,7 +153,7 @@ module _ {V C R : Type 0} (wrote : V → C → V → Type 0) (w : C → Bool) (t
       pub asked_begun : HasBegun (Done wrote w touches same answers) same answers t
       asked_begun = has_begun_on s t ((call, k.noted) ∷ []) [] k.sent (read, tt) (k.alike, tt) value has
 
-      pub tells_answer_mut : TellsMut (Goes (Done wrote w touches same answers) touches same answers) (Fits eq same) s t (Ok answer) (λ answer n. IsTrue (same (n call) answer))
+      pub tells_answer_mut : TellsMut (Goes (Done wrote w touches same answers) eq touches same answers) (Fits eq same) s t (Ok answer) (λ answer n. IsTrue (same (n call) answer))
       tells_answer_mut = record {
         goes = goes_on s t ((call, k.noted) ∷ []) [] k.sent (read, tt) (k.alike, tt) place same_recording value;
         before = fitted_mut s t ((call, k.noted) ∷ []) [] k.sent (read, tt) (k.alike, tt) has;
@@ -190,7 +171,7 @@ module _ {V C R : Type 0} (wrote : V → C → V → Type 0) (w : C → Bool) (t
       pub written_begun : HasBegun (Done wrote w touches same answers) same answers t
       written_begun = has_begun_on s t [] W took tt tt did has
 
-      pub tells_write : {X : Type 0} (x : X) → TellsMut (Goes (Done wrote w touches same answers) touches same answers) (Fits eq same) s t (Ok x) (λ _ _. ⊤)
+      pub tells_write : {X : Type 0} (x : X) → TellsMut (Goes (Done wrote w touches same answers) eq touches same answers) (Fits eq same) s t (Ok x) (λ _ _. ⊤)
       tells_write x = record {
         goes = goes_on s t [] W took tt tt place same_recording did;
         before = fitted_mut s t [] W took tt tt has;
@@ -200,7 +181,7 @@ module _ {V C R : Type 0} (wrote : V → C → V → Type 0) (w : C → Bool) (t
       }
 
     -- nothing was done, since it was refused
-    pub tells_refused : t.value.now ≡ s.value.now → Took eq touches s.recording.now t.recording.now [] [] → {X : Type 0} {P : X → (C → R) → Type 0} (r : Result X Fault) → IsErrAnd r (λ f. f ≡ fault.Memory) → TellsMut (Goes (Done wrote w touches same answers) touches same answers) (Fits eq same) s t r P
+    pub tells_refused : t.value.now ≡ s.value.now → Took eq touches s.recording.now t.recording.now [] [] → {X : Type 0} {P : X → (C → R) → Type 0} (r : Result X Fault) → IsErrAnd r (λ f. f ≡ fault.Memory) → TellsMut (Goes (Done wrote w touches same answers) eq touches same answers) (Fits eq same) s t r P
     tells_refused value took (Ok x) h = absurd h
     tells_refused value took (Err f) h = record {
       goes = goes_on s t [] [] took tt tt place same_recording value;
@@ -218,7 +199,7 @@ fresh_began wrote w touches same answers s pairs writes = record {
 }
 
 -- what a run did that began with an empty recording: the recording that it left began at the value that it got
-module _ {V C R : Type 0} (wrote : V → C → V → Type 0) (w : C → Bool) (touches : C → C → Bool) (same : R → R → Bool) (answers : V → C → R) {s t : Lent V C R} (goes : Goes (Done wrote w touches same answers) touches same answers s t) (pairs : s.recording.now.pairs ≡ []) (writes : s.recording.now.writes ≡ []) where
+module _ {V C R : Type 0} (wrote : V → C → V → Type 0) (w : C → Bool) {eq : C → C → Bool} (touches : C → C → Bool) (same : R → R → Bool) (answers : V → C → R) {s t : Lent V C R} (goes : Goes (Done wrote w touches same answers) eq touches same answers s t) (pairs : s.recording.now.pairs ≡ []) (writes : s.recording.now.writes ≡ []) where
   ran_began : t.recording.now.complete ≡ true → Began (Done wrote w touches same answers) same answers s.value.now t
   ran_began complete = goes.began complete s.value.now (fresh_began wrote w touches same answers s pairs writes)
 
@@ -228,18 +209,20 @@ module _ {V C R : Type 0} (wrote : V → C → V → Type 0) (w : C → Bool) (t
   pub ran_did : (ws : List C) (complete : Bool) (j : V) → ws ≡ t.recording.now.writes → complete ≡ t.recording.now.complete → j ≡ t.value.now → complete ≡ true → Done wrote w touches same answers s.value.now j ws
   ran_did ws complete j e a v is = subst (λ x. Done wrote w touches same answers s.value.now j x) (sym e) (subst (λ k. Done wrote w touches same answers s.value.now k t.recording.now.writes) (sym v) (ran_began (sym a ∙ is)).done)
 
-  pub ran_early : s.recording.now.late ≡ false → (complete late : Bool) → complete ≡ t.recording.now.complete → late ≡ t.recording.now.late → NoneTouches touches → complete ≡ true → late ≡ false
-  ran_early l complete late a b none is = b ∙ goes.early none (sym a ∙ is) l
+  pub ran_late : s.recording.now.late ≡ false → (ps : List (C × R)) (ws : List C) (complete late : Bool) → ps ≡ t.recording.now.pairs → ws ≡ t.recording.now.writes → complete ≡ t.recording.now.complete → late ≡ t.recording.now.late → complete ≡ true → late ≡ true → TouchesHeld eq touches ws ps
+  ran_late l ps ws complete late e f a b w is =
+      let k = goes.late (sym a ∙ w) (λ was. let no : false ≡ true = sym l ∙ was in cc) (sym b ∙ is) in
+      subst (λ x. TouchesHeld eq touches x ps) (sym f) (subst (λ x. TouchesHeld eq touches t.recording.now.writes x) (sym e) k)
 
-module _ {V C R : Type 0} {did : V → V → List C → Type 0} {touches : C → C → Bool} {same : R → R → Bool} {answers : V → C → R} where
+module _ {V C R : Type 0} {did : V → V → List C → Type 0} {eq touches : C → C → Bool} {same : R → R → Bool} {answers : V → C → R} where
   -- first to a recorder, and then on to another
-  pub goes_both : {s t u : Lent V C R} → Goes did touches same answers s t → Goes did touches same answers t u → Goes did touches same answers s u
+  pub goes_both : {s t u : Lent V C R} → Goes did eq touches same answers s t → Goes did eq touches same answers t u → Goes did eq touches same answers s u
   goes_both a b = record {
     same_value = b.same_value ∙ a.same_value;
     same_recording = b.same_recording ∙ a.same_recording;
     was_complete = λ w. a.was_complete (b.was_complete w);
     began = λ w start d. b.began w start (a.began (b.was_complete w) start d);
-    early = λ none w l. b.early none w (a.early none (b.was_complete w) l);
+    late = λ w before. b.late w (a.late (b.was_complete w) before);
     reached = λ start r. b.reached start (a.reached start r);
   }
 
@@ -256,7 +239,7 @@ module _ {V K C R O : Type 0} (M : Meaning K C R O) (wrote : V → C → V → T
       pub called_begun : HasBegun (Done wrote w touches M.same_answer answers) M.same_answer answers t
       called_begun = has_begun_on wrote w touches M.same_answer answers calls laws alike s t k.gives.given k.writes k.gives.are_sent.0 called_reads called_agrees k.gives.are_sent.1 has
 
-      pub tells_called : TellsWrites (Goes (Done wrote w touches M.same_answer answers) touches M.same_answer answers) (Fits M.same_call M.same_answer) s t (Ok reply.output) (λ output n writes. M.right key n output writes)
+      pub tells_called : TellsWrites (Goes (Done wrote w touches M.same_answer answers) M.same_call touches M.same_answer answers) (Fits M.same_call M.same_answer) s t (Ok reply.output) (λ output n writes. M.right key n output writes)
       tells_called = record {
         goes = goes_on wrote w touches M.same_answer answers calls laws alike s t k.gives.given k.writes k.gives.are_sent.0 called_reads called_agrees place same_recording k.gives.are_sent.1;
         before = fitted_mut wrote w touches M.same_answer answers calls laws alike s t k.gives.given k.writes k.gives.are_sent.0 called_reads called_agrees has;
@@ -273,10 +256,10 @@ module _ {V K C R O : Type 0} (M : Meaning K C R O) (wrote : V → C → V → T
         | inr b ↦ has_begun_late wrote w touches M.same_answer answers calls laws alike s t b.gives.given b.writes b.gives.are_sent.0 b.gives.are_sent.1 has
       ]
 
-      pub tells_any : TellsWrites (Goes (Done wrote w touches M.same_answer answers) touches M.same_answer answers) (Fits M.same_call M.same_answer) s t (Ok reply.output) (λ output n writes. M.right key n output writes)
+      pub tells_any : TellsWrites (Goes (Done wrote w touches M.same_answer answers) M.same_call touches M.same_answer answers) (Fits M.same_call M.same_answer) s t (Ok reply.output) (λ output n writes. M.right key n output writes)
       tells_any = elim k [
         | inl a ↦ tells_called a
-        | inr b ↦ tells_late wrote w touches M.same_answer answers calls laws alike s t b.gives.given b.writes b.gives.are_sent.0 b.gives.are_sent.1 b.touching place same_recording reply.output
+        | inr b ↦ tells_late wrote w touches M.same_answer answers calls laws alike s t b.gives.given b.writes b.gives.are_sent.0 b.gives.are_sent.1 (touches_alike calls touches M.same_answer b.gives.given b.pairs b.writes b.gives.alike b.touching) place same_recording reply.output
       ]
 
     -- after a call of a function that reads
@@ -293,7 +276,7 @@ module _ {V K C R O : Type 0} (M : Meaning K C R O) (wrote : V → C → V → T
       pub read_begun : HasBegun (Done wrote w touches M.same_answer answers) M.same_answer answers t
       read_begun = has_begun_on wrote w touches M.same_answer answers calls laws alike s t k.gives.given k.writes k.gives.are_sent read_reads read_agreed nothing has
 
-      pub tells_read : {P : O → (C → R) → Type 0} → ((n : C → R) → M.right key n reply.output k.writes → P reply.output n) → TellsMut (Goes (Done wrote w touches M.same_answer answers) touches M.same_answer answers) (Fits M.same_call M.same_answer) s t (Ok reply.output) (λ output n. P output n)
+      pub tells_read : {P : O → (C → R) → Type 0} → ((n : C → R) → M.right key n reply.output k.writes → P reply.output n) → TellsMut (Goes (Done wrote w touches M.same_answer answers) M.same_call touches M.same_answer answers) (Fits M.same_call M.same_answer) s t (Ok reply.output) (λ output n. P output n)
       tells_read so = record {
         goes = goes_on wrote w touches M.same_answer answers calls laws alike s t k.gives.given k.writes k.gives.are_sent read_reads read_agreed place same_recording nothing;
         before = fitted_mut wrote w touches M.same_answer answers calls laws alike s t k.gives.given k.writes k.gives.are_sent read_reads read_agreed has;
@@ -311,24 +294,24 @@ failed_spoils (inr b) = b.1.is_spoiled.spoiled.complete
 pub read_writes : {K C R O : Type 0} {touches : C → C → Bool} {M : Meaning K C R O} {es mid es' : Entries K C R O} {call : Invocation K C R} (s t : Recording C R) (reply : Reply O) (k : IsReply M call es mid (Took M.same_call touches s t) reply es') → k.writes ≡ [] → t.writes ≡ s.writes
 read_writes s t reply k none = k.gives.are_sent.writes ∙ (ap (λ W. s.writes ++ W) none ∙ append-nil s.writes)
 
-module _ {V C R : Type 0} (wrote : V → C → V → Type 0) (w : C → Bool) (touches : C → C → Bool) (same : R → R → Bool) (answers : V → C → R) {s t : Lent V C R} (same_value : t.value.ghost_name ≡ s.value.ghost_name) (same_recording : t.recording.ghost_name ≡ s.recording.ghost_name) (reached : Reaches (Done wrote w touches same answers) s.value.now t.value.now) (broken : t.recording.now.complete ≡ false) where
-  goes_failed : Goes (Done wrote w touches same answers) touches same answers s t
+module _ {V C R : Type 0} (wrote : V → C → V → Type 0) (w : C → Bool) {eq : C → C → Bool} (touches : C → C → Bool) (same : R → R → Bool) (answers : V → C → R) {s t : Lent V C R} (same_value : t.value.ghost_name ≡ s.value.ghost_name) (same_recording : t.recording.ghost_name ≡ s.recording.ghost_name) (reached : Reaches (Done wrote w touches same answers) s.value.now t.value.now) (broken : t.recording.now.complete ≡ false) where
+  goes_failed : Goes (Done wrote w touches same answers) eq touches same answers s t
   goes_failed = record {
     same_value = same_value;
     same_recording = same_recording;
     was_complete = λ w. spoiled_any _ broken w;
     began = λ w. spoiled_any _ broken w;
-    early = λ none w. spoiled_any _ broken w;
+    late = λ w. spoiled_any _ broken w;
     reached = λ start r. (r.0 ++ reached.0, done_both wrote w touches same answers start s.value.now t.value.now r.0 reached.0 r.1 reached.1);
   }
 
   -- after a fault that made the recording incomplete
-  pub tells_failed : {fits : Recording C R → (C → R) → Type 0} {X : Type 0} {P : X → (C → R) → Type 0} (r : Result X Fault) → IsErr r → TellsMut (Goes (Done wrote w touches same answers) touches same answers) fits s t r P
+  pub tells_failed : {fits : Recording C R → (C → R) → Type 0} {X : Type 0} {P : X → (C → R) → Type 0} (r : Result X Fault) → IsErr r → TellsMut (Goes (Done wrote w touches same answers) eq touches same answers) fits s t r P
   tells_failed (Ok x) h = let no : false ≡ true = h in cc
   tells_failed (Err f) h = record { goes = goes_failed; before = tt; told = tt; complete = tt; fault = λ e. broken }
 
   -- the same, for a call of a function that writes
-  pub writes_failed : {fits : Recording C R → (C → R) → Type 0} {X : Type 0} {P : X → (C → R) → List C → Type 0} (r : Result X Fault) → IsErr r → TellsWrites (Goes (Done wrote w touches same answers) touches same answers) fits s t r P
+  pub writes_failed : {fits : Recording C R → (C → R) → Type 0} {X : Type 0} {P : X → (C → R) → List C → Type 0} (r : Result X Fault) → IsErr r → TellsWrites (Goes (Done wrote w touches same answers) eq touches same answers) fits s t r P
   writes_failed (Ok x) h = let no : false ≡ true = h in cc
   writes_failed (Err f) h = record { goes = goes_failed; before = tt; told = tt; complete = tt; fault = λ e. broken }
 

@@ -1,12 +1,12 @@
 -- What a memoized function replies to a call.
-use Rattle.std.specs.Prelude.{◌≡◌, ◌↔◌, ◌⊎◌, ◌++◌, [], Bool, true, false, List, Option, map, IsTrue}
+use Rattle.std.specs.Prelude.{◌≡◌, ◌↔◌, ◌⊎◌, ◌++◌, [], Bool, true, false, List, Option, map, IsTrue, Result, IfOk}
 use Rattle.std.specs.List.{All}
 use Rattle.std.specs.List.Sorted.{IsPermutation}
 use Rattle.comemo_base.specs.Answers.{Agrees}
 use Rattle.comemo_cache.specs.Meaning.{Meaning, Invocation, Run, run, IsNamedRun}
 use Rattle.comemo_cache.specs.Cache.{Entries, Stands, HasNone, Has, Touches, young}
 use Rattle.comemo_cache.specs.Held.{Held, LeadsBy}
-use Rattle.comemo_track.specs.Recording.{Recording}
+use Rattle.comemo_track.specs.Recording.{Recording, TouchesHeld}
 use Rattle.comemo.specs.Finish.{Ends, Finished, Gives}
 use Rattle.comemo.specs.declared.pending.Fault.{Fault}
 use Rattle.comemo.specs.declared.pending.Fault.TheVariants as fault
@@ -34,10 +34,14 @@ module _ {K C R O : Type 0} (M : Meaning K C R O) (call : Invocation K C R) wher
     pub disabled : (reply ≡ how.Disabled) ↔ (call.enabled ≡ false)
     pub early : reply ≡ how.Late → ⊥
 
-  -- a fault is that of a run: a run was due, since no entry of es has the key and agrees or the call is not enabled;
-  -- and this holds of the sink, which says that it took nothing of the run and is incomplete
+  -- a run is due: no entry of es has the key and agrees, or the call is not enabled
+  abbrev pub IsDue : Entries K C R O → Type 0
+  IsDue es = call.enabled ≡ true → HasNone M es call
+
+  -- a fault is that of a run, which was due; and this holds of the sink, which says that it took nothing of the run and
+  -- is incomplete
   abbrev pub IsOfRun : Entries K C R O → Type 0 → Type 0
-  IsOfRun es spoils = (call.enabled ≡ true → HasNone M es call) × spoils
+  IsOfRun es spoils = IsDue es × spoils
 
   -- a run under the call's own key had this reply: it recorded reads, none of them late, that the call's answers agree
   -- with and by which alone its output is right; and it was finished
@@ -62,13 +66,13 @@ module _ {K C R O : Type 0} (M : Meaning K C R O) (call : Invocation K C R) wher
     pub came : ((reply.how ≡ how.Hit) × CameByHit es (run call.key pairs reply.output writes) es') ⊎ CameByRun es mid (run call.key pairs reply.output writes) reply.how es'
 
   module _ (touches : C → C → Bool) where
-    -- the reply to a call whose run was late: its reads and writes went to the sink, a write may touch a read, no entry
-    -- of es has the key and agrees with the answers, and the entries are those at mid. Nothing else is known
+    -- the reply to a call whose run was late: its reads and writes went to the sink, a write touches a read, no entry of
+    -- es has the key and agrees with the answers, and the entries are those at mid. Nothing else is known
     pub record IsLate (es mid : Entries K C R O) (sent : List (C × R) → List C → Type 0) (reply : Reply O) (es' : Entries K C R O) : Type 0 where
       pub pairs : List (C × R)
       pub writes : List C
       pub is_late : reply.how ≡ how.Late
-      pub touching : ((c d : C) → touches c d ≡ false) → ⊥
+      pub touching : TouchesHeld M.same_call touches writes pairs
       pub none : call.enabled ≡ true → HasNone M es call
       pub gives : Gives M sent pairs writes
       pub same : es' ≡ mid
@@ -90,7 +94,15 @@ HeldReply M call before sent reply after = LeadsBy before before after (λ es mi
 abbrev pub HeldReplyMut : {K C R O : Type 0} → Meaning K C R O → (C → C → Bool) → Invocation K C R → Option (Entries K C R O) → (Bool → List (C × R) → List C → Type 0) → Reply O → Option (Entries K C R O) → Type 0
 HeldReplyMut M touches call before sent reply after = LeadsBy before before after (λ es mid es'. IsReplyMut M call touches es mid sent reply es')
 
--- the fault of a call that only reads: out of memory; or a run was due, since no entry of those before has the key and
--- agrees, or the call is not enabled
+-- what a run needs is unchanged, unless a run was due at the entries before the call
+abbrev pub HeldNeeds : {K C R O N : Type 0} → Meaning K C R O → Invocation K C R → Option (Entries K C R O) → N → N → Type 0
+HeldNeeds M call before needs needs' = (needs' ≡ needs) ⊎ Held before (IsDue M call)
+
+-- the same, and a hit left it unchanged
+abbrev pub SparesNeeds : {K C R O N : Type 0} → Meaning K C R O → Invocation K C R → Option (Entries K C R O) → N → N → Result (Reply O) Fault → Type 0
+SparesNeeds M call before needs needs' result =
+    HeldNeeds M call before needs needs' × IfOk result (λ reply. reply.how ≡ how.Hit → needs' ≡ needs)
+
+-- the fault of a call that only reads: out of memory, or a run was due at the entries before the call
 abbrev pub HeldFault : {K C R O : Type 0} → Meaning K C R O → Invocation K C R → Option (Entries K C R O) → Fault → Type 0
-HeldFault M call before f = (f ≡ fault.Memory) ⊎ Held before (λ es. call.enabled ≡ true → HasNone M es call)
+HeldFault M call before f = (f ≡ fault.Memory) ⊎ Held before (IsDue M call)

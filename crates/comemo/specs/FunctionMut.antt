@@ -1,12 +1,12 @@
 -- What a memoized function that writes means, and what its run does and learns.
-use Rattle.std.specs.Prelude.{◌≡◌, ◌⊎◌, ◌++◌, Bool, true, false, List, map, Result, IfOk, OnOk, IfErr}
+use Rattle.std.specs.Prelude.{◌≡◌, ◌⊎◌, ◌++◌, [], Bool, true, false, List, map, Result, IfOk, OnOk, IfErr}
 use Rattle.std.specs.Borrow.{MutBor}
 use Rattle.comemo_base.specs.Answers.{Agrees}
-use Rattle.comemo_track.specs.Recording.{Recording}
+use Rattle.comemo_track.specs.Recording.{Recording, IsLateByTouch}
 use Rattle.comemo_cache.specs.Meaning.{Meaning, Invocation}
 use Rattle.comemo_cache.specs.Cache.{Entries, Touches}
 use Rattle.comemo.specs.Begin.{Reaches, IsStopped}
-use Rattle.comemo.specs.Called.{IsOfRun}
+use Rattle.comemo.specs.Called.{IsDue}
 use Rattle.comemo.specs.Function.{OnPart}
 use Rattle.comemo.specs.declared.pending.Fault.{Fault}
 use Rattle.comemo.specs.declared.pending.Fault.TheVariants as fault
@@ -35,16 +35,16 @@ module _ {V C R : Type 0} (did : V → V → List C → Type 0) (same : R → R 
 abbrev pub NoneTouches : {C : Type 0} → (C → C → Bool) → Type 0
 NoneTouches {C} touches = (c d : C) → touches c d ≡ false
 
-module _ {V C R : Type 0} (did : V → V → List C → Type 0) (touches : C → C → Bool) (same : R → R → Bool) (answers : V → C → R) where
+module _ {V C R : Type 0} (did : V → V → List C → Type 0) (eq touches : C → C → Bool) (same : R → R → Bool) (answers : V → C → R) where
   -- how what a recorder was lent changed, from s to t: value and recording are the same places, and only writes changed
-  -- the value. While the recording is complete, it may have begun wherever it may have before; and it isn't late if it
-  -- wasn't, and no write touches a read
+  -- the value. While the recording is complete, it may have begun wherever it may have before; and it is late only if
+  -- one of its writes touches one of its reads, if so it was before
   pub record Goes (s t : Lent V C R) : Type 0 where
     pub same_value : t.value.ghost_name ≡ s.value.ghost_name
     pub same_recording : t.recording.ghost_name ≡ s.recording.ghost_name
     pub was_complete : t.recording.now.complete ≡ true → s.recording.now.complete ≡ true
     pub began : t.recording.now.complete ≡ true → (start : V) → Began did same answers start s → Began did same answers start t
-    pub early : NoneTouches touches → t.recording.now.complete ≡ true → s.recording.now.late ≡ false → t.recording.now.late ≡ false
+    pub late : t.recording.now.complete ≡ true → IsLateByTouch eq touches s.recording.now → IsLateByTouch eq touches t.recording.now
     pub reached : (start : V) → Reaches did start s.value.now → Reaches did start t.value.now
 
 -- the writes that were recorded from s to t satisfy this
@@ -90,8 +90,8 @@ pub record BrokeOffMut {C R : Type 0} (touches : C → C → Bool) (same : R →
 abbrev pub IsFailed : {K C R O : Type 0} → Meaning K C R O → (C → C → Bool) → Entries K C R O → Invocation K C R → (List C → Type 0) → (List (C × R) → Type 0) → (List (C × R) → List C → Type 0) → Entries K C R O → Type 0
 IsFailed M touches es call done broken spoiled es' = ((es' ≡ es) × BrokeOffMut touches M.same_answer call.answers broken) ⊎ WasStopped M es call done spoiled es'
 
--- which fault a call of a function that writes returned: the entries are unchanged, and it is out of memory or the
--- run's fault; or a hit was stopped at a refused write
+-- which fault a call of a function that writes returned: the entries are unchanged, and it is out of memory with
+-- nothing written, or a run was due and it is out of memory or the run's fault; or a hit was stopped at a refused write
 abbrev pub FailsBy : {K C R O : Type 0} → Meaning K C R O → Entries K C R O → Invocation K C R → (List C → Type 0) → Type 0 → (List (C × R) → List C → Type 0) → Fault → Entries K C R O → Type 0
 FailsBy M es call done spoils spoiled f es' =
-    ((es' ≡ es) × ((f ≡ fault.Memory) ⊎ IsOfRun M call es spoils)) ⊎ ((f ≡ fault.Write) × WasStopped M es call done spoiled es')
+    ((es' ≡ es) × (((f ≡ fault.Memory) × done []) ⊎ (IsDue M call es × ((f ≡ fault.Memory) ⊎ spoils)))) ⊎ ((f ≡ fault.Write) × WasStopped M es call done spoiled es')

@@ -2,7 +2,7 @@
 //! costs; any other call costs what `begin`, the run and `Pending::finish` cost.
 ghost use Rattle.std.specs.Prelude.{◌≡◌, ◌⊎◌, [], List, Bool, true, false, IsTrue, IfOk, IfErr, OnOk, OnErr, ⊤};
 ghost use Rattle.comemo_cache.specs.Meaning.{invocation};
-ghost use Rattle.comemo.specs.Called.{RanAs, IsOfRun, HeldReply, HeldFault};
+ghost use Rattle.comemo.specs.Called.{RanAs, IsOfRun, HeldReply, HeldFault, HeldNeeds, SparesNeeds};
 ghost use Rattle.comemo_cache.specs.Held.{Held, Leads, Stays};
 ghost use Rattle.comemo.specs.Finish.{BrokeOff};
 ghost use Rattle.comemo_track.specs.Recording.{Recording, Took, Spoiled};
@@ -131,6 +131,9 @@ impl<'a, T: Track> Recorder<'a, T> {
             (⟦<T as Told>⟧.took self.old self.new) reply (H.entries cache.new)) }
         ensures fault { IfErr result (HeldFault ⟦<G as Meant>⟧.meaning
             (invocation key (T.answers self.old.value) true) (H.entries cache.old)) }
+        ensures needs { HeldNeeds ⟦<G as Meant>⟧.meaning
+            (invocation key (T.answers self.old.value) true) (H.entries cache.old)
+            needs.old needs.new }
         ensures err { OnErr result (Stays (H.entries cache.old) (H.entries cache.new)
             × ⟦<T as Told>⟧.broke_off self.old self.new) }
     {
@@ -155,6 +158,9 @@ impl<'a, T: Track> Recorder<'a, T> {
             (⟦<T as Told>⟧.took self.old self.new) reply (H.entries cache.new)) }
         ensures fault { IfErr result (HeldFault ⟦<G as Meant>⟧.meaning
             (invocation key (T.answers self.old.value) enabled) (H.entries cache.old)) }
+        ensures needs { SparesNeeds ⟦<G as Meant>⟧.meaning
+            (invocation key (T.answers self.old.value) enabled) (H.entries cache.old)
+            needs.old needs.new result }
         ensures err { OnErr result (Stays (H.entries cache.old) (H.entries cache.new)
             × ⟦<T as Told>⟧.broke_off self.old self.new) }
     {
@@ -226,6 +232,9 @@ where
         enabled key of.now cache.old cache.new sink.old sink.new) }
     ensures fault { IfErr result (⟦<M as Answering<H, T, S>>⟧.fails
         enabled key of.now cache.old sink.old sink.new) }
+    ensures needs { SparesNeeds ⟦<M as Meant>⟧.meaning
+        (invocation key (T.answers of.now) enabled) (H.entries cache.old)
+        needs.old needs.new result }
     ensures err { OnErr result (Stays (H.entries cache.old) (H.entries cache.new)
         × BrokeOff T.Answer.eq (T.answers of.now)
         (⟦<S as Breaking>⟧.breaks_off sink.old sink.new)) }
@@ -251,6 +260,9 @@ where
         enabled key of.now cache.old cache.new sink.old sink.new) }
     ensures fault { IfErr result (⟦<M as Answering<H, T, S>>⟧.fails
         enabled key of.now cache.old sink.old sink.new) }
+    ensures needs { SparesNeeds ⟦<M as Meant>⟧.meaning
+        (invocation key (T.answers of.now) enabled) (H.entries cache.old)
+        needs.old needs.new result }
     ensures err { OnErr result (Stays (H.entries cache.old) (H.entries cache.new)
         × BrokeOff T.Answer.eq (T.answers of.now)
         (⟦<S as Breaking>⟧.breaks_off sink.old sink.new)) }

@@ -1,7 +1,7 @@
 //! Memoized functions that write: a function of a key and a tracked value that its run reads and writes. A hit costs
 //! what `begin` costs; any other call costs what `begin`, the run and `Pending::finish` cost.
 ghost use Rattle.std.specs.Prelude.{◌≡◌, Result, [], ◌∷◌, ◌++◌, ◌⊎◌, List, Bool, true, false, IsTrue, IfOk, IfErr, OnOk, OnErr, ⊤};
-ghost use Rattle.comemo.specs.Called.{HeldReply, HeldReplyMut, HeldFault};
+ghost use Rattle.comemo.specs.Called.{HeldReply, HeldReplyMut, HeldFault, HeldNeeds, SparesNeeds};
 ghost use Rattle.comemo_cache.specs.Meaning.{IsRight, invocation};
 ghost use Rattle.comemo_cache.specs.Held.{Leads, Stays};
 ghost use Rattle.comemo.specs.Begin.{Reaches};
@@ -11,7 +11,7 @@ ghost use Rattle.std.specs.Borrow.{MutBor};
 ghost use Rattle.comemo.specs.RecursiveMut.{Within};
 ghost use Rattle.comemo.specs.FunctionMut.{Lent, lent, HasBegun, NoneTouches, Goes, TellsMut, TellsWrites, IsFailed, FailsBy};
 ghost use Rattle.comemo_base.specs.Answers.{Agrees};
-ghost use Rattle.comemo_track.specs.Recording.{Recording, Took, Spoiled, MarkedLate};
+ghost use Rattle.comemo_track.specs.Recording.{Recording, Took, Spoiled, MarkedLate, IsLateByTouch};
 ghost use Rattle.comemo_track.specs.Writing.{Done};
 ghost use Rattle.comemo_track.specs.Sending.{Asks, BreaksOff, SpoiledAfter, TookAs};
 
@@ -44,7 +44,7 @@ impl<T: Track> ToldMut for T {
         T.Answer.eq T.answers };
 
     ghost goes = { Goes (Done T.wrote T.Call.is_write T.Call.touches T.Answer.eq T.answers)
-        T.Call.touches T.Answer.eq T.answers };
+        T.Call.eq T.Call.touches T.Answer.eq T.answers };
 
     ghost took = { Took T.Call.eq T.Call.touches };
 }
@@ -142,15 +142,15 @@ impl<'a, 'b, T: Track> Records for RecorderMut<'a, 'b, T> {
     ghost spoiled_after = { λ s t. SpoiledAfter ⟦<T as ToldMut>⟧.took Spoiled
         s.recording.now t.recording.now };
 
-    ghost within = { λ s t around. Within ⟦<T as Written>⟧.did T.Call.touches T.Answer.eq
-        T.answers s (lent t.value t.recording) around };
+    ghost within = { λ s t around. Within ⟦<T as Written>⟧.did T.Call.eq T.Call.touches
+        T.Answer.eq T.answers s (lent t.value t.recording) around };
 
     ghost began = { λ t around P. (s : Lent T T.Call T.Answer)
-        → Within ⟦<T as Written>⟧.did T.Call.touches T.Answer.eq T.answers
+        → Within ⟦<T as Written>⟧.did T.Call.eq T.Call.touches T.Answer.eq T.answers
         s (lent t.value t.recording) around → P s };
 
     ghost agrees_after = { λ s around t. (w : Lent T T.Call T.Answer)
-        → Within ⟦<T as Written>⟧.did T.Call.touches T.Answer.eq T.answers
+        → Within ⟦<T as Written>⟧.did T.Call.eq T.Call.touches T.Answer.eq T.answers
         w (lent s.value s.recording) around
         → ⟦<T as ToldMut>⟧.agrees (lent t.value t.recording) };
 
@@ -280,6 +280,9 @@ impl<'a, 'b, T: Track> RecorderMut<'a, 'b, T> {
             reply (H.entries cache.new)) }
         ensures fault { IfErr result (HeldFault ⟦<G as Meant>⟧.meaning
             (invocation key (T.answers self.old.value.now) true) (H.entries cache.old)) }
+        ensures needs { HeldNeeds ⟦<G as Meant>⟧.meaning
+            (invocation key (T.answers self.old.value.now) true) (H.entries cache.old)
+            needs.old needs.new }
         ensures err { OnErr result (Stays (H.entries cache.old) (H.entries cache.new)
             × ⟦<Self as Records>⟧.broke_off self.old self.new) }
     {
@@ -304,6 +307,7 @@ impl<'a, 'b, T: Track> RecorderMut<'a, 'b, T> {
             (lent self.old.value self.old.recording) self.new result
             (λ output m writes. IsRight G.means G.writes key m output writes) }
         ensures reply { IfOk result (λ output. (reply : Reply G.Out) × (reply.output ≡ output)
+            × (reply.how ≡ How.Late → G.late key)
             × ⟦<G as AnsweringMut<H, T, Constraint<T::Call, T::Answer>>>⟧.replies true key
             self.old.value.now self.new.value.now cache.old cache.new
             self.old.recording.now self.new.recording.now reply) }
@@ -311,6 +315,9 @@ impl<'a, 'b, T: Track> RecorderMut<'a, 'b, T> {
             (⟦<G as AnsweringMut<H, T, Constraint<T::Call, T::Answer>>>⟧.fails true key
             self.old.value.now self.new.value.now cache.old cache.new
             self.old.recording.now self.new.recording.now) }
+        ensures needs { HeldNeeds ⟦<G as Meant>⟧.meaning
+            (invocation key (T.answers self.old.value.now) true) (H.entries cache.old)
+            needs.old needs.new }
         ensures err { OnErr result
             (⟦<G as AnsweringMut<H, T, Constraint<T::Call, T::Answer>>>⟧.breaks true key
             self.old.value.now self.new.value.now cache.old cache.new
@@ -336,6 +343,10 @@ impl<'a, 'b, T: Track> RecorderMut<'a, 'b, T> {
 /// The value may borrow: several values as one, by `BothMut` or `ReadAndWrite`, or the user's own type. `N` is what a run
 /// needs, as with `Run`.
 pub trait RunMut<T: Track, N>: Function<Call = T::Call, Answer = T::Answer> {
+    // whether a run under this key may be late, so that it asks what an earlier write of its own touches; each may,
+    // unless an implementation says otherwise
+    ghost late: { Self.Key → Type 0 } = { λ _. ⊤ };
+
     /// Does the function, and asks the value and writes to it through the recorder.
     ///
     /// Output and writes must be right for all answers that agree with the recording. `Incomplete` may be returned only
@@ -355,6 +366,9 @@ pub trait RunMut<T: Track, N>: Function<Call = T::Call, Answer = T::Answer> {
             → IsRight Self.means Self.writes key.now m output of.new.recording.now.writes) }
         ensures settled { SettlesRun Self.Key.eq T.Call.eq T.Answer.eq Self.naming key.now
             of.old.recording.now of.new.recording.now result }
+        ensures early { of.old.recording.now.late ≡ false
+            → of.new.recording.now.complete ≡ true → of.new.recording.now.late ≡ true
+            → late key.now }
         ensures fault { IfErr result
             (λ fault. fault ≡ Fault.Incomplete → of.new.recording.now.complete ≡ false) };
 }
@@ -377,8 +391,8 @@ fn run_recorded<M: RunMut<T, N>, T: Track, N>(
         → ⟦<T as Written>⟧.did of.old of.new result.1.writes }
     ensures agrees { result.1.complete ≡ true → result.1.late ≡ false
         → Agrees T.Answer.eq (T.answers of.old) result.1.pairs }
-    ensures early { NoneTouches T.Call.touches → result.1.complete ≡ true
-        → result.1.late ≡ false }
+    ensures late { result.1.complete ≡ true → IsLateByTouch T.Call.eq T.Call.touches result.1 }
+    ensures early { result.1.complete ≡ true → result.1.late ≡ true → M.late key.now }
     ensures reached { Reaches ⟦<T as Written>⟧.did of.old of.new }
 {
     let mut recording = Constraint::new(alloc);
@@ -453,7 +467,11 @@ where
         × ⟦<T as Written>⟧.did of.old of.new writes) }
     ensures reply { IfOk result (⟦<M as AnsweringMut<H, T, S>>⟧.replies
         enabled key of.old of.new cache.old cache.new sink.old sink.new) }
-    ensures early { IfOk result (λ reply. NoneTouches T.Call.touches → reply.how ≡ How.Late → ⊥) }
+    ensures early { IfOk result (λ reply. reply.how ≡ How.Late
+        → M.late key × (NoneTouches T.Call.touches → ⊥)) }
+    ensures needs { SparesNeeds ⟦<M as Meant>⟧.meaning
+        (invocation key (T.answers of.old) enabled) (H.entries cache.old)
+        needs.old needs.new result }
     ensures reached { Reaches ⟦<T as Written>⟧.did of.old of.new }
     ensures fault { IfErr result (⟦<M as AnsweringMut<H, T, S>>⟧.fails
         enabled key of.old of.new cache.old cache.new sink.old sink.new) }
@@ -497,7 +515,8 @@ pub fn memoized_mut<M: RunMut<T, ()>, H: Hold<M>, T: Track>(
         (invocation key (T.answers of.old) true) (H.entries cache.old)
         (λ _ _ W. ⟦<T as Written>⟧.did of.old of.new W)
         reply (H.entries cache.new)) }
-    ensures early { IfOk result (λ reply. NoneTouches T.Call.touches → reply.how ≡ How.Late → ⊥) }
+    ensures early { IfOk result (λ reply. reply.how ≡ How.Late
+        → M.late key × (NoneTouches T.Call.touches → ⊥)) }
     ensures reached { Reaches ⟦<T as Written>⟧.did of.old of.new }
     ensures fault { IfErr result (λ fault.
         Leads (H.entries cache.old) (H.entries cache.new) (λ es es'. FailsBy

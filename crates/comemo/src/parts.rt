@@ -1,6 +1,6 @@
 //! What a run asks of two joined values.
 ghost use Rattle.std.specs.Prelude.{◌≡◌, [], true, false, IsTrue, IfOk, IfErr, OnOk, OnErr, refl};
-ghost use Rattle.comemo.specs.Called.{HeldReply, HeldFault};
+ghost use Rattle.comemo.specs.Called.{HeldReply, HeldFault, HeldNeeds};
 ghost use Rattle.comemo_cache.specs.Meaning.{invocation};
 ghost use Rattle.comemo_cache.specs.Held.{Stays};
 ghost use Rattle.comemo_track.specs.Sending.{Asks};
@@ -18,9 +18,12 @@ use comemo_track::track::{Call, Track, View};
 use std::alloc::Global;
 
 /// A part of a joined value: which value it is, and what its calls and answers are in the whole.
-pub trait Part<W: Track, A: Track>:
-    CallMap<From = A::Call, FromAnswer = A::Answer, To = W::Call, ToAnswer = W::Answer>
-{
+pub trait Part<W: Track, A: Track>: CallMap<
+    From = A::Call,
+    FromAnswer = A::Answer,
+    To = W::Call,
+    ToAnswer = W::Answer,
+> {
     // the part of a value
     ghost part: { W → A };
 
@@ -34,8 +37,7 @@ pub trait Part<W: Track, A: Track>:
 }
 
 impl<'b, A: Track, B: Track> Part<Both<'b, A, B>, A>
-    for First<A::Call, B::Call, A::Answer, B::Answer>
-{
+    for First<A::Call, B::Call, A::Answer, B::Answer> {
     ghost part = { λ w. w.first };
 
     ghost agrees = { λ s w call. refl };
@@ -85,6 +87,9 @@ impl<'a, T: Track> Recorder<'a, T> {
             (⟦<T as Told>⟧.took self.old self.new)) reply (H.entries cache.new)) }
         ensures fault { IfErr result (HeldFault ⟦<G as Meant>⟧.meaning
             (invocation key (A.answers (P.part self.old.value)) true) (H.entries cache.old)) }
+        ensures needs { HeldNeeds ⟦<G as Meant>⟧.meaning
+            (invocation key (A.answers (P.part self.old.value)) true) (H.entries cache.old)
+            needs.old needs.new }
         ensures err { OnErr result (Stays (H.entries cache.old) (H.entries cache.new)
             × ⟦<T as Told>⟧.broke_off self.old self.new) }
     {
@@ -118,6 +123,8 @@ impl<'a, T: Track> Recorder<'a, T> {
             (⟦<T as Told>⟧.took self.old self.new)) reply (H.entries cache.new)) }
         ensures fault { IfErr result (HeldFault ⟦<G as Meant>⟧.meaning
             (invocation key (A.answers of.now) true) (H.entries cache.old)) }
+        ensures needs { HeldNeeds ⟦<G as Meant>⟧.meaning
+            (invocation key (A.answers of.now) true) (H.entries cache.old) needs.old needs.new }
         ensures err { OnErr result (Stays (H.entries cache.old) (H.entries cache.new)
             × ⟦<T as Told>⟧.broke_off self.old self.new) }
     {
@@ -192,6 +199,9 @@ impl<'a, 'b, A: Track, B: Track> Recorder<'a, Both<'b, A, B>> {
             (⟦<Both<'b, A, B> as Told>⟧.took self.old self.new)) reply (H.entries cache.new)) }
         ensures fault { IfErr result (HeldFault ⟦<G as Meant>⟧.meaning
             (invocation key (A.answers self.old.value.first) true) (H.entries cache.old)) }
+        ensures needs { HeldNeeds ⟦<G as Meant>⟧.meaning
+            (invocation key (A.answers self.old.value.first) true) (H.entries cache.old)
+            needs.old needs.new }
         ensures err { OnErr result (Stays (H.entries cache.old) (H.entries cache.new)
             × ⟦<Both<'b, A, B> as Told>⟧.broke_off self.old self.new) }
     {
@@ -217,6 +227,9 @@ impl<'a, 'b, A: Track, B: Track> Recorder<'a, Both<'b, A, B>> {
             (⟦<Both<'b, A, B> as Told>⟧.took self.old self.new)) reply (H.entries cache.new)) }
         ensures fault { IfErr result (HeldFault ⟦<G as Meant>⟧.meaning
             (invocation key (B.answers self.old.value.second) true) (H.entries cache.old)) }
+        ensures needs { HeldNeeds ⟦<G as Meant>⟧.meaning
+            (invocation key (B.answers self.old.value.second) true) (H.entries cache.old)
+            needs.old needs.new }
         ensures err { OnErr result (Stays (H.entries cache.old) (H.entries cache.new)
             × ⟦<Both<'b, A, B> as Told>⟧.broke_off self.old self.new) }
     {

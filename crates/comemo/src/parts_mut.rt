@@ -1,6 +1,6 @@
 //! The calls and writes of a run that reads one value and writes another.
 ghost use Rattle.std.specs.Prelude.{◌≡◌, [], ◌∷◌, true, false, IsTrue, IfOk, IfErr, OnOk, OnErr, map, ⊤};
-ghost use Rattle.comemo.specs.Called.{HeldReply, HeldReplyMut, HeldFault};
+ghost use Rattle.comemo.specs.Called.{HeldReply, HeldReplyMut, HeldFault, HeldNeeds};
 ghost use Rattle.comemo_cache.specs.Meaning.{IsRight, invocation};
 ghost use Rattle.comemo_cache.specs.Held.{Leads, Stays};
 ghost use Rattle.comemo.specs.Function.{OnPart, WritesNone};
@@ -11,7 +11,7 @@ ghost use Rattle.comemo_track.specs.Sending.{Asks};
 use crate::function::{Run, memoized_view};
 use crate::function_mut::{RecorderMut, Records, RunMut, Writes, memoized_mut_with};
 use crate::parts::Part;
-use crate::pending::{Fault, Reply};
+use crate::pending::{Fault, How, Reply};
 use comemo_cache::cache::Meant;
 use comemo_cache::hold::Hold;
 use comemo_track::mapped::{CallMap, MappedSink};
@@ -71,6 +71,9 @@ impl<'a, 'b, T: Track> RecorderMut<'a, 'b, T> {
             reply (H.entries cache.new)) }
         ensures fault { IfErr result (HeldFault ⟦<G as Meant>⟧.meaning
             (invocation key (A.answers (P.part self.old.value.now)) true) (H.entries cache.old)) }
+        ensures needs { HeldNeeds ⟦<G as Meant>⟧.meaning
+            (invocation key (A.answers (P.part self.old.value.now)) true) (H.entries cache.old)
+            needs.old needs.new }
         ensures err { OnErr result (Stays (H.entries cache.old) (H.entries cache.new)
             × ⟦<Self as Records>⟧.broke_off self.old self.new) }
     {
@@ -197,6 +200,9 @@ impl<'a, 'b, 'c, A: Track, B: Track> RecorderMut<'a, 'b, ReadAndWrite<'c, A, B>>
             reply (H.entries cache.new)) }
         ensures fault { IfErr result (HeldFault ⟦<G as Meant>⟧.meaning
             (invocation key (A.answers self.old.value.now.first) true) (H.entries cache.old)) }
+        ensures needs { HeldNeeds ⟦<G as Meant>⟧.meaning
+            (invocation key (A.answers self.old.value.now.first) true) (H.entries cache.old)
+            needs.old needs.new }
         ensures err { OnErr result (Stays (H.entries cache.old) (H.entries cache.new)
             × ⟦<Self as Records>⟧.broke_off self.old self.new) }
     {
@@ -224,10 +230,14 @@ impl<'a, 'b, 'c, A: Track, B: Track> RecorderMut<'a, 'b, ReadAndWrite<'c, A, B>>
             (λ output m writes. OnPartWrites second_call second_answer m writes
             (λ part own. IsRight G.means G.writes key part output own)) }
         ensures reply { IfOk result (λ output. (reply : Reply G.Out) × (reply.output ≡ output)
+            × (reply.how ≡ How.Late → G.late key)
             × HeldReplyMut ⟦<G as Meant>⟧.meaning B.Call.touches
             (invocation key (B.answers self.old.value.now.second.now) true) (H.entries cache.old)
             (λ late. Through second_call second_answer
             (⟦<Self as Records>⟧.sent late self.old self.new)) reply (H.entries cache.new)) }
+        ensures needs { HeldNeeds ⟦<G as Meant>⟧.meaning
+            (invocation key (B.answers self.old.value.now.second.now) true) (H.entries cache.old)
+            needs.old needs.new }
         ensures err { OnErr result (Leads (H.entries cache.old) (H.entries cache.new) (λ es es'.
             IsFailed ⟦<G as Meant>⟧.meaning B.Call.touches es
             (invocation key (B.answers self.old.value.now.second.now) true)

@@ -1,6 +1,6 @@
 //! The calls and writes of a run that reads and writes two values.
 ghost use Rattle.std.specs.Prelude.{◌≡◌, [], ◌∷◌, true, false, IsTrue, IfOk, IfErr, OnOk, OnErr, map, ⊤};
-ghost use Rattle.comemo.specs.Called.{HeldReply, HeldReplyMut, HeldFault};
+ghost use Rattle.comemo.specs.Called.{HeldReply, HeldReplyMut, HeldFault, HeldNeeds};
 ghost use Rattle.comemo.specs.Finish.{BrokeOff};
 ghost use Rattle.comemo_cache.specs.Meaning.{IsRight, invocation};
 ghost use Rattle.comemo_cache.specs.Held.{Leads, Stays};
@@ -11,7 +11,7 @@ ghost use Rattle.comemo_track.specs.Sending.{Asks};
 
 use crate::function::{Answering, Run, memoized_with};
 use crate::function_mut::{RecorderMut, Records, RunMut, Writes, memoized_mut_with};
-use crate::pending::{Fault, Reply};
+use crate::pending::{Fault, How, Reply};
 use comemo_cache::cache::Meant;
 use comemo_cache::hold::Hold;
 use comemo_track::both_mut::BothMut;
@@ -134,6 +134,9 @@ impl<'a, 'b, 'c, A: Track, B: Track> RecorderMut<'a, 'b, BothMut<'c, A, B>> {
             reply (H.entries cache.new)) }
         ensures fault { IfErr result (HeldFault ⟦<G as Meant>⟧.meaning
             (invocation key (A.answers self.old.value.now.first.now) true) (H.entries cache.old)) }
+        ensures needs { HeldNeeds ⟦<G as Meant>⟧.meaning
+            (invocation key (A.answers self.old.value.now.first.now) true) (H.entries cache.old)
+            needs.old needs.new }
         ensures err { OnErr result (Stays (H.entries cache.old) (H.entries cache.new)
             × ⟦<Self as Records>⟧.broke_off self.old self.new) }
     {
@@ -168,6 +171,9 @@ impl<'a, 'b, 'c, A: Track, B: Track> RecorderMut<'a, 'b, BothMut<'c, A, B>> {
             reply (H.entries cache.new)) }
         ensures fault { IfErr result (HeldFault ⟦<G as Meant>⟧.meaning
             (invocation key (B.answers self.old.value.now.second.now) true) (H.entries cache.old)) }
+        ensures needs { HeldNeeds ⟦<G as Meant>⟧.meaning
+            (invocation key (B.answers self.old.value.now.second.now) true) (H.entries cache.old)
+            needs.old needs.new }
         ensures err { OnErr result (Stays (H.entries cache.old) (H.entries cache.new)
             × ⟦<Self as Records>⟧.broke_off self.old self.new) }
     {
@@ -195,10 +201,14 @@ impl<'a, 'b, 'c, A: Track, B: Track> RecorderMut<'a, 'b, BothMut<'c, A, B>> {
             (λ output m writes. OnPartWrites first_call first_answer m writes
             (λ part own. IsRight G.means G.writes key part output own)) }
         ensures reply { IfOk result (λ output. (reply : Reply G.Out) × (reply.output ≡ output)
+            × (reply.how ≡ How.Late → G.late key)
             × HeldReplyMut ⟦<G as Meant>⟧.meaning A.Call.touches
             (invocation key (A.answers self.old.value.now.first.now) true) (H.entries cache.old)
             (λ late. Through first_call first_answer
             (⟦<Self as Records>⟧.sent late self.old self.new)) reply (H.entries cache.new)) }
+        ensures needs { HeldNeeds ⟦<G as Meant>⟧.meaning
+            (invocation key (A.answers self.old.value.now.first.now) true) (H.entries cache.old)
+            needs.old needs.new }
         ensures err { OnErr result (Leads (H.entries cache.old) (H.entries cache.new) (λ es es'.
             IsFailed ⟦<G as Meant>⟧.meaning A.Call.touches es
             (invocation key (A.answers self.old.value.now.first.now) true)
@@ -240,10 +250,14 @@ impl<'a, 'b, 'c, A: Track, B: Track> RecorderMut<'a, 'b, BothMut<'c, A, B>> {
             (λ output m writes. OnPartWrites second_call second_answer m writes
             (λ part own. IsRight G.means G.writes key part output own)) }
         ensures reply { IfOk result (λ output. (reply : Reply G.Out) × (reply.output ≡ output)
+            × (reply.how ≡ How.Late → G.late key)
             × HeldReplyMut ⟦<G as Meant>⟧.meaning B.Call.touches
             (invocation key (B.answers self.old.value.now.second.now) true) (H.entries cache.old)
             (λ late. Through second_call second_answer
             (⟦<Self as Records>⟧.sent late self.old self.new)) reply (H.entries cache.new)) }
+        ensures needs { HeldNeeds ⟦<G as Meant>⟧.meaning
+            (invocation key (B.answers self.old.value.now.second.now) true) (H.entries cache.old)
+            needs.old needs.new }
         ensures err { OnErr result (Leads (H.entries cache.old) (H.entries cache.new) (λ es es'.
             IsFailed ⟦<G as Meant>⟧.meaning B.Call.touches es
             (invocation key (B.answers self.old.value.now.second.now) true)
@@ -287,6 +301,8 @@ where
         true key of.old cache.old cache.new sink.old sink.new) }
     ensures fault { IfErr result (HeldFault ⟦<G as Meant>⟧.meaning
         (invocation key (T.answers of.old) true) (H.entries cache.old)) }
+    ensures needs { HeldNeeds ⟦<G as Meant>⟧.meaning
+        (invocation key (T.answers of.old) true) (H.entries cache.old) needs.old needs.new }
     ensures same { of.new ≡ of.old }
     ensures err { OnErr result (Stays (H.entries cache.old) (H.entries cache.new)
         × BrokeOff T.Answer.eq (T.answers of.old)

@@ -1,6 +1,6 @@
 //! Memoized functions that call themselves: nested calls, by a recorder's `begin` and `finish`.
 ghost use Rattle.std.specs.Prelude.{◌≡◌, ◌↔◌, [], true, false, List, IsTrue, IfOk, IfErr, OnErr, ⊤};
-ghost use Rattle.comemo.specs.Called.{HeldReply, HeldFault};
+ghost use Rattle.comemo.specs.Called.{HeldReply, HeldFault, HeldNeeds};
 ghost use Rattle.comemo_cache.specs.Meaning.{IsNamedRun, invocation, run};
 ghost use Rattle.comemo_cache.specs.Held.{Held, Leads, Stays};
 ghost use Rattle.comemo.specs.Function.{WritesNone};
@@ -158,6 +158,9 @@ impl<'a, T: Track> Recorder<'a, T> {
             (⟦<T as Told>⟧.took self.old self.new) reply (H.entries cache.new)) }
         ensures fault { IfErr result (HeldFault ⟦<G as Meant>⟧.meaning
             (invocation key (T.answers self.old.value) true) (H.entries cache.old)) }
+        ensures needs { HeldNeeds ⟦<G as Meant>⟧.meaning
+            (invocation key (T.answers self.old.value) true) (H.entries cache.old)
+            needs.old needs.new }
         ensures err { OnErr result (Stays (H.entries cache.old) (H.entries cache.new)
             × ⟦<T as Told>⟧.broke_off self.old self.new) }
     {

@@ -1,14 +1,15 @@
 -- What is known about the entries of a holder of a cache. The only holder of a cache shows them. A holder that shares it with
--- other threads shows none, as these may change them at any moment.
+-- other threads shows none, as these may change them at any moment: then a clause speaks of some list of entries, which nothing
+-- ties to the cache, and which may be empty. What the clause says of anything but that list holds all the same.
 use Rattle.std.specs.Prelude.{◌≡◌, ⊤, ◌⊎◌, Option, Some, None}
 
 module _ {E : Type 0} where
-  -- P holds for the entries if they are known; if not, for some that the cache had
+  -- P holds for the entries if they are known; if not, for some list
   abbrev pub Held : Option E → (E → Type 0) → Type 0
   Held (Some es) P = P es
   Held None P = (es : E) × P es
 
-  -- P leads from the known entries to the known ones afterwards; if they aren't known, from some that the cache had to others
+  -- P leads from the known entries to the known ones afterwards; if they aren't known, from some list to another
   abbrev pub Leads : Option E → Option E → (E → E → Type 0) → Type 0
   Leads (Some es) (Some es') P = P es es'
   Leads (Some es) None P = (two : E) × P es two

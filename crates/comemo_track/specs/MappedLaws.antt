@@ -7,7 +7,7 @@ use Rattle.comemo_track.specs.Mapped.{mapped_pairs, MapsTook, MapsSpoils, MapsLa
 use Rattle.comemo_track.specs.declared.mapped.MappedSink.{MappedSink}
 
 -- a call is held among pairs exactly if its image is held among theirs
-held-mapped : {C D R Q : Type 0} (eq : C → C → Bool) (like : D → D → Bool) (f : C → D) (g : R → Q) → ((x y : C) → like (f x) (f y) ≡ eq x y) → (P : List (C × R)) (call : C) → held like (mapped_pairs f g P) (f call) ≡ held eq P call
+pub held-mapped : {C D R Q : Type 0} (eq : C → C → Bool) (like : D → D → Bool) (f : C → D) (g : R → Q) → ((x y : C) → like (f x) (f y) ≡ eq x y) → (P : List (C × R)) (call : C) → held like (mapped_pairs f g P) (f call) ≡ held eq P call
 held-mapped eq like f g apart [] call = refl
 held-mapped eq like f g apart (p ∷ P) call =
     elim (cases_Bool (eq call p.0)) [

@@ -4,7 +4,7 @@ use Rattle.std.specs.List.{All}
 use Rattle.std.specs.Coded.{Coded, code_by, coded×, coded_list, coded_bool, coded_ℕ}
 use Rattle.comemo_base.specs.Answers.{Agrees}
 use Rattle.comemo_base.specs.Sequence.{Sequence, was_seen, held, absorbed}
-use Rattle.comemo_track.specs.Writing.{touched}
+use Rattle.comemo_track.specs.Writing.{touched, touched_by}
 
 -- reads with their answers; writes; whether nothing was lost; whether a read came after a write that touches it; and the room
 -- for more writes
@@ -35,6 +35,14 @@ pub record MarkedLate {C R : Type 0} (s t : Recording C R) : Type 0 where
   pub writes : t.writes ≡ s.writes
   pub complete : t.complete ≡ s.complete
   pub late : t.late ≡ true
+
+-- one of these writes touches a read that equals one of these pairs' reads
+abbrev pub TouchesHeld : {C R : Type 0} → (eq touches : C → C → Bool) → List C → List (C × R) → Type 0
+TouchesHeld {C} eq touches W P = (read : C) × (held eq P read ≡ true) × (touched_by touches W read ≡ true)
+
+-- the recording is late only if one of its writes touches one of its reads
+abbrev pub IsLateByTouch : {C R : Type 0} → (eq touches : C → C → Bool) → Recording C R → Type 0
+IsLateByTouch eq touches s = s.late ≡ true → TouchesHeld eq touches s.writes s.pairs
 
 -- the answers agree with a proper prefix of the pairs
 abbrev pub AgreesBefore : {C R : Type 0} → (R → R → Bool) → (C → R) → List (C × R) → Type 0

@@ -307,7 +307,11 @@ impl<C: Call, R: Clone + Ord> Sink for Top<C, R> {
         Ok(true)
     }
 
-    fn reserve(&mut self, _writes: usize) -> Result<(), AllocError> {
+    fn reserve(&mut self, writes: usize) -> Result<(), AllocError>
+        ensures succeeds { result ≡ Ok tt }
+        ensures ok { OnOk result (writes ≤ 2 ^ 64) }
+    {
+        let _ = writes;
         Ok(())
     }
 

@@ -1,6 +1,6 @@
 use Rattle.std.proofs.Math.Logic.{⊎_map}
-use Rattle.std.proofs.Common.{[], inl}
-use Rattle.comemo.proofs.Calls.{reply_by_hit, reply_by_own_run, broke_at_begin, on_fault, for_memory, never_stops}
+use Rattle.std.proofs.Common.{[], inl, inr, refl}
+use Rattle.comemo.proofs.Calls.{reply_by_hit, reply_by_own_run, broke_at_begin, on_fault, for_memory, never_stops, never_hit}
 use Rattle.comemo_cache.proofs.Sendings.{mapped}
 use Rattle.comemo.proofs.Closures.{err_with}
 use Rattle.comemo_cache.proofs.Holding.{held_map, some_held, some_led, of_led, stayed, led_by, led_from}
@@ -48,3 +48,14 @@ pub returns-clause-fault : goal.returns-clause-fault
 returns-clause-fault g c =
     let err = (rw c.in-Err.is at c.look_up.ensures.err) in
     inl (for_memory c.in-Err.fault _ err (λ write. never_stops (g.met.T.Track.alike c.fork.result) (λ output writes d. c.requires.alone c.args.key (g.T.Track.answers c.fork.result) output writes d.0) (some_led (g.H.Hold.entries c.args.cache.now) (g.H.Hold.entries c.look_up.new.cache) _ write).2.1))
+
+pub returns-in-Ok-Hit-clause-needs : goal.returns-in-Ok-Hit-clause-needs
+returns-in-Ok-Hit-clause-needs g c = (inl refl, λ _. refl)
+
+pub returns-in-Ok-Run-clause-needs : goal.returns-in-Ok-Run-clause-needs
+returns-in-Ok-Run-clause-needs g c =
+    let run = rw (c.in-Ok-Run.is, c.in-Ok-Run.field-0-is, c.fork.ensures) at c.look_up.ensures.run in
+    (inr (held_map (g.H.Hold.entries c.args.cache.now) _ _ (λ es has. has.none) run.0), mapped (λ reply ran hit. of_led (g.H.Hold.entries c.look_up.new.cache) (g.H.Hold.entries c.run_kept.new.cache) _ (λ es es' is. absurd (never_hit is.finished hit)) ran) c.run_kept.result c.run_kept.ensures.ran)
+
+pub returns-clause-needs : goal.returns-clause-needs
+returns-clause-needs g c = (inl refl, tt)

@@ -11,3 +11,6 @@ returns-clause-fault g c = rw c.view.ensures at c.memoized_view.ensures.fault
 
 pub returns-clause-err : goal.returns-clause-err
 returns-clause-err g c = rw c.view.ensures at c.memoized_view.ensures.err
+
+pub returns-clause-needs : goal.returns-clause-needs
+returns-clause-needs g c = rw c.view.ensures at c.memoized_view.ensures.needs

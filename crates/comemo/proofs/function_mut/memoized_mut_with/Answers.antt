@@ -1,16 +1,17 @@
-use Rattle.std.proofs.Math.Logic.{⊎_map}
-use Rattle.std.proofs.Common.{rules, ◌≡◌, false, refl, [], inl, inr, sym, subst}
+use Rattle.std.proofs.Common.{rules, ◌≡◌, ◌∙◌, true, false, refl, [], inl, inr, sym, subst}
 use Rattle.std.proofs.lemmas.Bool.{cases_Bool}
 use Rattle.comemo_base.specs.Answers.{Agrees}
 use Rattle.comemo_track.specs.Writing.{Done}
 use Rattle.comemo_cache.proofs.Sendings.{breaks_at_once}
-use Rattle.comemo.proofs.Calls.{run_seen, reply_by_done_hit, reply_by_done_run, stopped_as, on_fault, on_fault_is}
-use Rattle.comemo.proofs.RecordersMut.{done_at, spoiled_any, broke_at_begin_mut, broke_by_run_mut}
+use Rattle.comemo.proofs.Calls.{run_seen, reply_by_done_hit, reply_by_done_run, stopped_as, on_fault, on_fault_is, never_hit}
+use Rattle.comemo.proofs.Lateness.{never_late}
+use Rattle.comemo.specs.declared.pending.How.TheVariants as how
+use Rattle.comemo.proofs.RecordersMut.{done_at, broke_at_begin_mut, broke_by_run_mut}
 use Rattle.comemo_cache.proofs.Named.{named_moved}
 use Rattle.comemo.proofs.NamedRuns.{settled_end}
 use Rattle.comemo_cache.proofs.Sendings.{mapped}
 use Rattle.comemo.proofs.Closures.{mapped_by, mapped_err, err_with, fault_of_end}
-use Rattle.comemo_cache.proofs.Holding.{held_leads, some_held, some_led, of_led, stayed, led_by, led_from, leads_same, leads_map}
+use Rattle.comemo_cache.proofs.Holding.{held_leads, held_map, some_held, some_led, of_led, stayed, led_by, led_from, leads_same, leads_map}
 use Rattle.comemo_cache.specs.Meaning.{IsRight}
 use Rattle.comemo.proofs.function_mut.memoized_mut_with.Goals as goal
 
@@ -62,7 +63,7 @@ returns-in-Ok-Run-clause-reply g c =
     let is = run_seen c.pending.view_is began in
     let complete = fin.complete in
     let did = subst (λ v. Done g.T.Track.wrote g.T.Call.Call.is_write g.T.Call.Call.touches g.T.Answer.PartialEq.eq g.T.Track.answers v c.run_recorded-ran.new.of t.writes) run.1.0 (c.run_recorded-ran.ensures.done complete) in
-    reply_by_done_run t g.T.Call.Call.touches (λ late none. spoiled_any _ (c.run_recorded-ran.ensures.early none complete) late) is
+    reply_by_done_run t g.T.Call.Call.touches (c.run_recorded-ran.ensures.late complete) is
     (λ early. subst (λ v. Agrees g.T.Answer.PartialEq.eq (g.T.Track.answers v) t.pairs) run.1.0 (c.run_recorded-ran.ensures.agrees complete early))
     g.S.Sink.took g.S.Sink.lates (λ early m r a.
     let right = (rw done.1 at c.run_recorded-ran.ensures.right) m (record { complete = complete; early = early; respects = r; agrees = a }) in
@@ -80,7 +81,7 @@ returns-in-Ok-Run-clause-err g c =
     let run = rw (c.in-Ok-Run.is, c.in-Ok-Run.field-0-is) at c.begin-begun.ensures.run in
     let t = c.run_recorded-ran.result.1 in
     mapped_err (λ e. leads_same (g.H.Hold.entries c.args.cache.now) (g.H.Hold.entries c.end.new.cache) [] _ e.0 (λ es. inl (refl, e.1))) c.end.result (broke_by_run_mut (record { same_call = g.T.Call.PartialEq.eq; same_answer = g.T.Answer.PartialEq.eq; same_key = g.M.Key.PartialEq.eq; is_write = g.T.Call.Call.is_write; is_clone = g.M.Out.Clone.is_clone; right = IsRight g.M.Function.means g.M.Function.writes; naming = g.M.Function.naming }) g.T.Call.Call.touches (g.T.Track.answers c.args.of.now) g.met.T.Call.Eq.laws g.met.T.Answer.Eq.laws (g.met.T.Track.alike c.args.of.now) _ t.pairs t.complete
-    (λ w none. subst (λ v. Agrees g.T.Answer.PartialEq.eq (g.T.Track.answers v) t.pairs) run.1.0 (c.run_recorded-ran.ensures.agrees w (c.run_recorded-ran.ensures.early none w)))
+    (λ w none. subst (λ v. Agrees g.T.Answer.PartialEq.eq (g.T.Track.answers v) t.pairs) run.1.0 (c.run_recorded-ran.ensures.agrees w (never_late _ _ none t.late t.writes t.pairs (c.run_recorded-ran.ensures.late w))))
     (λ w. breaks_at_once g.met.S.Sink.starts _ _ [] (rw run.2 at (c.end.ensures.spoils w)))
     _ c.end.result (rw (stayed (g.H.Hold.entries c.args.cache.now) (g.H.Hold.entries c.begin-begun.new.cache) run.3) at (rw run.2 at c.end.ensures.err)))
 
@@ -91,21 +92,36 @@ returns-clause-err g c =
     (λ memory. leads_same (g.H.Hold.entries c.args.cache.now) (g.H.Hold.entries c.begin-begun.new.cache) [] _ memory.0 (λ es. inl (refl, broke_at_begin_mut g.T.Call.Call.touches (some_held (g.H.Hold.entries c.args.cache.now) _ memory.2).1)))
     (λ stop. leads_map (g.H.Hold.entries c.args.cache.now) (g.H.Hold.entries c.begin-begun.new.cache) _ _ (λ es es' s. inr (s.0, stopped_as s.1 (search (rules, s.1.are_done.0)))) stop))
 
+pub returns-in-Ok-Hit-clause-early : goal.returns-in-Ok-Hit-clause-early
+returns-in-Ok-Hit-clause-early g c = λ late. let no : how.Hit ≡ how.Late = late in cc
+
 pub returns-in-Ok-Run-clause-early : goal.returns-in-Ok-Run-clause-early
 returns-in-Ok-Run-clause-early g c =
     let t = c.run_recorded-ran.result.1 in
-    mapped (λ reply done none late.
+    mapped (λ reply done late.
     let fin = (some_led (g.H.Hold.entries c.begin-begun.new.cache) (g.H.Hold.entries c.end.new.cache) _ done.2).2 in
-    spoiled_any _ (c.run_recorded-ran.ensures.early none fin.complete) (fin.late.0 late)) c.end.result c.end.ensures.finished
+    let is : t.late ≡ true = fin.late.0 late in
+    (c.run_recorded-ran.ensures.early fin.complete is, λ none. let no : true ≡ false = sym is ∙ never_late _ _ none t.late t.writes t.pairs (c.run_recorded-ran.ensures.late fin.complete) in cc)) c.end.result c.end.ensures.finished
+
+pub returns-in-Ok-Hit-clause-needs : goal.returns-in-Ok-Hit-clause-needs
+returns-in-Ok-Hit-clause-needs g c = (inl refl, λ _. refl)
+
+pub returns-in-Ok-Run-clause-needs : goal.returns-in-Ok-Run-clause-needs
+returns-in-Ok-Run-clause-needs g c =
+    let run = rw (c.in-Ok-Run.is, c.in-Ok-Run.field-0-is) at c.begin-begun.ensures.run in
+    (inr (held_map (g.H.Hold.entries c.args.cache.now) _ _ (λ es began. began.none) run.0), mapped (λ reply done hit. of_led (g.H.Hold.entries c.begin-begun.new.cache) (g.H.Hold.entries c.end.new.cache) _ (λ es es' is. absurd (never_hit is hit)) done.2) c.end.result c.end.ensures.finished)
+
+pub returns-clause-needs : goal.returns-clause-needs
+returns-clause-needs g c = (inl refl, tt)
 
 pub returns-in-Ok-Run-clause-fault : goal.returns-in-Ok-Run-clause-fault
 returns-in-Ok-Run-clause-fault g c =
     let run = rw (c.in-Ok-Run.is, c.in-Ok-Run.field-0-is) at c.begin-begun.ensures.run in
-    err_with (λ f e which. held_leads (g.H.Hold.entries c.args.cache.now) (g.H.Hold.entries c.end.new.cache) _ _ e.0 (λ es began. inl (refl, ⊎_map (λ memory. memory) (λ spoils. (began.none, spoils)) which)) run.0) c.end.result (rw (stayed (g.H.Hold.entries c.args.cache.now) (g.H.Hold.entries c.begin-begun.new.cache) run.3) at c.end.ensures.err) (rw run.2 at (fault_of_end _ _ c.run_recorded-ran.result.0 c.end.result c.end.ensures.incomplete c.end.ensures.write c.end.ensures.fault c.end.ensures.spoils))
+    err_with (λ f e which. held_leads (g.H.Hold.entries c.args.cache.now) (g.H.Hold.entries c.end.new.cache) _ _ e.0 (λ es began. inl (refl, inr (began.none, which))) run.0) c.end.result (rw (stayed (g.H.Hold.entries c.args.cache.now) (g.H.Hold.entries c.begin-begun.new.cache) run.3) at c.end.ensures.err) (rw run.2 at (fault_of_end _ _ c.run_recorded-ran.result.0 c.end.result c.end.ensures.incomplete c.end.ensures.write c.end.ensures.fault c.end.ensures.spoils))
 
 pub returns-clause-fault : goal.returns-clause-fault
 returns-clause-fault g c =
     let err = (rw c.in-Err.is at c.begin-begun.ensures.err) in
     (on_fault_is c.in-Err.fault err
-    (λ e memory. leads_same (g.H.Hold.entries c.args.cache.now) (g.H.Hold.entries c.begin-begun.new.cache) [] _ memory.0 (λ es. inl (refl, inl e)))
+    (λ e memory. leads_same (g.H.Hold.entries c.args.cache.now) (g.H.Hold.entries c.begin-begun.new.cache) [] _ memory.0 (λ es. inl (refl, inl (e, search (rules, memory.1.0)))))
     (λ e stop. leads_map (g.H.Hold.entries c.args.cache.now) (g.H.Hold.entries c.begin-begun.new.cache) _ _ (λ es es' s. inr (e, (s.0, stopped_as s.1 (search (rules, s.1.are_done.0))))) stop))

@@ -1,5 +1,5 @@
 use Rattle.std.proofs.Common.{rules, [], refl}
-use Rattle.comemo.proofs.RecordersMut.{fresh_began, ran_agrees, ran_did, ran_early}
+use Rattle.comemo.proofs.RecordersMut.{fresh_began, ran_agrees, ran_did, ran_late}
 use Rattle.comemo.proofs.function_mut.run_recorded.Goals as goal
 
 pub run-ran-requires-clause-agrees : goal.run-ran-requires-clause-agrees
@@ -11,8 +11,11 @@ returns-clause-agrees g c = ran_agrees g.T.Track.wrote g.T.Call.Call.is_write g.
 pub returns-clause-done : goal.returns-clause-done
 returns-clause-done g c = ran_did g.T.Track.wrote g.T.Call.Call.is_write g.T.Call.Call.touches g.T.Answer.PartialEq.eq g.T.Track.answers c.run-ran.ensures.goes c.new-recording.ensures.pairs c.new-recording.ensures.writes _ _ _ (search rules) (search rules) (search rules)
 
-pub returns-clause-early : goal.returns-clause-early
-returns-clause-early g c = ran_early g.T.Track.wrote g.T.Call.Call.is_write g.T.Call.Call.touches g.T.Answer.PartialEq.eq g.T.Track.answers c.run-ran.ensures.goes c.new-recording.ensures.pairs c.new-recording.ensures.writes c.new-recording.ensures.late _ _ (search rules) (search rules)
+pub returns-clause-late : goal.returns-clause-late
+returns-clause-late g c = ran_late g.T.Track.wrote g.T.Call.Call.is_write g.T.Call.Call.touches g.T.Answer.PartialEq.eq g.T.Track.answers c.run-ran.ensures.goes c.new-recording.ensures.pairs c.new-recording.ensures.writes c.new-recording.ensures.late _ _ _ _ (search rules) (search rules) (search rules) (search rules)
 
 pub returns-clause-reached : goal.returns-clause-reached
 returns-clause-reached g c = search (rules, c.run-ran.ensures.goes.reached c.args.of.now ([], refl))
+
+pub returns-clause-early : goal.returns-clause-early
+returns-clause-early g c = λ complete late. c.run-ran.ensures.early c.new-recording.ensures.late (search (rules, complete)) (search (rules, late))

@@ -5,3 +5,6 @@ returns-clause-reply g c = rw (← c.self.view_is) (rw (← c.self.view_is, c.vi
 
 pub call_through-requires-clause-through : goal.call_through-requires-clause-through
 call_through-requires-clause-through g c = λ call. rw (← c.self.view_is, c.view-view.ensures) (g.met.P.Part.agrees c.args.part c.self.inside.view call)
+
+pub returns-clause-needs : goal.returns-clause-needs
+returns-clause-needs g c = rw (← c.self.view_is) (rw c.view-view.ensures at c.call_through.ensures.needs)

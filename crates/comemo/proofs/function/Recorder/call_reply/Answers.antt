@@ -2,7 +2,7 @@ use Rattle.std.proofs.Common.{refl}
 use Rattle.comemo.proofs.Recorders.{held_keeps, tells_output, tells_broken, not_complete}
 use Rattle.comemo_cache.proofs.Holding.{some_by}
 use Rattle.comemo.proofs.Recursions.{handed}
-use Rattle.comemo.proofs.Faults.{without_sink}
+use Rattle.comemo.proofs.Faults.{without_sink, spared}
 use Rattle.comemo.proofs.function.Recorder.call_reply.Goals as goal
 
 pub invariant_of-self : goal.invariant_of-self
@@ -30,3 +30,9 @@ returns-clause-reply g c = rw (← c.self.view_is) c.in_ok-reply.ensures.reply
 
 pub returns-in_err-reply-clause-fault : goal.returns-in_err-reply-clause-fault
 returns-in_err-reply-clause-fault g c = handed c.from_residual.result c.in_err-reply.field-0.0 c.from_residual.ensures.1 _ (rw (← c.self.view_is) (without_sink (g.H.Hold.entries c.args.cache.now) _ _ c.in_err-reply.field-0.0 c.in_err-reply.ensures.fault))
+
+pub returns-clause-needs : goal.returns-clause-needs
+returns-clause-needs g c = rw (← c.self.view_is) c.in_ok-reply.ensures.needs
+
+pub returns-in_err-reply-clause-needs : goal.returns-in_err-reply-clause-needs
+returns-in_err-reply-clause-needs g c = rw (← c.self.view_is) (spared _ c.from_residual.result c.from_residual.ensures.0 c.in_err-reply.ensures.needs.0)

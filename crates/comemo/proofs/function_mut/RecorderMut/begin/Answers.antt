@@ -1,4 +1,4 @@
-use Rattle.std.proofs.Common.{rules, refl, [], Err, ◌∙◌}
+use Rattle.std.proofs.Common.{rules, ◌≡◌, true, false, refl, sym, [], Err, ◌∙◌}
 use Rattle.comemo_track.specs.Writing.{Done}
 use Rattle.comemo.specs.declared.pending.How.TheVariants as how
 use Rattle.comemo_cache.proofs.Holding.{some_held, some_led, led_from, leads_map, held_map}
@@ -43,7 +43,7 @@ returns-clause-tells g c =
       same_value = refl;
       same_recording = refl;
       began = λ w. rw c.replace-around.ensures.after (record { done = rw c.new.ensures.writes run.1.0; agrees = λ l. rw c.new.ensures.pairs tt });
-      early = λ none w. rw c.replace-around.ensures.after c.new.ensures.late;
+      late = λ w late. let no : true ≡ false = sym late ∙ rw c.replace-around.ensures.after c.new.ensures.late in cc;
       reached = ([], run.1.0);
     }
 

@@ -40,3 +40,9 @@ returns-clause-reply g c = (c.in_ok-reply.reply, refl, rw c.view-view.ensures at
 
 pub returns-in_err-reply-clause-fault : goal.returns-in_err-reply-clause-fault
 returns-in_err-reply-clause-fault g c = handed c.from_residual.result c.in_err-reply.field-0.0 c.from_residual.ensures.1 _ (without_sink (g.H.Hold.entries c.args.cache.now) _ _ c.in_err-reply.field-0.0 (rw c.view-view.ensures at c.in_err-reply.ensures.fault))
+
+pub returns-clause-needs : goal.returns-clause-needs
+returns-clause-needs g c = (rw c.view-view.ensures at c.memoized_view.ensures.needs).0
+
+pub returns-in_err-reply-clause-needs : goal.returns-in_err-reply-clause-needs
+returns-in_err-reply-clause-needs g c = (rw c.view-view.ensures at c.memoized_view.ensures.needs).0

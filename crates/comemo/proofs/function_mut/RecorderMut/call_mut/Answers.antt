@@ -21,4 +21,10 @@ pub returns-in_err-reply-clause-err : goal.returns-in_err-reply-clause-err
 returns-in_err-reply-clause-err g c = on_err c.from_residual.result c.in_err-reply.ensures.err
 
 pub returns-clause-reply : goal.returns-clause-reply
-returns-clause-reply g c = (c.in_ok-reply.reply, refl, c.in_ok-reply.ensures.reply)
+returns-clause-reply g c = (c.in_ok-reply.reply, refl, λ late. (c.in_ok-reply.ensures.early late).0, c.in_ok-reply.ensures.reply)
+
+pub returns-clause-needs : goal.returns-clause-needs
+returns-clause-needs g c = c.memoized_mut_with.ensures.needs.0
+
+pub returns-in_err-reply-clause-needs : goal.returns-in_err-reply-clause-needs
+returns-in_err-reply-clause-needs g c = c.memoized_mut_with.ensures.needs.0

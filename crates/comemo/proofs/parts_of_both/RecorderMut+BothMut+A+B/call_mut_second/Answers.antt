@@ -52,7 +52,7 @@ pub returns-clause-tells : goal.returns-clause-tells
 returns-clause-tells g c = tells_called_second (both_mut (parts g)) refl refl c.requires.agrees g.G.Key.PartialEq.eq g.G.Out.Clone.is_clone (IsRight g.G.Function.means g.G.Function.writes) g.G.Function.naming c.reveal_reads_and_writes.ensures.reads c.args.key c.in_ok-reply.reply (second_mut_reply (parts g) c.args.self.now.value.now c.memoized_mut_with.new.of c.new-sink.result c.memoized_mut_with.new.sink c.new-sink.ensures.value c.drop.ensures (some_by (g.H.Hold.entries c.args.cache.now) (g.H.Hold.entries c.args.cache.now) (g.H.Hold.entries c.memoized_mut_with.new.cache) _ c.in_ok-reply.ensures.reply).3)
 
 pub returns-clause-reply : goal.returns-clause-reply
-returns-clause-reply g c = (c.in_ok-reply.reply, refl, by_map (g.H.Hold.entries c.args.cache.now) (g.H.Hold.entries c.args.cache.now) (g.H.Hold.entries c.memoized_mut_with.new.cache) _ _ (λ es mid es' k. second_mut_reply (parts g) c.args.self.now.value.now c.memoized_mut_with.new.of c.new-sink.result c.memoized_mut_with.new.sink c.new-sink.ensures.value c.drop.ensures k) c.in_ok-reply.ensures.reply)
+returns-clause-reply g c = (c.in_ok-reply.reply, refl, λ late. (c.in_ok-reply.ensures.early late).0, by_map (g.H.Hold.entries c.args.cache.now) (g.H.Hold.entries c.args.cache.now) (g.H.Hold.entries c.memoized_mut_with.new.cache) _ _ (λ es mid es' k. second_mut_reply (parts g) c.args.self.now.value.now c.memoized_mut_with.new.of c.new-sink.result c.memoized_mut_with.new.sink c.new-sink.ensures.value c.drop.ensures k) c.in_ok-reply.ensures.reply)
 
 pub returns-in_err-reply-clause-err : goal.returns-in_err-reply-clause-err
 returns-in_err-reply-clause-err g c = on_err c.from_residual.result (leads_map (g.H.Hold.entries c.args.cache.now) (g.H.Hold.entries c.memoized_mut_with.new.cache) _ _ (λ es es' k. failed_as (λ W d. second_mut_done (parts g) c.args.self.now.value.now c.memoized_mut_with.new.of W d) (λ P b. rw c.drop-sink.ensures (rw c.new-sink.ensures.value at (broken_as (λ _. second_call) (λ _. second_answer) c.new-sink.result c.memoized_mut_with.new.sink P b))) (λ P W b. rw c.drop-sink.ensures (rw c.new-sink.ensures.value at (spoiled_as (λ _. second_call) (λ _. second_answer) c.new-sink.result c.memoized_mut_with.new.sink P W b))) k) c.in_err-reply.ensures.err)
@@ -62,3 +62,9 @@ returns-in_err-reply-clause-tells g c = writes_failed_part (both_mut (parts g)) 
 
 pub returns-in_err-reply-clause-agrees : goal.returns-in_err-reply-clause-agrees
 returns-in_err-reply-clause-agrees g c = spoiled_any _ (rw c.drop-sink.ensures (mapped_spoils c.new-sink.result c.memoized_mut_with.new.sink (some_led (g.H.Hold.entries c.args.cache.now) (g.H.Hold.entries c.memoized_mut_with.new.cache) _ c.in_err-reply.ensures.err).2))
+
+pub returns-clause-needs : goal.returns-clause-needs
+returns-clause-needs g c = c.memoized_mut_with.ensures.needs.0
+
+pub returns-in_err-reply-clause-needs : goal.returns-in_err-reply-clause-needs
+returns-in_err-reply-clause-needs g c = c.memoized_mut_with.ensures.needs.0

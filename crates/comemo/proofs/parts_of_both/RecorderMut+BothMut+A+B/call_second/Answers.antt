@@ -74,3 +74,9 @@ returns-in_err-reply-clause-agrees g c = spoiled_any _ (rw c.drop-sink.ensures c
 
 pub returns-in_err-reply-clause-fault : goal.returns-in_err-reply-clause-fault
 returns-in_err-reply-clause-fault g c = handed c.from_residual.result c.in_err-reply.field-0.0 c.from_residual.ensures.1 _ c.in_err-reply.ensures.fault
+
+pub returns-clause-needs : goal.returns-clause-needs
+returns-clause-needs g c = c.memoized_part.ensures.needs
+
+pub returns-in_err-reply-clause-needs : goal.returns-in_err-reply-clause-needs
+returns-in_err-reply-clause-needs g c = c.memoized_part.ensures.needs
