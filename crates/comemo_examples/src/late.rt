@@ -29,6 +29,9 @@ impl Function for Bump {
 }
 
 impl RunMut<Counter, ()> for Bump {
+    // it asks first
+    ghost late = { λ _. ⊥ };
+
     fn run(k: &u64, counter: &mut RecorderMut<'_, '_, Counter>, _: &mut ()) -> Result<u64, Fault> {
         let number = counter.ask(CounterCall::Get)?;
         counter.write(CounterCall::Add(*k))?;

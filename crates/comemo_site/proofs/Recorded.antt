@@ -20,7 +20,7 @@ use Rattle.comemo_site.specs.declared.site.SiteCall.{SiteCall}
 
 -- a call within a recording of its own, which was empty and complete and isn't late afterwards: the reads agree with the
 -- previous value, and what was established holds of all answers that agree with them, and of the recorded writes
-pub recorded_now : {V C R X : Type 0} {eq : C → C → Bool} {same : R → R → Bool} {wrote : V → C → V → Type 0} {w : C → Bool} {touches : C → C → Bool} {answers : V → C → R} → {s t : Lent V C R} {P : X → (C → R) → List C → Type 0} (r : Result X Fault) → s.recording.now.complete ≡ true → s.recording.now.writes ≡ [] → s.recording.now.pairs ≡ [] → TellsWrites (Goes (Done wrote w touches same answers) touches same answers) (Fits eq same) s t r P → (t.recording.now.complete ≡ true → t.recording.now.late ≡ false) → IfOk r (λ x. Agrees same (answers s.value.now) t.recording.now.pairs × ((m : C → R) → Respects eq same m → Agrees same m t.recording.now.pairs → P x m t.recording.now.writes))
+pub recorded_now : {V C R X : Type 0} {eq : C → C → Bool} {same : R → R → Bool} {wrote : V → C → V → Type 0} {w : C → Bool} {touches : C → C → Bool} {answers : V → C → R} → {s t : Lent V C R} {P : X → (C → R) → List C → Type 0} (r : Result X Fault) → s.recording.now.complete ≡ true → s.recording.now.writes ≡ [] → s.recording.now.pairs ≡ [] → TellsWrites (Goes (Done wrote w touches same answers) eq touches same answers) (Fits eq same) s t r P → (t.recording.now.complete ≡ true → t.recording.now.late ≡ false) → IfOk r (λ x. Agrees same (answers s.value.now) t.recording.now.pairs × ((m : C → R) → Respects eq same m → Agrees same m t.recording.now.pairs → P x m t.recording.now.writes))
 recorded_now {same = same} {wrote} {w} {touches} {answers} {s} {t} {P} (Ok x) complete none nothing a early =
     let is = a.complete ∙ complete in
     let first : Began (Done wrote w touches same answers) same answers s.value.now s = record { done = subst (λ W. Done wrote w touches same answers s.value.now s.value.now W) (sym none) refl; agrees = λ l. subst (λ ps. Agrees same (answers s.value.now) ps) (sym nothing) tt } in
@@ -44,7 +44,7 @@ agrees_past same calls m n differs ((B warning, answer) ∷ reads) none h =
     (h.0, agrees_past same calls m n differs reads rest h.1)
 
 -- what such a call of a page printed outlives the changes that do not reach the reads
-pub recorded_page : {V : Type 0} {eq : MultiCall SiteCall Warning → MultiCall SiteCall Warning → Bool} {same : MultiAnswer SiteAnswer ⊤ → MultiAnswer SiteAnswer ⊤ → Bool} {wrote : V → MultiCall SiteCall Warning → V → Type 0} {w : MultiCall SiteCall Warning → Bool} {touches : MultiCall SiteCall Warning → MultiCall SiteCall Warning → Bool} {answers : V → MultiCall SiteCall Warning → MultiAnswer SiteAnswer ⊤} → ((n : SiteCall → SiteAnswer) → Respects eq same (answers_of n)) → {s t : Lent V (MultiCall SiteCall Warning) (MultiAnswer SiteAnswer ⊤)} (html : (SiteCall → SiteAnswer) → List ℕ) (warnings : (SiteCall → SiteAnswer) → List Warning) (site : SiteCall → SiteAnswer) → answers s.value.now ≡ answers_of site → (x : List ℕ) → s.recording.now.complete ≡ true → s.recording.now.writes ≡ [] → s.recording.now.pairs ≡ [] → TellsWrites (Goes (Done wrote w touches same answers) touches same answers) (Fits eq same) s t (Ok x) (IsPrinted html warnings) → (t.recording.now.complete ≡ true → t.recording.now.late ≡ false) → Outlives t.recording.now.pairs site (λ n. (x ≡ html n) × (t.recording.now.writes ≡ map second_call (warnings n)))
+pub recorded_page : {V : Type 0} {eq : MultiCall SiteCall Warning → MultiCall SiteCall Warning → Bool} {same : MultiAnswer SiteAnswer ⊤ → MultiAnswer SiteAnswer ⊤ → Bool} {wrote : V → MultiCall SiteCall Warning → V → Type 0} {w : MultiCall SiteCall Warning → Bool} {touches : MultiCall SiteCall Warning → MultiCall SiteCall Warning → Bool} {answers : V → MultiCall SiteCall Warning → MultiAnswer SiteAnswer ⊤} → ((n : SiteCall → SiteAnswer) → Respects eq same (answers_of n)) → {s t : Lent V (MultiCall SiteCall Warning) (MultiAnswer SiteAnswer ⊤)} (html : (SiteCall → SiteAnswer) → List ℕ) (warnings : (SiteCall → SiteAnswer) → List Warning) (site : SiteCall → SiteAnswer) → answers s.value.now ≡ answers_of site → (x : List ℕ) → s.recording.now.complete ≡ true → s.recording.now.writes ≡ [] → s.recording.now.pairs ≡ [] → TellsWrites (Goes (Done wrote w touches same answers) eq touches same answers) (Fits eq same) s t (Ok x) (IsPrinted html warnings) → (t.recording.now.complete ≡ true → t.recording.now.late ≡ false) → Outlives t.recording.now.pairs site (λ n. (x ≡ html n) × (t.recording.now.writes ≡ map second_call (warnings n)))
 recorded_page {same = same} alike {s} {t} html warnings site is x complete none nothing a early =
     let all = recorded_now (Ok x) complete none nothing a early in
     let now : Agrees same (answers_of site) t.recording.now.pairs = subst (λ m. Agrees same m t.recording.now.pairs) is all.0 in (
