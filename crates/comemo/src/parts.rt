@@ -18,9 +18,12 @@ use comemo_track::track::{Call, Track, View};
 use std::alloc::Global;
 
 /// A part of a joined value: which value it is, and what its calls and answers are in the whole.
-pub trait Part<W: Track, A: Track>:
-    CallMap<From = A::Call, FromAnswer = A::Answer, To = W::Call, ToAnswer = W::Answer>
-{
+pub trait Part<W: Track, A: Track>: CallMap<
+    From = A::Call,
+    FromAnswer = A::Answer,
+    To = W::Call,
+    ToAnswer = W::Answer,
+> {
     // the part of a value
     ghost part: { W → A };
 
@@ -34,8 +37,7 @@ pub trait Part<W: Track, A: Track>:
 }
 
 impl<'b, A: Track, B: Track> Part<Both<'b, A, B>, A>
-    for First<A::Call, B::Call, A::Answer, B::Answer>
-{
+    for First<A::Call, B::Call, A::Answer, B::Answer> {
     ghost part = { λ w. w.first };
 
     ghost agrees = { λ s w call. refl };
@@ -46,7 +48,7 @@ impl<'b, A: Track, B: Track> Part<Both<'b, A, B>, A>
 }
 
 impl<'a, T: Track> Recorder<'a, T> {
-    /// Asks a part of the value a read, and records it as a call of the whole.
+    /// Asks a part of the value a read, and records it as a call of the whole. Fails if out of memory.
     pub fn ask_part<A: Track, P: Part<T, A> + Drop>(
         &mut self,
         part: P,
