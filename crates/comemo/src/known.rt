@@ -146,7 +146,7 @@ impl<'a, T: Track, F: Given<T>> Known<'a, T, F> {
         }
     }
 
-    /// Takes the key of the last output that was asked and not known, if there was one since the last call of this.
+    /// Takes the key of the last output that was asked and not known. There may be none since the last call of this.
     pub fn missing(&self) -> Option<F::At> {
         match self.missing.try_replace(None) {
             Ok(missing) => missing,
@@ -177,7 +177,7 @@ impl<'a, T: Track, F: Given<T>> Track for Known<'a, T, F> {
 
 /// Looks up a memoized function, and doesn't run it: returns the output of an entry that agrees, or a clone of the key.
 ///
-/// Fails if the value fails to answer, or if out of memory. Where the value asks a `Known`, an output may be missing.
+/// Fails if the value fails to answer, or if out of memory. If the value asks a `Known`, an output may be missing.
 pub fn look<M: Function<Call = T::Call, Answer = T::Answer>, H: Hold<M>, T: Track>(
     alloc: Global,
     cache: &mut H,
@@ -263,7 +263,7 @@ impl<'a, T: Track> Recorder<'a, T> {
     }
 }
 
-/// What is known of two joined values.
+/// What is noted of the second of two joined values.
 impl<'a, 'b, A: Track, B: Track> Recorder<'a, Both<'b, A, B>> {
     ghost use Rattle.comemo_track.specs.Multi.{second_call, second_answer};
 

@@ -68,8 +68,8 @@ struct Lent<'a, H, N> {
     needs: &'a mut N,
 }
 
-/// The outputs of a memoized function of a tracked value, as a tracked value, whose one question is `At` a key. Contracts
-/// see the value.
+/// The outputs of a memoized function of a tracked value, as a tracked value whose one question is `At` a key.
+/// Contracts see the value.
 ///
 /// A question calls the function. A run that asks it records the output alone, and not what was asked for it. So the
 /// call of that run is a hit while the outputs that it asked are equal, whatever else changed.

@@ -32,8 +32,8 @@ pub fn map_in_threads<
     join_each(of, items, f, ended)
 }
 
-/// As `map_in_threads`, in the thread of the run, for functions that have no right to start threads. After a fault no
-/// closure is called.
+/// As `map_in_threads`, in the thread of the run, for functions that have no right to start threads. After a fault
+/// it calls the closure no more.
 pub fn map_in_turn<P: Branch + Drop, J, X: Drop, F: Fn(&mut P, &J) -> Result<X, Fault>>(
     of: &mut P,
     items: &[J],

@@ -34,8 +34,8 @@ impl Call for SumCall {
     }
 }
 
-/// The sum of the first cells, each without its last digit, which wraps at 64 bits. It asks the last of these cells, and
-/// the sum of those before.
+/// The sum of the first cells, each without its last digit, which wraps at 64 bits. It asks the last of these cells,
+/// and the sum of those before.
 pub struct Rounded;
 
 impl Function for Rounded {
