@@ -1,5 +1,5 @@
-//! Branches of a run: recorders of their own, whose recordings the recorder of the run absorbs. A branch may be asked
-//! in another thread. Making one does not allocate.
+//! Branches of a run. A branch is a recorder of its own, whose recording the recorder of the run absorbs. It may ask in
+//! another thread. Making one does not allocate.
 ghost use Rattle.std.specs.Prelude.{◌≡◌, [], true, false, IfErr, OnOk, Ok};
 ghost use Rattle.comemo_track.specs.Recording.{Recording};
 ghost use Rattle.comemo.specs.Function.{Recorded};
@@ -22,10 +22,10 @@ impl<'a, T: Track> Recorder<'a, T> {
         Recorder::new(self.alloc, self.view.fork(self.alloc))
     }
 
-    /// Takes what a branch recorded: the reads that aren't recorded here, in their order. So the order of the calls of
-    /// `absorb` decides the recording, and not when the branches ended.
+    /// Takes what a branch recorded: the reads that aren't recorded here, in their order. So the recording depends on
+    /// the order of the calls of `absorb`, and not on when the branches ended.
     ///
-    /// On error this recording is incomplete, and the branch is dropped.
+    /// Fails if out of memory. This recording is then incomplete, and the branch is dropped.
     pub fn absorb(&mut self, branch: Recorder<'_, T>) -> Result<(), Fault>
         requires value { branch.value ≡ self.now.value }
         requires complete { branch.recording.complete ≡ true }
@@ -47,7 +47,7 @@ impl<'a, T: Track> Recorder<'a, T> {
 
 /// What asks in a branch: a `Recorder`. There is no other implementation.
 ///
-/// It is a trait, since the type of a closure, as that of a branch is, can't name `Recorder` in a bound.
+/// It is a trait because a bound on a closure can't name `Recorder`.
 pub trait Branch: Sized {
     /// The tracked value.
     type Value;
@@ -67,11 +67,11 @@ pub trait Branch: Sized {
     /// The allocator of the recorder.
     fn allocator(&self) -> Global;
 
-    /// A new branch, as `Recorder::branch`.
+    /// A new branch, as `Recorder::branch` makes.
     fn fork(&self) -> Self
         ensures { IsBranch (seen self.now) (seen result) };
 
-    /// Takes what a branch recorded, as `Recorder::absorb`.
+    /// Takes what a branch recorded, as `Recorder::absorb`. Fails if out of memory.
     fn join(&mut self, branch: Self) -> Result<(), Fault>
         requires value { (seen branch).value ≡ (seen self.now).value }
         requires complete { (seen branch).recording.complete ≡ true }

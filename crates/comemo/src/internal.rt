@@ -16,4 +16,5 @@ pub use comemo_track::{
     Breaking, CallMap, First, Hashed, Input, Keyed, KeyedMut, MappedSink, Multi, Second,
     TrackedMut, TrackedMutWith, TrackedWith, Written,
 };
-pub use comemo_tree::{Asks, CallTree, Keep, Settled, TreeOp, TreeReply};
+pub use comemo_tree::children::{Children, Node};
+pub use comemo_tree::{Asks, CallTree, Keep, Settled, TreeOp, TreeReply, Values};

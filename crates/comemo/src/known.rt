@@ -1,7 +1,7 @@
 //! Early cutoff: functions that ask outputs of memoized functions, through a table of those that are known at a value.
 //!
-//! The table borrows the value, which can't change while it is used: an output that was looked up or computed once is
-//! known for all calls of the round.
+//! The table borrows the value, which can't change meanwhile. So an output that was looked up or computed once stays
+//! known.
 ghost use Rattle.std.specs.Prelude.{◌≡◌, IsTrue, IfOk, IfErr, IfSome, OnErr, true, false, [], ⊤};
 ghost use Rattle.comemo_base.specs.Answers.{Respects};
 ghost use Rattle.comemo_cache.specs.Meaning.{IsNamedRun, invocation, run};
@@ -100,7 +100,7 @@ impl<'a, T: Track, F: Given<T>> Track for Promised<'a, T, F> {
 }
 
 impl<'a, T: Track, F: Given<T>> Known<'a, T, F> {
-    /// Nothing is known yet.
+    /// A table for a value at which no output is known yet. Does not allocate.
     pub fn new(alloc: Global, of: &'a T) -> Self
         ensures { result ≡ of.now }
     {
@@ -120,7 +120,7 @@ impl<'a, T: Track, F: Given<T>> Known<'a, T, F> {
         self.table.get(key)
     }
 
-    /// Makes the output at a key known.
+    /// Makes the output at a key known. Fails if out of memory.
     pub fn learn(&mut self, key: F::At, output: F::Gives) -> Result<(), AllocError>
         requires { IsTrue (F.Gives.eq (F.gives key (T.answers self.old)) output) }
         ensures { self.new ≡ self.old }
@@ -146,7 +146,7 @@ impl<'a, T: Track, F: Given<T>> Known<'a, T, F> {
         }
     }
 
-    /// The key of an output that was asked and isn't known, since the last such call.
+    /// Takes the key of the last output that was asked and not known. There may be none since the last call of this.
     pub fn missing(&self) -> Option<F::At> {
         match self.missing.try_replace(None) {
             Ok(missing) => missing,
@@ -155,7 +155,7 @@ impl<'a, T: Track, F: Given<T>> Known<'a, T, F> {
     }
 }
 
-/// The known outputs answer. Any other question fails, and its key is then `missing`.
+/// The known outputs answer. A question for another output fails, and `missing` then returns its key.
 impl<'a, T: Track, F: Given<T>> Track for Known<'a, T, F> {
     type Call = At<F::At>;
 
@@ -177,7 +177,7 @@ impl<'a, T: Track, F: Given<T>> Track for Known<'a, T, F> {
 
 /// Looks up a memoized function, and doesn't run it: returns the output of an entry that agrees, or a clone of the key.
 ///
-/// Fails if the value does. Of a value with a `Known` an output may then be missing.
+/// Fails if the value fails to answer, or if out of memory. If the value asks a `Known`, an output may be missing.
 pub fn look<M: Function<Call = T::Call, Answer = T::Answer>, H: Hold<M>, T: Track>(
     alloc: Global,
     cache: &mut H,
@@ -211,7 +211,7 @@ pub fn look<M: Function<Call = T::Call, Answer = T::Answer>, H: Hold<M>, T: Trac
 }
 
 impl<'a, T: Track> Recorder<'a, T> {
-    /// Records a read with its answer, which is known: the value isn't asked.
+    /// Records a read with its answer, which is known: the value isn't asked. Fails if out of memory.
     pub fn note(&mut self, call: T::Call, answer: T::Answer) -> Result<(), Fault>
         requires read { T.Call.is_write call ≡ false }
         requires known { IsTrue (T.Answer.eq (T.answers self.old.value call) answer) }
@@ -225,7 +225,8 @@ impl<'a, T: Track> Recorder<'a, T> {
 
     /// Stores a run that began with no recorder around it, and returns its output.
     ///
-    /// The output must be right for all answers that agree with the recording, which must be complete.
+    /// The output must be right for all answers that agree with the recording, which must be complete. Fails if out of
+    /// memory, and leaves the cache unchanged.
     pub fn store<G: Function<Call = T::Call, Answer = T::Answer>, H: Hold<G>>(
         self,
         cache: &mut H,
@@ -262,11 +263,11 @@ impl<'a, T: Track> Recorder<'a, T> {
     }
 }
 
-/// What is noted of two joined values.
+/// What is noted of the second of two joined values.
 impl<'a, 'b, A: Track, B: Track> Recorder<'a, Both<'b, A, B>> {
     ghost use Rattle.comemo_track.specs.Multi.{second_call, second_answer};
 
-    /// Records a read of the second value with its answer, as `note`.
+    /// Records a read of the second value with its answer, as `note`. Fails if out of memory.
     pub fn note_second(&mut self, call: B::Call, answer: B::Answer) -> Result<(), Fault>
         requires read { B.Call.is_write call ≡ false }
         requires known { IsTrue (B.Answer.eq (B.answers self.old.value.second call) answer) }

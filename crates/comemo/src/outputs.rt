@@ -14,7 +14,7 @@ use std::cell::RefCell;
 use std::hash::Hash;
 use std::marker::{Model, PhantomData};
 
-/// The question what the output at a key is.
+/// The question for the output at a key.
 #[derive(Clone, Drop, Debug, PartialEq, Eq, Hash)]
 pub struct At<K> {
     /// The key.
@@ -68,11 +68,11 @@ struct Lent<'a, H, N> {
     needs: &'a mut N,
 }
 
-/// The outputs of a memoized function of a tracked value, as a tracked value, whose one question is `At` a key. Contracts
-/// see the value.
+/// The outputs of a memoized function of a tracked value, as a tracked value whose one question is `At` a key.
+/// Contracts see the value.
 ///
-/// A question calls the function: it is a hit, or a run that is stored. A function that asks it has recorded the output
-/// alone, and not what was asked for it. So it is a hit while the outputs that it asked are equal, whatever else changed.
+/// A question calls the function. A run that asks it records the output alone, and not what was asked for it. So the
+/// call of that run is a hit while the outputs that it asked are equal, whatever else changed.
 #[derive(Drop)]
 pub struct Outputs<'a, T, F, H, N> {
     alloc: Global,
@@ -90,7 +90,7 @@ impl<'a, T, F, H, N> Model for Outputs<'a, T, F, H, N> {
 }
 
 impl<'a, T, F, H, N> Outputs<'a, T, F, H, N> {
-    /// The outputs of a function at a value, through this cache and with these needs.
+    /// The outputs of a function at a value, through this cache and with these needs. Does not allocate.
     pub fn new(alloc: Global, cache: &'a mut H, needs: &'a mut N, of: &'a T) -> Self
         ensures { result ≡ of.now }
     {
@@ -103,7 +103,7 @@ impl<'a, T, F, H, N> Outputs<'a, T, F, H, N> {
     }
 }
 
-/// The function answers. A fault of it is refused memory here: what it lost it lost for want of memory.
+/// The function answers. Each of its faults becomes an `AllocError`.
 impl<'a, T: Track, F, H: Hold<F>, N> Track for Outputs<'a, T, F, H, N>
 where
     F: Single + Run<T, N>,

@@ -48,7 +48,7 @@ impl<'b, A: Track, B: Track> Part<Both<'b, A, B>, A>
 }
 
 impl<'a, T: Track> Recorder<'a, T> {
-    /// Asks a part of the value a read, and records it as a call of the whole.
+    /// Asks a part of the value a read, and records it as a call of the whole. Fails if out of memory.
     pub fn ask_part<A: Track, P: Part<T, A> + Drop>(
         &mut self,
         part: P,

@@ -1,4 +1,4 @@
-//! One branch, and what becomes of those that ended.
+//! One branch of a run, and the joining of branches that ended.
 ghost use Rattle.std.specs.Prelude.{◌≡◌, ◌<◌, ℕ, ◌++◌, ◌∷◌, [], length, vec_len, slice_index_or, IfOk, OnOk, Ok};
 ghost use Rattle.std.specs.List.{AllZip};
 ghost use Rattle.comemo.specs.Recursive.{TellsOwn};
@@ -7,7 +7,9 @@ ghost use Rattle.comemo_branches.specs.Branches.{BranchRan, BranchTold, GaveTo, 
 use comemo::{Branch, Fault};
 use std::alloc::AllocError;
 
-/// Does a branch: the closure's output, and the recorder that it asked through.
+/// Runs a branch. Returns the closure's output, and the recorder that it asked through.
+///
+/// Fails if the closure does.
 pub fn run_branch<P: Branch + Drop, J, X: Drop, F: Fn(&mut P, &J) -> Result<X, Fault>>(
     of: &P,
     item: &J,
@@ -22,9 +24,9 @@ pub fn run_branch<P: Branch + Drop, J, X: Drop, F: Fn(&mut P, &J) -> Result<X, F
     Ok((output, branch))
 }
 
-/// Joins the branches of these items, which ended so, in their order, and returns their outputs.
+/// Joins the branches of these items, which ended so, in their order. Returns their outputs. Calls no closure.
 ///
-/// The first fault is returned, `Incomplete` as `Memory`; the branches after it are dropped. The closure is not called.
+/// Fails with the first fault, `Incomplete` as `Memory`, or if out of memory. The branches after that are dropped.
 pub fn join_each<P: Branch + Drop, J, X: Drop, F: Fn(&mut P, &J) -> Result<X, Fault>>(
     of: &mut P,
     items: &[J],
@@ -39,6 +41,7 @@ pub fn join_each<P: Branch + Drop, J, X: Drop, F: Fn(&mut P, &J) -> Result<X, Fa
     ensures { TellsOwn P.fits (P.seen of.old) (P.seen of.new) result (λ outputs m. AllZip
         (BranchTold F.Fn f.now P.seen (P.seen of.old) P.fits m) items.now outputs.items) }
 {
+    // The contract alone needs these.
     let _ = items;
     let _ = f;
     let mut outputs = Vec::new(of.allocator());
@@ -49,7 +52,7 @@ pub fn join_each<P: Branch + Drop, J, X: Drop, F: Fn(&mut P, &J) -> Result<X, Fa
     Ok(outputs)
 }
 
-/// Appends an output.
+/// Appends an output. Fails if out of memory.
 pub fn keep<X: Drop>(outputs: &mut Vec<X>, output: X) -> Result<(), AllocError>
     ensures { OnOk result (outputs.new.items ≡ outputs.old.items ++ output ∷ []) }
 {
@@ -57,6 +60,8 @@ pub fn keep<X: Drop>(outputs: &mut Vec<X>, output: X) -> Result<(), AllocError>
 }
 
 /// Joins a branch that ended, and returns its output.
+///
+/// Fails with the branch's fault, `Incomplete` as `Memory`, or if out of memory.
 pub fn join_one<P: Branch + Drop, X: Drop>(
     of: &mut P,
     end: Result<(X, P), Fault>,

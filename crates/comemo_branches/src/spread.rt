@@ -9,10 +9,11 @@ use comemo::{Branch, Fault};
 use std::marker::{Send, Sync};
 use std::thread::{Threads, for_each_mut};
 
-/// Calls a closure at each item, each call a branch with a recorder of its own, in at most so many threads; with one
-/// or none, in the thread of the run. Joins the branches in the order of the items, and returns the outputs in that order.
+/// Calls a closure with each item, in at most this many threads. With one or none, all calls are in the thread of the
+/// run. Each call is a branch with a recorder of its own.
 ///
-/// The first fault in that order is returned, `Incomplete` as `Memory`; nothing after it is recorded.
+/// Joins the branches in the order of the items, and returns their outputs in that order. Fails with the first fault in
+/// that order, `Incomplete` as `Memory`, or if out of memory. The run then records nothing of a later branch.
 pub fn map_in_threads<
     R: Threads + Sync,
     P: Branch + Send + Sync + Drop,
@@ -31,7 +32,8 @@ pub fn map_in_threads<
     join_each(of, items, f, ended)
 }
 
-/// As `map_in_threads`, in the thread of the run, for functions that have no right to start threads.
+/// As `map_in_threads`, in the thread of the run, for functions that have no right to start threads. After a fault
+/// it calls the closure no more.
 pub fn map_in_turn<P: Branch + Drop, J, X: Drop, F: Fn(&mut P, &J) -> Result<X, Fault>>(
     of: &mut P,
     items: &[J],
@@ -51,7 +53,7 @@ pub fn map_in_turn<P: Branch + Drop, J, X: Drop, F: Fn(&mut P, &J) -> Result<X, 
     Ok(outputs)
 }
 
-/// Does the branches of these items, each to its place.
+/// Runs a branch for each item, and puts what became of it at the item's place.
 fn run_branches<
     R: Threads + Sync,
     P: Branch + Send + Sync + Drop,

@@ -1,4 +1,4 @@
-//! Branches of runs: a function over a list of places, in threads and in turn.
+//! Tests of branches of runs: a function over a list of places, in threads and in turn.
 #![tactic(auto)]
 
 pub mod cells;

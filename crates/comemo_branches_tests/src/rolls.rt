@@ -1,4 +1,4 @@
-//! A memoized function that is costly, and a total of it over a list of places, which asks each in a branch.
+//! A costly memoized function, and its total over a list of places, each asked in a branch.
 ghost use Rattle.std.specs.Prelude.{◌≡◌, map};
 ghost use Rattle.std.specs.List.{fold};
 ghost use Rattle.std.proofs.Common.{rules};
@@ -72,10 +72,9 @@ impl Function for Total {
         (λ j k m r e. total_alike m j.items k.items e) };
 }
 
-/// The total of these places, kept in a cache; its numbers are found in branches, through a cache that threads share.
+/// The total of these places, kept in a cache. Its numbers are found in branches, through a cache that threads share.
 ///
-/// It is done between `begin` and `finish`: in a method of `Run` no thread may be started, since the checker knows a
-/// bound `Sync` in functions alone.
+/// It is not a `Run`: the checker knows a bound `Sync` in functions alone, so a method of a trait may start no thread.
 pub fn totalled<R: Threads + Wait + Sync, H: Hold<Total>>(
     rt: &R,
     threads: usize,

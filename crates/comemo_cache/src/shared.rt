@@ -283,6 +283,7 @@ impl<M: Function> Cache<M> {
     /// The keys under which a kept run asked one of these calls, cloned, as `CacheData::reached`.
     ///
     /// Each shard is locked in turn: other threads may change the shards that were looked at and those that are left.
+    /// Fails if out of memory.
     pub fn reached<R: Wait>(&self, rt: &R, calls: &[M::Call]) -> Result<Vec<M::Key>, AllocError> {
         let mut keys = Vec::new(self.alloc);
         for shard in &self.shards {
@@ -303,7 +304,9 @@ impl<M: Function> Cache<M> {
     }
 }
 
-/// Appends clones of the keys that a change of these calls reaches. On error some may be missing.
+/// Appends clones of the keys that a change of these calls reaches.
+///
+/// Fails if out of memory. Some keys may then be missing.
 fn put_reached<M: Function>(
     kept: &CacheData<M>,
     calls: &[M::Call],

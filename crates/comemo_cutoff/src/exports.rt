@@ -1,4 +1,4 @@
-//! A function of the outputs of another: it runs again only if one of these changes.
+//! A function of outputs of another, which runs again only if one of these or a number that it asked changes.
 ghost use Rattle.std.specs.Prelude.{◌≡◌, ◌/◌, ◌+◌, ◌%◌, ◌^◌, IfOk, false};
 ghost use Rattle.std.proofs.Common.{rules};
 ghost use Rattle.comemo_cutoff.specs.Cells.{numbers};
@@ -68,7 +68,7 @@ pub struct Modules<'a> {
 }
 
 impl<'a> Modules<'a> {
-    /// The modules of these numbers.
+    /// The modules of these numbers. Does not allocate.
     pub fn new(alloc: Global, cells: &'a Cells, kept: &'a mut CacheData<Exports>) -> Modules<'a>
         ensures { result.cells.now ≡ cells.now }
     {
@@ -80,7 +80,7 @@ impl<'a> Modules<'a> {
     }
 }
 
-/// A question for exports calls `Exports`. A fault of it is refused memory.
+/// A question for exports calls `Exports`. Each of its faults becomes an `AllocError`.
 impl<'a> Track for Modules<'a> {
     type Call = ModuleCall;
 
@@ -108,7 +108,7 @@ impl<'a> Track for Modules<'a> {
     }
 }
 
-/// The number of a module, plus what another exports. Its questions are these two.
+/// The number of a module, plus what another exports. It asks for these two.
 pub struct Check;
 
 impl Function for Check {

@@ -1,4 +1,4 @@
-//! A function that calls itself and asks its outputs: it runs again only if a number or the output before changes.
+//! A function that asks its own outputs, which runs again only if a number or the output before changes.
 ghost use Rattle.std.specs.Prelude.{◌≡◌, ◌≤◌, ◌-◌, IfOk, ⊤, false};
 ghost use Rattle.std.proofs.Common.{rules};
 ghost use Rattle.comemo.specs.Begun.{OnBegun};
@@ -14,7 +14,7 @@ use std::alloc::{AllocError, Global};
 pub enum SumCall {
     /// The number at a place.
     Number(u32),
-    /// The sum of so many numbers.
+    /// The sum of this many numbers.
     Sum(u32),
 }
 
@@ -34,8 +34,8 @@ impl Call for SumCall {
     }
 }
 
-/// The sum of the first cells, each without its last digit, which wraps at 64 bits. Asks the last of these and the sum
-/// of those before it.
+/// The sum of the first cells, each without its last digit, which wraps at 64 bits. It asks the last of these cells,
+/// and the sum of those before.
 pub struct Rounded;
 
 impl Function for Rounded {
@@ -131,6 +131,8 @@ fn add_to<H: Hold<Rounded>>(
 }
 
 /// The sum of the first cells, each without its last digit, through a cache, at cells of which some sums are known.
+///
+/// Fails if out of memory.
 pub fn round_up_to<H: Hold<Rounded>>(
     alloc: Global,
     cache: &mut H,

@@ -1,4 +1,4 @@
-//! Tests of the function that asks outputs of another.
+//! Changes that leave an output as it is, and changes that don't.
 
 use comemo::{Cache, CacheData, How, Known};
 use comemo_cutoff::Cells;
@@ -11,7 +11,7 @@ fn a_change_that_leaves_the_output_runs_no_caller(rt: HostRuntime) -> Result<(),
     let mut exports: CacheData<Exports> = CacheData::new(alloc);
     let mut checks: CacheData<Check> = CacheData::new(alloc);
     let mut cells = Cells::new(alloc, 4)?;
-    // The place that is set, the number there, the reply and the number of kept outputs of each function then.
+    // The place that is set, the number there, the reply then, and the number of kept outputs of each function.
     let calls: &[(usize, u64, u64, How, usize, usize)] = &[
         (1, 40, 5, How::Stored, 1, 1),
         (1, 41, 5, How::Hit, 2, 1),
@@ -35,7 +35,7 @@ fn a_sum_runs_again_up_to_an_equal_output(rt: HostRuntime) -> Result<(), comemo:
     let alloc = rt.alloc();
     let mut cache: CacheData<Rounded> = CacheData::new(alloc);
     let mut cells = Cells::new(alloc, 40)?;
-    // The place that is set, the number there, the sum of the first 30 and the number of kept outputs then.
+    // The place that is set, the number there, the sum of the first 30 cells then, and the number of kept outputs.
     let calls: &[(usize, u64, u64, usize)] = &[
         (0, 1, 120, 30),
         (0, 9, 120, 31),

@@ -1,4 +1,4 @@
-//! Tests of the functions that ask outputs of others.
+//! Tests of functions that ask outputs of others.
 #![tactic(auto)]
 
 #[cfg(test)]

@@ -18,7 +18,7 @@ impl<C, R> Says<C, R> for Brand {
     ghost says = { λ _ _. true };
 }
 
-/// A view of a value with these answers.
+/// A view that keeps answers, of a value with these answers.
 #[derive(Drop)]
 struct Named<'a, T: Track, B: Says<T::Call, T::Answer>> {
     tracked: Tracked<'a, T>,
@@ -38,8 +38,8 @@ impl<'a, T: Track, B: Says<T::Call, T::Answer>> Named<'a, T, B> {
     }
 }
 
-/// A tracked value that keeps the answers it gave: the value behind it is asked each call once, as long as memory is
-/// there.
+/// A tracked value that keeps the answers it gave. The value behind it is asked each call once, while there is memory
+/// for what is kept.
 #[derive(Drop)]
 pub struct Kept<'a, T: Track, B: Says<T::Call, T::Answer>> {
     value: &'a T,
@@ -49,7 +49,7 @@ pub struct Kept<'a, T: Track, B: Says<T::Call, T::Answer>> {
 }
 
 impl<'a, T: Track, B: Says<T::Call, T::Answer>> Kept<'a, T, B> {
-    /// Such a value, which has kept no answer yet. Does not allocate.
+    /// A value that has kept no answer yet. Does not allocate.
     pub fn new(alloc: Global, value: &'a T) -> Self
         requires { (call : T.Call) (answer : T.Answer)
             → B.says call answer ≡ T.Answer.eq (T.answers value.now call) answer }

@@ -1,4 +1,4 @@
-//! A value whose answers are counted, asked through a value that keeps them.
+//! Tests of values that keep answers: a value whose answers are counted, asked through one that keeps them.
 #![tactic(auto)]
 
 pub mod counted;

@@ -1,14 +1,14 @@
-//! Calls in a row, each question asked once.
+//! Calls in a row, for which a value that keeps its answers is asked each question once.
 
 use crate::counted::{Counted, Pair};
-use comemo::{CacheData, Fault, Track, memoized};
+use comemo::{CacheData, Track, memoized};
 use comemo_kept::Kept;
 use std::alloc::{AllocError, Global};
 use std::cell::Cell;
 use std::marker::Brand;
 use std::test::Fail;
 
-/// The sums of pairs of neighbours of the first places, added, and how often the value was asked.
+/// The total of the sums of neighbours, for the first places. Fails if out of memory.
 fn sums<T: Track<Call = crate::counted::At, Answer = u64>>(
     alloc: Global,
     count: u32,

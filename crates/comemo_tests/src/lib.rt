@@ -13,6 +13,8 @@ mod examples;
 #[cfg(test)]
 mod faults;
 #[cfg(test)]
+mod handed_on;
+#[cfg(test)]
 mod inputs;
 #[cfg(test)]
 mod joined;

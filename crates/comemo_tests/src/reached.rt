@@ -1,4 +1,4 @@
-//! Whom a change reaches: the keys whose kept runs asked given calls, also of a cache behind locks.
+//! What a change reaches: the keys whose kept runs asked given calls, also of a cache behind locks.
 ghost use Rattle.std.proofs.Common.{rules};
 
 use comemo::{Cache, CacheData, Fault, Function, Hold, Recorder, Run, memoized};

@@ -1,4 +1,5 @@
-//! What holds in every history of a cache. Each function here does nothing when it runs: what it ensures is a theorem.
+//! What holds in every history of a cache. Each function of this file does nothing when it runs, and what it ensures is
+//! a theorem about every memoized function. `requests` has functions whose calls are such histories.
 #![tactic(auto)]
 
 ghost use Rattle.std.specs.Prelude.{Bool};
@@ -7,8 +8,6 @@ ghost use Rattle.comemo_theorems.specs.Coarse.{NeverStaleAtAll, IsPast};
 ghost use Rattle.comemo_theorems.specs.History.{IsLawful};
 
 pub mod requests;
-#[cfg(test)]
-mod sessions;
 
 use comemo::internal::{Breaking, Meant, Written};
 use comemo::{Function, Sink, Track};
@@ -18,48 +17,48 @@ pub fn is_lawful<M: Function>()
     ensures { IsLawful ⟦<M as Meant>⟧.meaning }
 {}
 
-/// Nothing is ever stale.
+/// In a history from an empty cache, each output and its writes are right at the key and the answers of the call.
 pub fn never_stale<M: Function>()
     ensures { NeverStale ⟦<M as Meant>⟧.meaning }
 {}
 
-/// What was stored is found again.
+/// After a run was stored, each call that it answers finds an entry, until an eviction whose bound the age reaches.
 pub fn hits_again<M: Function>()
     ensures { HitsAgain ⟦<M as Meant>⟧.meaning }
 {}
 
-/// What exists is found again.
+/// After a run was not stored because one exists, each call that it answers finds an entry, while its age permits.
 pub fn hits_existing<M: Function>()
     ensures { HitsExisting ⟦<M as Meant>⟧.meaning }
 {}
 
-/// Nothing is lost.
+/// A function that names its calls loses no run: none ends as `MissingCall`.
 pub fn nothing_lost<M: Function>()
     ensures { NothingLost ⟦<M as Meant>⟧.meaning }
 {}
 
-/// What a call does is what the plain list does.
+/// What a call did are steps of a plain list of entries. It was a hit exactly if an entry had the key and agreed.
 pub fn as_plain_list<M: Function, S: Sink<Call = M::Call, Answer = M::Answer>>()
     ensures { (s t : S) → AsPlainList ⟦<M as Meant>⟧.meaning (S.took s t) }
 {}
 
-/// A hit gives a clone of a clone, and does the writes that the stored run did.
+/// A hit returns a clone of the clone that was stored, and does writes that equal those of the stored run.
 pub fn hits_replay<M: Function, T: Track<Call = M::Call, Answer = M::Answer>>()
     ensures { HitsReplay ⟦<M as Meant>⟧.meaning ⟦<T as Written>⟧.did }
 {}
 
-/// What was stored is found again, by its age since it was stored or last hit.
+/// What was stored is found again, by its age since it was stored or last hit, in a history from an empty cache.
 pub fn hits_until_old<M: Function>()
     ensures { HitsUntilOld ⟦<M as Meant>⟧.meaning }
 {}
 
-/// A begin and a finish by hand do what the plain list does, whatever calls come in between.
+/// What `begin` and `finish` did by hand are steps of a plain list, whatever calls came in between.
 pub fn by_hand<M: Function, S: Sink<Call = M::Call, Answer = M::Answer>>()
     ensures { (late : Bool) → (s t : S)
         → ByHand ⟦<M as Meant>⟧.meaning (⟦<S as Breaking>⟧.took_as late s t) }
 {}
 
-/// A call that failed did nothing to the entries, or touched one.
+/// A call that failed did nothing to the entries, or touched one if a write was refused.
 pub fn faults_keep<M: Function, T, S>()
 where
     T: Track<Call = M::Call, Answer = M::Answer>,
@@ -68,12 +67,12 @@ where
         (⟦<T as Written>⟧.did v w) (S.spoils s t) (⟦<S as Breaking>⟧.spoiled_after s t) }
 {}
 
-/// Nothing is ever stale, by less of a history.
+/// As `never_stale`, with less said of a history.
 pub fn never_stale_at_all<M: Function>()
     ensures { NeverStaleAtAll ⟦<M as Meant>⟧.meaning }
 {}
 
-/// Each history is one of which less is said.
+/// Each history is one as in `never_stale_at_all`.
 pub fn is_past<M: Function>()
     ensures { IsPast ⟦<M as Meant>⟧.meaning }
 {}

@@ -1,4 +1,4 @@
-//! Lists of requests to a cache, and their answers: every such list is a history.
+//! Lists of requests to a cache, and what became of each: every such list is a history.
 ghost use Rattle.std.specs.Prelude.{◌≡◌, ◌<◌, [], List, IfOk, IsTrue};
 ghost use Rattle.std.specs.List.{All, AllZip};
 ghost use Rattle.comemo.specs.Function.{WritesNone};
@@ -69,7 +69,7 @@ fn answer<M: Run<T, N>, T: Track + Drop, N>(
 
 /// Answers requests in turn.
 ///
-/// Fails, before the first request, if the list of events can't be allocated.
+/// Fails before the first request if out of memory for the list of events.
 pub fn answer_all<M: Run<T, N>, T: Track + Drop, N>(
     alloc: Global,
     cache: &mut CacheData<M>,
@@ -93,15 +93,18 @@ pub fn answer_all<M: Run<T, N>, T: Track + Drop, N>(
 
 /// The replies of two calls, and whether the answers to the questions of the first one are the same before the second.
 pub struct Around<O> {
+    /// The reply of the first call.
     pub first: Reply<O>,
+    /// Whether these answers are the same.
     pub valid: bool,
+    /// The reply of the second call.
     pub second: Reply<O>,
 }
 
 /// Calls a function of a value, evicts, and calls it with an equal key, of the changed value.
 ///
-/// If the first call was stored, and the answers to its questions are the same, the second is a hit, and its output is a
-/// clone of the clone that was stored.
+/// If the first call was stored, and the answers to its questions are the same, the second is a hit. Its output is a
+/// clone of the clone that was stored. Fails if a call does, or if out of memory.
 pub fn call_evict_call<M: Run<T, N>, T: Track, N>(
     alloc: Global,
     cache: &mut CacheData<M>,
@@ -132,13 +135,16 @@ pub fn call_evict_call<M: Run<T, N>, T: Track, N>(
 
 /// The replies of two calls.
 pub struct Twice<O> {
+    /// The reply of the first call.
     pub first: Reply<O>,
+    /// The reply of the second call.
     pub second: Reply<O>,
 }
 
 /// Calls a function that writes on a value, and then, with an equal key, on another one that is the same.
 ///
-/// If the first call was stored, the second is a hit, and led its value by writes that equal those of the first.
+/// If the first call was stored, the second is a hit, and did writes on its value that equal those of the first. Fails
+/// if a call does, or if out of memory.
 pub fn write_to_both<M: RunMut<T, ()>, T: Track>(
     alloc: Global,
     cache: &mut CacheData<M>,

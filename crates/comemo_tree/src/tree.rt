@@ -358,7 +358,7 @@ impl<K: Eq + Hash, C: Eq + Hash, R: Ord, T> CallTree<K, C, R, T> {
 
     /// The keys under which a path asks one of these calls, each once, by reference and in no particular order.
     ///
-    /// Asks nothing. Linear in the nodes that there is room for, times the calls.
+    /// Asks nothing. Linear in the nodes that there is room for, times the calls. Fails if out of memory.
     pub fn reached(&self, calls: &[C]) -> Result<Vec<&K>, AllocError>
         ensures all { IfOk result (λ keys. All (λ e. IsTrue (asks_one C.eq calls.now e.path)
             → Any (λ k. IsTrue (K.eq e.key k.now)) keys.items) self.now) }

@@ -1,9 +1,9 @@
 //! A list of requests, and what became of each.
 
-use crate::requests::{Event, Request, answer_all};
 use comemo::{CacheData, How};
 use comemo_examples::Town;
 use comemo_examples::warmth::Warmth;
+use comemo_theorems::requests::{Event, Request, answer_all};
 use std::alloc::{AllocError, Global};
 
 /// A call of the warmth of a town with so many people.
@@ -17,7 +17,7 @@ fn call(people: u64) -> Request<(), Town> {
     }
 }
 
-/// Whether a call returned the degrees of the town, and ended so.
+/// Whether a call returned the degrees of the town, with this end.
 fn ended(event: Option<&Event<u64>>, how: How) -> bool {
     match event {
         Some(Event::Replied(reply)) => reply.output == 21 && reply.how == how,

@@ -1,0 +1,5 @@
+//! Tests of the requests that the theorems are about.
+#![tactic(auto)]
+
+#[cfg(test)]
+mod sessions;
