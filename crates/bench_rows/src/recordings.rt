@@ -75,6 +75,40 @@ fn what_is_absorbed_comes_after(alloc: Global, tally: &mut Tally, own_write: Opt
     tally.hold(rest.next().is_none());
 }
 
+/// Records reads with these numbers. Returns how many the recording took.
+fn record_reads(
+    recording: &mut Constraint<Numbered, u64>,
+    tally: &mut Tally,
+    numbers: &[u8],
+) -> usize {
+    let mut count: usize = 0;
+    for number in numbers {
+        if recording.emit(read(*number), Some(1)).is_ok() {
+            count = count.saturating_add(1);
+        } else {
+            tally.refuse();
+        }
+    }
+    count
+}
+
+/// Checks that a recording that has no room for the reads of another grows by them. If it can't, it is incomplete, and
+/// else unchanged.
+fn what_is_absorbed_finds_room(alloc: Global, tally: &mut Tally) {
+    let mut left = Constraint::new(alloc);
+    let own = record_reads(&mut left, tally, b"abcdefgh");
+    let mut right = Constraint::new(alloc);
+    let other = record_reads(&mut right, tally, b"ijklmnop");
+    let is_absorbed = left.absorb(right).is_ok();
+    if !is_absorbed {
+        tally.refuse();
+    }
+    tally.hold(left.is_whole() == is_absorbed);
+    let (reads, _) = left.into_parts();
+    let held = if is_absorbed { other } else { 0 };
+    tally.hold(reads.slots().len() == own.saturating_add(held));
+}
+
 /// Checks that a recording of a location is valid only there, and an empty one everywhere.
 fn recordings_hold_where_answers_are_the_same(alloc: Global, tally: &mut Tally) {
     let [here, there] = [0, 1].map(|location| Context {
@@ -99,6 +133,7 @@ pub(crate) fn recordings_absorb_and_hold(alloc: Global) -> Result<bool, Broken> 
     what_is_absorbed_comes_after(alloc, &mut tally, Some(b'1'));
     // There is no room for its writes yet.
     what_is_absorbed_comes_after(alloc, &mut tally, None);
+    what_is_absorbed_finds_room(alloc, &mut tally);
     recordings_hold_where_answers_are_the_same(alloc, &mut tally);
     tally.came_to()
 }

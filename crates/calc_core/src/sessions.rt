@@ -25,6 +25,7 @@ pub mod program;
 pub mod state;
 
 use crate::commands::{Answer, Command};
+pub use calc_lines::RunFault;
 pub use program::{run, start};
 pub use state::State;
 use std::alloc::{AllocError, Global};

@@ -1,7 +1,6 @@
 //! Lines that nobody would write: random bytes, very long lines, and files that refer to each other in a circle.
 
-use calc_core::sessions::run;
-use calc_lines::RunFault;
+use calc_core::sessions::{RunFault, run};
 use std::alloc::{AllocError, Global};
 
 /// Pseudorandom numbers from a seed.
