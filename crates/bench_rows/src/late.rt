@@ -1,13 +1,14 @@
 //! The row of runs that read before or after they wrote.
 
 use crate::broken::Broken;
+use comemo::internal::Shared;
 use comemo::{BothMut, Cache, CacheData, Fault, Hold, How, Top, memoized_mut, memoized_mut_with};
 use comemo_examples::Counter;
-use comemo_examples::late::{AddsAndGets, Bump, Readback, Twice};
+use comemo_examples::late::{AddsAndGets, Bump, Bumps, Readback, Twice};
 use std::alloc::Global;
 use std::sync::Wait;
 
-/// Whether a call of `Bump` has this result, and adds 3.
+/// Whether a call of `Bump` has this result, adds 3, and runs unless it is a hit.
 fn bumps<H: Hold<Bump>>(
     alloc: Global,
     cache: &mut H,
@@ -15,8 +16,11 @@ fn bumps<H: Hold<Bump>>(
     how: How,
 ) -> Result<bool, Fault> {
     let number = counter.number;
-    let reply = memoized_mut(alloc, cache, 3, counter)?;
-    Ok(reply.how == how && reply.output == number && counter.number == number.wrapping_add(3))
+    let mut runs = 0;
+    let reply = memoized_mut_with(alloc, cache, &mut runs, 3, counter, &mut Top::new(), true)?;
+    let is_counted = runs == u64::from(how != How::Hit);
+    let is_added = counter.number == number.wrapping_add(3);
+    Ok(reply.how == how && reply.output == number && is_counted && is_added)
 }
 
 /// Whether a call of `Readback` on a new counter is late.
@@ -26,15 +30,17 @@ fn reads_back<H: Hold<Readback>>(alloc: Global, cache: &mut H) -> Result<bool, F
     Ok(reply.how == How::Late && reply.output == 3 && counter.number == 3)
 }
 
-/// Whether a call of `Twice` on a new counter is late.
+/// Whether a call of `Twice` on a new counter is late, and both of its calls of `Bump` are hits: `Bump` does not run.
 fn bumps_twice<B: Hold<Bump>, H: Hold<Twice<B>>>(
     alloc: Global,
     cache: &mut H,
-    bumps: &mut B,
+    bumps: &mut Bumps<B>,
 ) -> Result<bool, Fault> {
+    bumps.runs = 0;
     let mut counter = Counter { number: 0 };
     let reply = memoized_mut_with(alloc, cache, bumps, 3, &mut counter, &mut Top::new(), true)?;
-    Ok(reply.how == How::Late && reply.output == 3 && counter.number == 6)
+    let is_late = reply.how == How::Late && reply.output == 3;
+    Ok(is_late && bumps.runs == 0 && counter.number == 6)
 }
 
 /// Whether a call that adds to one counter and reads another is stored.
@@ -76,13 +82,17 @@ where
 
 /// Whether runs that read what they wrote are late, and others are stored, in caches of one owner.
 fn late_runs_are_not_kept(alloc: Global) -> Result<bool, Fault> {
-    let mut bump: CacheData<Bump> = CacheData::new(alloc);
+    let mut bumps = Bumps {
+        cache: CacheData::new(alloc),
+        runs: 0,
+    };
     let mut readback = CacheData::new(alloc);
     let mut twice = CacheData::new(alloc);
     let mut adding = CacheData::new(alloc);
-    let came = calls_come_to_that(alloc, &mut bump, &mut readback, &mut adding)?
-        && bumps_twice(alloc, &mut twice, &mut bump)?;
-    Ok(came && bump.len() == 2 && readback.len() == 0 && twice.len() == 0 && adding.len() == 1)
+    let came = calls_come_to_that(alloc, &mut bumps.cache, &mut readback, &mut adding)?
+        && bumps_twice(alloc, &mut twice, &mut bumps)?;
+    let lens = [bumps.cache.len(), readback.len(), twice.len(), adding.len()];
+    Ok(came && lens == [2, 0, 0, 1])
 }
 
 /// The same through shares of caches.
@@ -99,20 +109,18 @@ fn come_to_that_through_shares<'x, W: Wait>(
     calls_come_to_that(alloc, bump, readback, adding)
 }
 
-/// Whether a call of `Twice` is late through a share of its cache, with both of its calls of `Bump` cached.
-fn bumps_twice_through_a_share<'x, W: Wait>(
+/// Whether a call of `Twice` is late through shares, with both of its calls of `Bump` cached.
+fn bumps_twice_through_shares<'x, W: Wait>(
     rt: &'x W,
     alloc: Global,
-    twice: &'x Cache<Twice<CacheData<Bump>>>,
+    bump: &'x Cache<Bump>,
+    twice: &Cache<Twice<Shared<'x, Bump, W>>>,
 ) -> Result<bool, Fault> {
-    let mut bump: CacheData<Bump> = CacheData::new(alloc);
-    let mut counter = Counter { number: 0 };
-    let twice = &mut twice.hold(rt);
-    Ok(
-        bumps(alloc, &mut bump, &mut counter, How::Stored)?
-            && bumps(alloc, &mut bump, &mut counter, How::Stored)?
-            && bumps_twice(alloc, twice, &mut bump)?,
-    )
+    let mut bumps = Bumps {
+        cache: bump.hold(rt),
+        runs: 0,
+    };
+    bumps_twice(alloc, &mut twice.hold(rt), &mut bumps)
 }
 
 /// Whether runs that read what they wrote are late, in caches of both kinds.
@@ -124,6 +132,6 @@ pub(crate) fn late_runs<W: Wait>(rt: &W, alloc: Global) -> Result<bool, Broken> 
     Ok(
         late_runs_are_not_kept(alloc)?
             && come_to_that_through_shares(rt, alloc, &bump, &readback, &adding)?
-            && bumps_twice_through_a_share(rt, alloc, &twice)?,
+            && bumps_twice_through_shares(rt, alloc, &bump, &twice)?,
     )
 }

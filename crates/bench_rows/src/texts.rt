@@ -4,7 +4,7 @@ use crate::broken::Broken;
 use crate::calls::{call, gives, gives_text};
 use comemo::{CacheData, How, Top, memoized_with};
 use comemo_examples::greetings::{Greeting, SaysHello, World};
-use comemo_examples::kinds::{IsLong, Selfie, Text};
+use comemo_examples::kinds::{LongOrShort, Selfie, Text};
 use comemo_examples::loader::{Contents, Library, Loader};
 use comemo_examples::numbers::SumBelow;
 use comemo_examples::texts::Same;
@@ -21,19 +21,22 @@ fn says_itself(alloc: Global, cache: &mut CacheData<Selfie>, text: &str, how: Ho
     }
 }
 
-/// Whether a text is called long or not (long: its length and five exceed ten), and the call came about like this.
+/// Whether a text's call returns this word for its length, and came about like this.
 fn is_called(
     alloc: Global,
-    cache: &mut CacheData<IsLong>,
+    cache: &mut CacheData<LongOrShort>,
     text: &str,
-    long: bool,
+    word: &str,
     how: How,
 ) -> bool {
     let Ok(own) = String::from_str(alloc, text) else {
         return false;
     };
-    match call(alloc, cache, (), &Text { text: own }) {
-        Ok(reply) => gives(reply, long, how),
+    let text = Text { text: own };
+    let mut needs = alloc;
+    let sink = &mut Top::new();
+    match memoized_with(alloc, cache, &mut needs, (), &text, sink, true) {
+        Ok(reply) => gives_text(reply, word, how),
         Err(_) => false,
     }
 }
@@ -41,14 +44,14 @@ fn is_called(
 /// Whether a text answers two kinds of questions, each for its own function.
 pub(crate) fn two_kinds_of_questions(alloc: Global) -> Result<bool, Broken> {
     let mut selfies: CacheData<Selfie> = CacheData::new(alloc);
-    let mut lengths: CacheData<IsLong> = CacheData::new(alloc);
+    let mut lengths: CacheData<LongOrShort> = CacheData::new(alloc);
     let first = says_itself(alloc, &mut selfies, "Hi", How::Stored);
-    let stored = is_called(alloc, &mut lengths, "Hi", false, How::Stored);
-    let hit = is_called(alloc, &mut lengths, "Hi", false, How::Hit);
+    let stored = is_called(alloc, &mut lengths, "Hi", "Short", How::Stored);
+    let hit = is_called(alloc, &mut lengths, "Hi", "Short", How::Hit);
     let again = says_itself(alloc, &mut selfies, "Hi", How::Hit);
     let other = says_itself(alloc, &mut selfies, "Hi!", How::Stored);
-    let short = is_called(alloc, &mut lengths, "Hi!", false, How::Stored);
-    let long = is_called(alloc, &mut lengths, "Hi! Let's go.", true, How::Stored);
+    let short = is_called(alloc, &mut lengths, "Hi!", "Short", How::Stored);
+    let long = is_called(alloc, &mut lengths, "Hi! Let's go.", "Long", How::Stored);
     Ok(first && stored && hit && again && other && short && long)
 }
 

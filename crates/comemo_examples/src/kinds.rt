@@ -1,11 +1,11 @@
 //! A tracked text with two kinds of questions, of which one has an argument, and a function for each.
-ghost use Rattle.std.specs.Prelude.{◌≡◌, false, nat_lt, string_bytes};
+ghost use Rattle.std.specs.Prelude.{◌≡◌, codes, cond, false, nat_lt, string_bytes};
 ghost use Rattle.std.proofs.Common.{rules};
 ghost use Rattle.comemo_examples.specs.Kinds.{text_in, length_in};
 ghost use Rattle.comemo_examples.specs.declared.kinds.TextCall.TheVariants.{Itself, LengthPlus};
 
 use comemo::{Answer, Call, Fault, Function, Recorder, Run, Track};
-use std::alloc::AllocError;
+use std::alloc::{AllocError, Global};
 
 /// What can be asked of a text.
 #[derive(Clone, Copy, Drop, Debug, PartialEq, Eq, Hash)]
@@ -102,29 +102,32 @@ impl Run<Text, ()> for Selfie {
     }
 }
 
-/// Whether a text is long: whether its length in bytes plus 5 exceeds 10. Asks for that sum alone.
-pub struct IsLong;
+/// `Long` if a text's length in bytes plus 5 exceeds 10, otherwise `Short`. Asks for that sum alone, and needs an
+/// allocator.
+pub struct LongOrShort;
 
-impl Function for IsLong {
+impl Function for LongOrShort {
     type Key = ();
 
     type Call = TextCall;
 
     type Answer = TextAnswer;
 
-    type Out = bool;
+    type Out = String;
 
-    ghost means = { λ _ m out. out ≡ nat_lt 10 (length_in (m (LengthPlus 5))) };
+    ghost means = { λ _ m out. string_bytes out
+        ≡ cond (nat_lt 10 (length_in (m (LengthPlus 5)))) (codes "Long") (codes "Short") };
 
     ghost laws = { Prim.search rules };
 }
 
-impl Run<Text, ()> for IsLong {
-    fn run(_: &(), text: &mut Recorder<'_, Text>, _: &mut ()) -> Result<bool, Fault> {
+impl Run<Text, Global> for LongOrShort {
+    fn run(_: &(), text: &mut Recorder<'_, Text>, alloc: &mut Global) -> Result<String, Fault> {
         // The answer to this question is a length, so the other branch does not occur.
         let TextAnswer::Length(length) = text.ask(TextCall::LengthPlus(5))? else {
             unreachable!();
         };
-        Ok(length > 10)
+        let word = if length > 10 { "Long" } else { "Short" };
+        Ok(String::from_str(*alloc, word)?)
     }
 }

@@ -9,7 +9,7 @@ use crate::{Counter, CounterCall};
 use comemo::{BothMut, Fault, Function, Hold, MultiAnswer, MultiCall, RecorderMut, RunMut};
 use std::marker::PhantomData;
 
-/// Returns a counter's number, and then adds to it.
+/// Returns a counter's number, and then adds to it. What it needs is the number of its runs, which each run raises.
 pub struct Bump;
 
 impl Function for Bump {
@@ -28,11 +28,16 @@ impl Function for Bump {
     ghost laws = { exact_laws (Prim.search rules) };
 }
 
-impl RunMut<Counter, ()> for Bump {
+impl RunMut<Counter, u64> for Bump {
     // it asks first
     ghost late = { λ _. ⊥ };
 
-    fn run(k: &u64, counter: &mut RecorderMut<'_, '_, Counter>, _: &mut ()) -> Result<u64, Fault> {
+    fn run(
+        k: &u64,
+        counter: &mut RecorderMut<'_, '_, Counter>,
+        runs: &mut u64,
+    ) -> Result<u64, Fault> {
+        *runs = runs.wrapping_add(1);
         let number = counter.ask(CounterCall::Get)?;
         counter.write(CounterCall::Add(*k))?;
         Ok(number)
@@ -66,6 +71,15 @@ impl RunMut<Counter, ()> for Readback {
     }
 }
 
+/// What a run of `Twice` needs.
+#[derive(Drop)]
+pub struct Bumps<H> {
+    /// The cache of `Bump`.
+    pub cache: H,
+    /// The number of runs of `Bump`.
+    pub runs: u64,
+}
+
 /// Calls `Bump` twice, through a cache `H`. Returns the sum of both outputs.
 pub struct Twice<H> {
     held: PhantomData<H>,
@@ -87,14 +101,14 @@ impl<H: Hold<Bump>> Function for Twice<H> {
     ghost laws = { exact_laws (Prim.search rules) };
 }
 
-impl<H: Hold<Bump>> RunMut<Counter, H> for Twice<H> {
+impl<H: Hold<Bump>> RunMut<Counter, Bumps<H>> for Twice<H> {
     fn run(
         k: &u64,
         counter: &mut RecorderMut<'_, '_, Counter>,
-        kept: &mut H,
+        bumps: &mut Bumps<H>,
     ) -> Result<u64, Fault> {
-        let first = counter.call_mut(kept, &mut (), *k)?;
-        let second = counter.call_mut(kept, &mut (), *k)?;
+        let first = counter.call_mut(&mut bumps.cache, &mut bumps.runs, *k)?;
+        let second = counter.call_mut(&mut bumps.cache, &mut bumps.runs, *k)?;
         Ok(first.wrapping_add(second))
     }
 }

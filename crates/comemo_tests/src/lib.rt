@@ -9,6 +9,8 @@ mod closures;
 #[cfg(test)]
 mod contents;
 #[cfg(test)]
+mod counted;
+#[cfg(test)]
 mod examples;
 #[cfg(test)]
 mod faults;

@@ -1,26 +1,48 @@
 //! Branches of one run, each in a thread with its own recording and view.
 
-use comemo::{Constraint, Fault, Track, View};
+use crate::workers::gate::{Gate, InTurn, TURNS};
+use comemo::{Constraint, Fault, Track, Tracked};
 use comemo_examples::{Cells, Get};
 use std::alloc::{AllocError, Global};
+use std::rt::Clock;
+use std::sync::atomic::AtomicUsize;
 use std::thread::{Threads, join};
 
-/// The recording of a branch that asks for two places.
-fn branch(
+/// The recording of a branch that asks for two places; `None` if the gate before its end didn't open.
+fn branch<G: Gate>(
     alloc: Global,
-    view: &View<'_, Cells>,
+    of: &Tracked<'_, Cells>,
     places: [u32; 2],
-) -> Result<Constraint<Get, u64>, AllocError> {
-    let mut view = view.fork(alloc);
+    gate: &G,
+) -> Result<Option<Constraint<Get, u64>>, AllocError> {
+    let mut fork = of.fork(alloc);
     let mut recording = Constraint::new(alloc);
     for place in places {
-        view.ask(Get { place }, &mut recording)?;
+        fork.ask(Get { place }, &mut recording)?;
     }
-    Ok(recording)
+    if !gate.reach(2) {
+        return Ok(None);
+    }
+    Ok(Some(recording))
 }
 
-/// Whether a run's recording has its left branch's questions first, and each once, whichever branch ended first.
-pub fn branches_are_absorbed_in_order<R: Threads + Sync>(
+/// Whether a recording has the places 0, 1 and 2 in this order, each once, and with the next number as its answer.
+fn has_each_place_once(recording: Constraint<Get, u64>) -> bool {
+    let (mut pairs, _) = recording.into_parts();
+    for wanted in 0..3 {
+        let Some((call, answer)) = pairs.next() else {
+            return false;
+        };
+        if call.place != wanted || answer != u64::from(wanted) + 1 {
+            return false;
+        }
+    }
+    pairs.next().is_none()
+}
+
+/// Whether a run's recording has its left branch's questions first, and each once, both if its left branch ends first
+/// and if its right one does.
+pub fn branches_are_absorbed_in_order<R: Threads + Clock + Sync>(
     rt: &R,
     alloc: Global,
 ) -> Result<bool, Fault> {
@@ -28,22 +50,24 @@ pub fn branches_are_absorbed_in_order<R: Threads + Sync>(
     for place in 0..3 {
         cells.set(place, place as u64 + 1);
     }
-    let view = cells.view(alloc);
-    let (left, right) = join(
-        rt,
-        || branch(alloc, &view, [0, 1]),
-        || branch(alloc, &view, [1, 2]),
-    );
-    let mut run = left?;
-    run.absorb(right?)?;
-    let (mut pairs, _) = run.into_parts();
-    for wanted in 0..3 {
-        let Some((call, answer)) = pairs.next() else {
+    let of = cells.track(alloc);
+    // How many branches end before the left one, and before the right one.
+    for (before_left, before_right) in [(0, 1), (1, 0)] {
+        let ended = AtomicUsize::new(0);
+        let left_gate = InTurn::new(rt, before_left, TURNS, &ended);
+        let right_gate = InTurn::new(rt, before_right, TURNS, &ended);
+        let (left, right) = join(
+            rt,
+            || branch(alloc, &of, [0, 1], &left_gate),
+            || branch(alloc, &of, [1, 2], &right_gate),
+        );
+        let (Some(mut run), Some(right)) = (left?, right?) else {
             return Ok(false);
         };
-        if call.place != wanted || answer != u64::from(wanted) + 1 {
+        run.absorb(right)?;
+        if !has_each_place_once(run) {
             return Ok(false);
         }
     }
-    Ok(pairs.next().is_none())
+    Ok(true)
 }

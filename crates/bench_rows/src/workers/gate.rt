@@ -24,8 +24,18 @@ impl Gate for Open {
 /// How many turns a worker of a row waits for others.
 pub const TURNS: u32 = 10_000;
 
-/// A gate whose place 1 opens once this many workers reached it. Its other places are open. A turn of waiting is a
-/// sleep of one millisecond.
+/// Whether a count comes to a number within so many turns. A turn of waiting is a sleep of one millisecond.
+fn comes_to<R: Clock>(rt: &R, count: &AtomicUsize, number: usize, turns: u32) -> bool {
+    for _ in 0..turns {
+        if count.load(Ordering::SeqCst) >= number {
+            return true;
+        }
+        let _ = thread::sleep(rt, Duration::from_millis(1));
+    }
+    false
+}
+
+/// A gate whose place 1 opens once this many workers reached it. Its other places are open.
 #[derive(Drop)]
 pub struct Meeting<'a, R: Clock> {
     rt: &'a R,
@@ -52,12 +62,41 @@ impl<R: Clock> Gate for Meeting<'_, R> {
             return true;
         }
         self.come.fetch_add(1, Ordering::SeqCst);
-        for _ in 0..self.turns {
-            if self.come.load(Ordering::SeqCst) >= self.wanted {
-                return true;
-            }
-            let _ = thread::sleep(self.rt, Duration::from_millis(1));
+        comes_to(self.rt, &self.come, self.wanted, self.turns)
+    }
+}
+
+/// A worker's own gate, whose place 2 opens once this many others passed theirs. Its other places are open.
+#[derive(Drop)]
+pub struct InTurn<'a, R: Clock> {
+    rt: &'a R,
+    before: usize,
+    turns: u32,
+    passed: &'a AtomicUsize,
+}
+
+impl<'a, R: Clock> InTurn<'a, R> {
+    /// A gate for a worker that comes after so many others, and waits at most this many turns. All of these workers
+    /// count in one number how many passed. Does not allocate.
+    pub fn new(rt: &'a R, before: usize, turns: u32, passed: &'a AtomicUsize) -> Self {
+        InTurn {
+            rt,
+            before,
+            turns,
+            passed,
         }
-        false
+    }
+}
+
+impl<R: Clock> Gate for InTurn<'_, R> {
+    fn reach(&self, place: u32) -> bool {
+        if place != 2 {
+            return true;
+        }
+        let is_open = comes_to(self.rt, self.passed, self.before, self.turns);
+        if is_open {
+            self.passed.fetch_add(1, Ordering::SeqCst);
+        }
+        is_open
     }
 }
