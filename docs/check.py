@@ -7,7 +7,7 @@
   original's items, and are left out.
 - docs/ARCHITECTURE.md names each crate of crates.txt, and no crate or module names in its code what the table of layers there forbids.
 - Each module of a crate has a comment at its head.
-- Each crates/NAME/must-fail/README.md lists the edits of its folder, all and no others.
+- Each README.md of crates/NAME/must-fail and crates/NAME/planted lists the edits of its folder, all and no others.
 - No crate but those named `*_tests`, and the small `weather`, has a test, not even in a comment: `rt` would prove it
   twice.
 - Each line of code that README.md, docs/GUIDE.md and docs/BY_HAND.md quote stands in a file of crates/, laid out so or otherwise, and each
@@ -141,7 +141,7 @@ def check_path(where, text, at):
     first = text.partition("/")[0]
     if first in ELSEWHERE:
         return
-    if first in ("src", "specs", "proofs", "must-fail") and at is None:
+    if first in ("src", "specs", "proofs", "must-fail", "planted") and at is None:
         if "." in text:
             say(where, f"{text} names no crate")
         return
@@ -153,7 +153,8 @@ def check_path(where, text, at):
 
 def check_document(path):
     where, text = name_of(path), read(path)
-    at = path.parent.parent.name if path.parent.name == "must-fail" else None
+    folder = path.parent.name if path.parent.name in ("must-fail", "planted") else None
+    at = path.parent.parent.name if folder else None
     for link in re.findall(r"\]\(([^)#:]+)\)", text):
         paths.add(link)
         if not (path.parent / link).exists():
@@ -173,7 +174,7 @@ def check_document(path):
             if not (ROOT / code).is_file() and not (path.parent / code).is_file():
                 say(where, f"{code} is named without its folder")
         elif re.fullmatch(r"[a-z]\w*\.[a-z0-9]+(_[a-z0-9]+)+", code):
-            if not any(ROOT.glob(f"crates/{at or '*'}/must-fail/{code}.edit")):
+            if not any(ROOT.glob(f"crates/{at or '*'}/{folder or 'must-fail'}/{code}.edit")):
                 say(where, f"no edit {code}")
     for word in re.findall(r"(?<![\w/.])docs/[\w./-]*\w", text):
         check_path(where, word, None)
@@ -266,7 +267,7 @@ def check_edit(edit):
 
 
 def check_edits():
-    edits = sorted(ROOT.glob("crates/*/must-fail/*.edit"))
+    edits = sorted([*ROOT.glob("crates/*/must-fail/*.edit"), *ROOT.glob("crates/*/planted/*.edit")])
     for folder in sorted({edit.parent for edit in edits}):
         list_of = folder / "README.md"
         if not list_of.is_file():
@@ -321,7 +322,7 @@ def check_quotes():
 
 
 def main():
-    documents = [ROOT / "README.md", *sorted(ROOT.glob("docs/*.md")), *sorted(ROOT.glob("crates/*/must-fail/README.md"))]
+    documents = [ROOT / "README.md", *sorted(ROOT.glob("docs/*.md")), *sorted(ROOT.glob("crates/*/must-fail/README.md")), *sorted(ROOT.glob("crates/*/planted/README.md"))]
     for document in documents:
         check_document(document)
     check_crates()
