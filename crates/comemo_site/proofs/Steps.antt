@@ -17,9 +17,9 @@ use Rattle.comemo_site.specs.declared.site.SiteAnswer.{SiteAnswer}
 pub printed : {right written : (SiteCall → SiteAnswer) → Type 0} (m : MultiCall SiteCall Warning → MultiAnswer SiteAnswer ⊤) → OnSite m (λ site. right site × written site) → OnSite m written × OnSite m right
 printed m both = (λ site p. (both site p).1, λ site p. (both site p).0)
 
-module _ {V : Type 0} {did : V → V → List (MultiCall SiteCall Warning) → Type 0} {touches : MultiCall SiteCall Warning → MultiCall SiteCall Warning → Bool} {same : MultiAnswer SiteAnswer ⊤ → MultiAnswer SiteAnswer ⊤ → Bool} {answers : V → MultiCall SiteCall Warning → MultiAnswer SiteAnswer ⊤} {fits : Recording (MultiCall SiteCall Warning) (MultiAnswer SiteAnswer ⊤) → (MultiCall SiteCall Warning → MultiAnswer SiteAnswer ⊤) → Type 0} {s t u : Lent V (MultiCall SiteCall Warning) (MultiAnswer SiteAnswer ⊤)} where
+module _ {V : Type 0} {did : V → V → List (MultiCall SiteCall Warning) → Type 0} {eq touches : MultiCall SiteCall Warning → MultiCall SiteCall Warning → Bool} {same : MultiAnswer SiteAnswer ⊤ → MultiAnswer SiteAnswer ⊤ → Bool} {answers : V → MultiCall SiteCall Warning → MultiAnswer SiteAnswer ⊤} {fits : Recording (MultiCall SiteCall Warning) (MultiAnswer SiteAnswer ⊤) → (MultiCall SiteCall Warning → MultiAnswer SiteAnswer ⊤) → Type 0} {s t u : Lent V (MultiCall SiteCall Warning) (MultiAnswer SiteAnswer ⊤)} where
   -- the texts of two steps are joined, and so are their warnings
-  pub printed_both : {x y : List ℕ} {a b : (SiteCall → SiteAnswer) → List ℕ} (U W : (SiteCall → SiteAnswer) → List Warning) → TellsWrites (Goes did touches same answers) fits s t (Ok x) (IsPrinted a U) → TellsWrites (Goes did touches same answers) fits t u (Ok y) (IsPrinted b W) → TellsWrites (Goes did touches same answers) fits s u (Ok (x ++ y)) (IsPrinted (λ site. a site ++ b site) (λ site. U site ++ W site))
+  pub printed_both : {x y : List ℕ} {a b : (SiteCall → SiteAnswer) → List ℕ} (U W : (SiteCall → SiteAnswer) → List Warning) → TellsWrites (Goes did eq touches same answers) fits s t (Ok x) (IsPrinted a U) → TellsWrites (Goes did eq touches same answers) fits t u (Ok y) (IsPrinted b W) → TellsWrites (Goes did eq touches same answers) fits s u (Ok (x ++ y)) (IsPrinted (λ site. a site ++ b site) (λ site. U site ++ W site))
   printed_both U W one two = record {
     goes = goes_both one.goes two.goes;
     before = λ m f. one.before m (two.before m f);
