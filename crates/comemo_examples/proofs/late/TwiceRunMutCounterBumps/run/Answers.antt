@@ -1,5 +1,5 @@
 use Rattle.std.proofs.Common.{refl}
-use Rattle.comemo_examples.proofs.late.TwiceRunMutCounter.run.Goals as goal
+use Rattle.comemo_examples.proofs.late.TwiceRunMutCounterBumps.run.Goals as goal
 
 pub returns-clause-right : goal.returns-clause-right
 returns-clause-right g c = λ m f.
