@@ -195,7 +195,7 @@ module _ {K C R O : Type 0} {M : Meaning K C R O} {es : Entries K C R O} {call :
               pairs = t.pairs;
               writes = t.writes;
               is_late = done.late.1 late;
-              touching = touching late;
+              touching = touching.touching late;
               none = is.none;
               gives = record { given = gives.given; alike = gives.alike; agreeing = gives.agreeing; are_sent = (gives.are_sent, subst (λ v. did i v t.writes) (sym e) d) };
               same = ended_late M mid es' (run begun.key t.pairs output t.writes) (done.late.1 late) done.ends;

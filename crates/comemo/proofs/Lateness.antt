@@ -44,7 +44,7 @@ never_late eq touches none false W P by = refl
 
 -- so it stays early, whatever a recorder does
 pub still_early : {V C R : Type 0} {did : V → V → List C → Type 0} {eq touches : C → C → Bool} {same : R → R → Bool} {answers : V → C → R} {s t : Lent V C R} → Goes did eq touches same answers s t → NoneTouches touches → s.recording.now.late ≡ false → t.recording.now.complete ≡ true → t.recording.now.late ≡ false
-still_early {eq = eq} {touches} {t = t} goes none early complete = never_late eq touches none t.recording.now.late t.recording.now.writes t.recording.now.pairs (goes.late complete (λ late. let no : false ≡ true = sym early ∙ late in cc))
+still_early {eq = eq} {touches} {t = t} goes none early complete = never_late eq touches none t.recording.now.late t.recording.now.writes t.recording.now.pairs (goes.late complete (record { touching = λ late. let no : false ≡ true = sym early ∙ late in cc })).touching
 
 module _ {C R : Type 0} {eq : C → C → Bool} (calls : IsEquivalence eq) where
   held_first : (q : C × R) (P : List (C × R)) → held eq (q ∷ P) q.0 ≡ true
@@ -99,19 +99,20 @@ module _ {C R : Type 0} {eq : C → C → Bool} (calls : IsEquivalence eq) where
     module _ {s t : Recording C R} (P : List (C × R)) (W : List C) where
       -- a recording that took reads and writes
       pub took_late : Took eq touches s t P W → IsLateByTouch eq touches s → IsLateByTouch eq touches t
-      took_late took before late =
-          elim (cases_Bool s.late) [
-            | inl e ↦
-                let k = before e in
-                (k.0, subst (λ ps. held eq ps k.0 ≡ true) (sym took.pairs) (held-absorbed eq s.pairs P k.0 k.1), subst (λ ws. touched_by touches ws k.0 ≡ true) (sym took.writes) (touched_before touches s.writes W k.0 k.2))
-            | inr e ↦
-                let k = touched_read s.writes P (sym (ap (λ b. b || touched touches s.writes P) e) ∙ sym took.late ∙ late) in
-                (k.0, subst (λ ps. held eq ps k.0 ≡ true) (sym took.pairs) (held_given s.pairs P k.0 k.1), subst (λ ws. touched_by touches ws k.0 ≡ true) (sym took.writes) (touched_before touches s.writes W k.0 k.2))
-          ]
+      took_late took before = record {
+        touching = λ late. elim (cases_Bool s.late) [
+          | inl e ↦
+              let k = before.touching e in
+              (k.0, subst (λ ps. held eq ps k.0 ≡ true) (sym took.pairs) (held-absorbed eq s.pairs P k.0 k.1), subst (λ ws. touched_by touches ws k.0 ≡ true) (sym took.writes) (touched_before touches s.writes W k.0 k.2))
+          | inr e ↦
+              let k = touched_read s.writes P (sym (ap (λ b. b || touched touches s.writes P) e) ∙ sym took.late ∙ late) in
+              (k.0, subst (λ ps. held eq ps k.0 ≡ true) (sym took.pairs) (held_given s.pairs P k.0 k.1), subst (λ ws. touched_by touches ws k.0 ≡ true) (sym took.writes) (touched_before touches s.writes W k.0 k.2))
+        ];
+      }
 
       -- a recording that took those of a late run
       pub marked_late : TookAs (Took eq touches) MarkedLate true s t P W → TouchesHeld eq touches W P → IsLateByTouch eq touches t
-      marked_late took k late = (k.0, subst (λ ps. held eq ps k.0 ≡ true) (sym (took.2.pairs ∙ took.1.pairs)) (held_given s.pairs P k.0 k.1), subst (λ ws. touched_by touches ws k.0 ≡ true) (sym (took.2.writes ∙ took.1.writes)) (touched_after touches s.writes W k.0 k.2))
+      marked_late took k = record { touching = λ late. (k.0, subst (λ ps. held eq ps k.0 ≡ true) (sym (took.2.pairs ∙ took.1.pairs)) (held_given s.pairs P k.0 k.1), subst (λ ws. touched_by touches ws k.0 ≡ true) (sym (took.2.writes ∙ took.1.writes)) (touched_after touches s.writes W k.0 k.2)) }
 
 -- what is touched in a part is touched in the whole
 module _ {C D R Q : Type 0} (eq touching : C → C → Bool) (eqd touches : D → D → Bool) (f : C → D) (g : R → Q) (apart : (x y : C) → eqd (f x) (f y) ≡ eq x y) (same_touch : (x y : C) → touches (f x) (f y) ≡ touching x y) where

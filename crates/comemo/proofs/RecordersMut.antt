@@ -211,7 +211,7 @@ module _ {V C R : Type 0} (wrote : V → C → V → Type 0) (w : C → Bool) {e
 
   pub ran_late : s.recording.now.late ≡ false → (ps : List (C × R)) (ws : List C) (complete late : Bool) → ps ≡ t.recording.now.pairs → ws ≡ t.recording.now.writes → complete ≡ t.recording.now.complete → late ≡ t.recording.now.late → complete ≡ true → late ≡ true → TouchesHeld eq touches ws ps
   ran_late l ps ws complete late e f a b w is =
-      let k = goes.late (sym a ∙ w) (λ was. let no : false ≡ true = sym l ∙ was in cc) (sym b ∙ is) in
+      let k = (goes.late (sym a ∙ w) (record { touching = λ was. let no : false ≡ true = sym l ∙ was in cc })).touching (sym b ∙ is) in
       subst (λ x. TouchesHeld eq touches x ps) (sym f) (subst (λ x. TouchesHeld eq touches t.recording.now.writes x) (sym e) k)
 
 module _ {V C R : Type 0} {did : V → V → List C → Type 0} {eq touches : C → C → Bool} {same : R → R → Bool} {answers : V → C → R} where

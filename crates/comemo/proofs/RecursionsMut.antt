@@ -192,7 +192,7 @@ module _ {V K C R O : Type 0} (M : Meaning K C R O) (calls : IsEquivalence M.sam
     late_begun = has_begun_late wrote w touches M.same_answer answers calls laws alike s u marked.given t.recording.now.writes marked.are_sent did within.agreed
 
     late_tells : (output : O) {Q : O → (C → R) → List C → Type 0} → TellsWrites (Goes (Done wrote w touches M.same_answer answers) M.same_call touches M.same_answer answers) (Fits M.same_call M.same_answer) s u (Ok output) Q
-    late_tells output = tells_late wrote w touches M.same_answer answers calls laws alike s u marked.given t.recording.now.writes marked.are_sent did (touches_alike calls touches M.same_answer marked.given t.recording.now.pairs t.recording.now.writes marked.alike (within.late complete late)) same_value place output
+    late_tells output = tells_late wrote w touches M.same_answer answers calls laws alike s u marked.given t.recording.now.writes marked.are_sent did (touches_alike calls touches M.same_answer marked.given t.recording.now.pairs t.recording.now.writes marked.alike ((within.late complete).touching late)) same_value place output
 
   -- a nested run that was finished establishes for the run around it what is right by what it recorded
   pub within_tells : (key : K) (output : O) → ((n : C → R) → Fits M.same_call M.same_answer t.recording.now n → M.right key n output t.recording.now.writes) → TellsWrites (Goes (Done wrote w touches M.same_answer answers) M.same_call touches M.same_answer answers) (Fits M.same_call M.same_answer) s u (Ok output) (λ o n writes. M.right key n o writes)

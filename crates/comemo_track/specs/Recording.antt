@@ -41,8 +41,8 @@ abbrev pub TouchesHeld : {C R : Type 0} → (eq touches : C → C → Bool) → 
 TouchesHeld {C} eq touches W P = (read : C) × (held eq P read ≡ true) × (touched_by touches W read ≡ true)
 
 -- the recording is late only if one of its writes touches one of its reads
-abbrev pub IsLateByTouch : {C R : Type 0} → (eq touches : C → C → Bool) → Recording C R → Type 0
-IsLateByTouch eq touches s = s.late ≡ true → TouchesHeld eq touches s.writes s.pairs
+pub record IsLateByTouch {C R : Type 0} (eq touches : C → C → Bool) (s : Recording C R) : Type 0 where
+  pub touching : s.late ≡ true → TouchesHeld eq touches s.writes s.pairs
 
 -- the answers agree with a proper prefix of the pairs
 abbrev pub AgreesBefore : {C R : Type 0} → (R → R → Bool) → (C → R) → List (C × R) → Type 0

@@ -81,7 +81,7 @@ returns-in-Ok-Run-clause-err g c =
     let run = rw (c.in-Ok-Run.is, c.in-Ok-Run.field-0-is) at c.begin-begun.ensures.run in
     let t = c.run_recorded-ran.result.1 in
     mapped_err (λ e. leads_same (g.H.Hold.entries c.args.cache.now) (g.H.Hold.entries c.end.new.cache) [] _ e.0 (λ es. inl (refl, e.1))) c.end.result (broke_by_run_mut (record { same_call = g.T.Call.PartialEq.eq; same_answer = g.T.Answer.PartialEq.eq; same_key = g.M.Key.PartialEq.eq; is_write = g.T.Call.Call.is_write; is_clone = g.M.Out.Clone.is_clone; right = IsRight g.M.Function.means g.M.Function.writes; naming = g.M.Function.naming }) g.T.Call.Call.touches (g.T.Track.answers c.args.of.now) g.met.T.Call.Eq.laws g.met.T.Answer.Eq.laws (g.met.T.Track.alike c.args.of.now) _ t.pairs t.complete
-    (λ w none. subst (λ v. Agrees g.T.Answer.PartialEq.eq (g.T.Track.answers v) t.pairs) run.1.0 (c.run_recorded-ran.ensures.agrees w (never_late _ _ none t.late t.writes t.pairs (c.run_recorded-ran.ensures.late w))))
+    (λ w none. subst (λ v. Agrees g.T.Answer.PartialEq.eq (g.T.Track.answers v) t.pairs) run.1.0 (c.run_recorded-ran.ensures.agrees w (never_late _ _ none t.late t.writes t.pairs (c.run_recorded-ran.ensures.late w).touching)))
     (λ w. breaks_at_once g.met.S.Sink.starts _ _ [] (rw run.2 at (c.end.ensures.spoils w)))
     _ c.end.result (rw (stayed (g.H.Hold.entries c.args.cache.now) (g.H.Hold.entries c.begin-begun.new.cache) run.3) at (rw run.2 at c.end.ensures.err)))
 
@@ -101,7 +101,7 @@ returns-in-Ok-Run-clause-early g c =
     mapped (λ reply done late.
     let fin = (some_led (g.H.Hold.entries c.begin-begun.new.cache) (g.H.Hold.entries c.end.new.cache) _ done.2).2 in
     let is : t.late ≡ true = fin.late.0 late in
-    (c.run_recorded-ran.ensures.early fin.complete is, λ none. let no : true ≡ false = sym is ∙ never_late _ _ none t.late t.writes t.pairs (c.run_recorded-ran.ensures.late fin.complete) in cc)) c.end.result c.end.ensures.finished
+    (c.run_recorded-ran.ensures.early fin.complete is, λ none. let no : true ≡ false = sym is ∙ never_late _ _ none t.late t.writes t.pairs (c.run_recorded-ran.ensures.late fin.complete).touching in cc)) c.end.result c.end.ensures.finished
 
 pub returns-in-Ok-Hit-clause-needs : goal.returns-in-Ok-Hit-clause-needs
 returns-in-Ok-Hit-clause-needs g c = (inl refl, λ _. refl)

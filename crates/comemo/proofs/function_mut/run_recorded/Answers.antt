@@ -12,7 +12,7 @@ pub returns-clause-done : goal.returns-clause-done
 returns-clause-done g c = ran_did g.T.Track.wrote g.T.Call.Call.is_write g.T.Call.Call.touches g.T.Answer.PartialEq.eq g.T.Track.answers c.run-ran.ensures.goes c.new-recording.ensures.pairs c.new-recording.ensures.writes _ _ _ (search rules) (search rules) (search rules)
 
 pub returns-clause-late : goal.returns-clause-late
-returns-clause-late g c = ran_late g.T.Track.wrote g.T.Call.Call.is_write g.T.Call.Call.touches g.T.Answer.PartialEq.eq g.T.Track.answers c.run-ran.ensures.goes c.new-recording.ensures.pairs c.new-recording.ensures.writes c.new-recording.ensures.late _ _ _ _ (search rules) (search rules) (search rules) (search rules)
+returns-clause-late g c = λ complete. record { touching = ran_late g.T.Track.wrote g.T.Call.Call.is_write g.T.Call.Call.touches g.T.Answer.PartialEq.eq g.T.Track.answers c.run-ran.ensures.goes c.new-recording.ensures.pairs c.new-recording.ensures.writes c.new-recording.ensures.late _ _ _ _ (search rules) (search rules) (search rules) (search rules) complete }
 
 pub returns-clause-reached : goal.returns-clause-reached
 returns-clause-reached g c = search (rules, c.run-ran.ensures.goes.reached c.args.of.now ([], refl))

@@ -43,7 +43,7 @@ returns-clause-tells g c =
       same_value = refl;
       same_recording = refl;
       began = λ w. rw c.replace-around.ensures.after (record { done = rw c.new.ensures.writes run.1.0; agrees = λ l. rw c.new.ensures.pairs tt });
-      late = λ w late. let no : true ≡ false = sym late ∙ rw c.replace-around.ensures.after c.new.ensures.late in cc;
+      late = λ w. record { touching = λ late. let no : true ≡ false = sym late ∙ rw c.replace-around.ensures.after c.new.ensures.late in cc };
       reached = ([], run.1.0);
     }
 
