@@ -1,15 +1,17 @@
 //! Calls in a row, for which a value that keeps its answers is asked each question once.
+ghost use Rattle.std.specs.Prelude.{◌≡◌, ℕ, nat_eq};
+ghost use Rattle.comemo_kept_tests.specs.declared.counted.At.{At};
 
-use crate::counted::{Counted, Pair};
+use crate::counted::{At, Counted, Pair};
 use comemo::{CacheData, Track, memoized};
-use comemo_kept::Kept;
+use comemo_kept::{Kept, Says};
 use std::alloc::{AllocError, Global};
 use std::cell::Cell;
 use std::marker::Brand;
 use std::test::Fail;
 
 /// The total of the sums of neighbours, for the first places. Fails if out of memory.
-fn sums<T: Track<Call = crate::counted::At, Answer = u64>>(
+fn sums<T: Track<Call = At, Answer = u64>>(
     alloc: Global,
     count: u32,
     of: &T,
@@ -25,6 +27,18 @@ fn sums<T: Track<Call = crate::counted::At, Answer = u64>>(
     Ok(total)
 }
 
+/// The same of a value that keeps its answers.
+fn sums_of_kept<B: Says<At, u64>>(
+    alloc: Global,
+    count: u32,
+    of: &Counted,
+) -> Result<u64, AllocError>
+    requires { (call : At) (answer : ℕ) → B.says call answer ≡ nat_eq of.now.number answer }
+{
+    let kept: Kept<'_, Counted, B> = Kept::new(alloc, of);
+    sums(alloc, count, &kept)
+}
+
 #[test]
 fn a_kept_answer_is_asked_once(rt: HostRuntime) -> Result<(), Fail> {
     let alloc = rt.alloc();
@@ -34,8 +48,7 @@ fn a_kept_answer_is_asked_once(rt: HostRuntime) -> Result<(), Fail> {
     };
     let plain = sums(alloc, 100, &value)?;
     assert_eq!(rt; value.asked.get(), 200);
-    let kept: Kept<'_, Counted, Brand> = Kept::new(alloc, &value);
-    let twice = sums(alloc, 100, &kept)?;
+    let twice = sums_of_kept::<Brand>(alloc, 100, &value)?;
     assert_eq!(rt; twice, plain);
     assert_eq!(rt; value.asked.get(), 301);
     Ok(())
