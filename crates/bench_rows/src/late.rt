@@ -1,7 +1,6 @@
 //! The row of runs that read before or after they wrote.
 
 use crate::broken::Broken;
-use comemo::internal::Shared;
 use comemo::{BothMut, Cache, CacheData, Fault, Hold, How, Top, memoized_mut, memoized_mut_with};
 use comemo_examples::Counter;
 use comemo_examples::late::{AddsAndGets, Bump, Bumps, Readback, Twice};
@@ -109,18 +108,23 @@ fn come_to_that_through_shares<'x, W: Wait>(
     calls_come_to_that(alloc, bump, readback, adding)
 }
 
-/// Whether a call of `Twice` is late through shares, with both of its calls of `Bump` cached.
-fn bumps_twice_through_shares<'x, W: Wait>(
+/// Whether a call of `Twice` is late through a share of its cache, with both of its calls of `Bump` cached.
+fn bumps_twice_through_a_share<'x, W: Wait>(
     rt: &'x W,
     alloc: Global,
-    bump: &'x Cache<Bump>,
-    twice: &Cache<Twice<Shared<'x, Bump, W>>>,
+    twice: &'x Cache<Twice<CacheData<Bump>>>,
 ) -> Result<bool, Fault> {
-    let mut bumps = Bumps {
-        cache: bump.hold(rt),
+    let mut needs = Bumps {
+        cache: CacheData::new(alloc),
         runs: 0,
     };
-    bumps_twice(alloc, &mut twice.hold(rt), &mut bumps)
+    let mut counter = Counter { number: 0 };
+    let twice = &mut twice.hold(rt);
+    Ok(
+        bumps(alloc, &mut needs.cache, &mut counter, How::Stored)?
+            && bumps(alloc, &mut needs.cache, &mut counter, How::Stored)?
+            && bumps_twice(alloc, twice, &mut needs)?,
+    )
 }
 
 /// Whether runs that read what they wrote are late, in caches of both kinds.
@@ -132,6 +136,6 @@ pub(crate) fn late_runs<W: Wait>(rt: &W, alloc: Global) -> Result<bool, Broken> 
     Ok(
         late_runs_are_not_kept(alloc)?
             && come_to_that_through_shares(rt, alloc, &bump, &readback, &adding)?
-            && bumps_twice_through_shares(rt, alloc, &bump, &twice)?,
+            && bumps_twice_through_a_share(rt, alloc, &twice)?,
     )
 }
