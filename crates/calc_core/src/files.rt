@@ -25,8 +25,7 @@ ghost use Rattle.calc_core.specs.declared.files.FileCall.TheVariants.{Read};
 pub mod measure;
 pub mod text;
 
-use comemo::internal::Second;
-use comemo::{Call, MultiAnswer, MultiCall, Sink, Track, View};
+use comemo::{Call, MultiAnswer, MultiCall, Second, Sink, Track, View};
 pub use measure::{FileSize, size};
 use std::alloc::{AllocError, Global};
 use std::collections::HashMap;

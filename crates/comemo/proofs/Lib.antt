@@ -1,6 +1,5 @@
 pub mod Branching
 pub mod Endings
-pub mod PartsAsked
 pub mod PartsMut
 pub mod Recorders
 pub mod NamedRuns

@@ -3,7 +3,6 @@
 pub use crate::closure::{Does, Record};
 pub use crate::function::{Answering, Told};
 pub use crate::function_mut::{AnsweringMut, Records, ToldMut, Writes};
-pub use crate::parts::Part;
 pub use crate::pending::{Calling, Invoked, Pending};
 pub use crate::recursive::Inner;
 pub use crate::recursive_mut::{InnerMut, Nesting};
@@ -13,8 +12,8 @@ pub use comemo_cache::{
     register_evictor,
 };
 pub use comemo_track::{
-    Breaking, CallMap, First, Hashed, Input, Keyed, KeyedMut, MappedSink, Multi, Second,
-    TrackedMut, TrackedMutWith, TrackedWith, Written,
+    Breaking, CallMap, Hashed, Input, Keyed, KeyedMut, MappedSink, Multi, TrackedMut,
+    TrackedMutWith, TrackedWith, Written,
 };
 pub use comemo_tree::children::{Children, Node};
 pub use comemo_tree::{Asks, CallTree, Keep, Settled, TreeOp, TreeReply, Values};

@@ -8,7 +8,7 @@ ghost use Rattle.comemo_cache.specs.Meaning.{IsNamedRun, invocation, run};
 ghost use Rattle.comemo_cache.specs.Cache.{HasNone};
 ghost use Rattle.comemo_cache.specs.Held.{Held, Leads, Stays};
 ghost use Rattle.comemo.specs.Begun.{OnBegun, BeganByHit};
-ghost use Rattle.comemo.specs.Function.{Tells, OnPart, WritesNone};
+ghost use Rattle.comemo.specs.Function.{Tells, WritesNone};
 ghost use Rattle.comemo.specs.Recursive.{FinishedAs};
 
 use crate::function::{Recorder, Told};
@@ -17,9 +17,7 @@ use crate::pending::{Begun, Fault, Pending, Reply, look_up};
 use comemo_cache::cache::{Function, Meant};
 use comemo_cache::hold::Hold;
 use comemo_track::answer::Answer;
-use comemo_track::both::Both;
 use comemo_track::input::Keyed;
-use comemo_track::multi::{MultiAnswer, MultiCall};
 use comemo_track::track::{Call, Sink, Top, Track};
 use std::alloc::{AllocError, Global};
 use std::cell::RefCell;
@@ -260,22 +258,5 @@ impl<'a, T: Track> Recorder<'a, T> {
         };
         let reply = pending.finish(cache, &mut Top::new(), output)?;
         Ok(reply)
-    }
-}
-
-/// What is noted of the second of two joined values.
-impl<'a, 'b, A: Track, B: Track> Recorder<'a, Both<'b, A, B>> {
-    ghost use Rattle.comemo_track.specs.Multi.{second_call, second_answer};
-
-    /// Records a read of the second value with its answer, as `note`. Fails if out of memory.
-    pub fn note_second(&mut self, call: B::Call, answer: B::Answer) -> Result<(), Fault>
-        requires read { B.Call.is_write call ≡ false }
-        requires known { IsTrue (B.Answer.eq (B.answers self.old.value.second call) answer) }
-        ensures tells { Tells ⟦<Both<'b, A, B> as Told>⟧.fits self.old self.new result
-            (λ _ m. OnPart second_call second_answer m
-            (λ part. IsTrue (B.Answer.eq (part call) answer))) }
-        ensures err { IfErr result (λ fault. fault ≡ Fault.Memory) }
-    {
-        self.note(MultiCall::B(call), MultiAnswer::B(answer))
     }
 }

@@ -41,7 +41,6 @@ mod known;
 mod outputs;
 mod parts;
 mod parts_mut;
-mod parts_of_both;
 mod pending;
 mod recursive;
 mod recursive_mut;
@@ -51,8 +50,8 @@ pub use closure::memoize;
 pub use comemo_base::{Prehashed, hash};
 pub use comemo_cache::{Cache, CacheData, Caches, Contents, Explanation, Function, Hold};
 pub use comemo_track::{
-    Answer, Both, BothMut, Call, Constraint, MultiAnswer, MultiCall, ReadAndWrite, Sink, Top,
-    Track, Tracked, View,
+    Answer, Both, BothMut, Call, Constraint, First, LendPart, MultiAnswer, MultiCall, Part,
+    ReadAndWrite, Second, Sink, Top, Track, Tracked, View,
 };
 pub use explanation::explain;
 pub use function::{Recorder, Run, memoized, memoized_with};

@@ -7,7 +7,7 @@ ghost use Rattle.comemo_examples.specs.Compared.{all_equal};
 
 use crate::{Cells, Get};
 use comemo::internal::Told;
-use comemo::{Begun, Both, Fault, Function, Hold, MultiAnswer, MultiCall, Recorder};
+use comemo::{Begun, Both, Fault, First, Function, Hold, MultiAnswer, MultiCall, Recorder, Second};
 
 /// Whether the first cells of two values are equal, place by place.
 pub struct AllEqual;
@@ -44,7 +44,7 @@ pub fn compared<'a, H: Hold<AllEqual>>(
     };
     let recorder = &mut run.recorder;
     let before = compared(cache, count - 1, recorder)?;
-    let one = recorder.ask_first(Get { place: count - 1 })?;
-    let other = recorder.ask_second(Get { place: count - 1 })?;
+    let one = recorder.ask_part(First::new(), Get { place: count - 1 })?;
+    let other = recorder.ask_part(Second::new(), Get { place: count - 1 })?;
     both.finish(cache, &count, run, before && one == other)
 }

@@ -5,7 +5,9 @@ ghost use Rattle.comemo.specs.MeaningLaws.{exact_laws};
 
 use crate::adding::Adds;
 use crate::{Counter, CounterCall, Notebook, NotebookCall};
-use comemo::{BothMut, CacheData, Fault, Function, MultiAnswer, MultiCall, RecorderMut, RunMut};
+use comemo::{
+    BothMut, CacheData, Fault, First, Function, MultiAnswer, MultiCall, RecorderMut, RunMut, Second,
+};
 
 /// Notes the number of a counter in a notebook, and adds to the counter by `Adds`. Returns the noted number.
 pub struct NotesAndAdds;
@@ -37,9 +39,9 @@ impl<'a> RunMut<BothMut<'a, Counter, Notebook>, CacheData<Adds>> for NotesAndAdd
         both: &mut RecorderMut<'_, '_, BothMut<'a, Counter, Notebook>>,
         kept: &mut CacheData<Adds>,
     ) -> Result<u64, Fault> {
-        let number = both.ask_first(CounterCall::Get)?;
-        both.write_second(NotebookCall::Note(number))?;
-        both.call_mut_first(kept, &mut (), *n)?;
+        let number = both.ask_part(First::new(), CounterCall::Get)?;
+        both.write_part(Second::new(), NotebookCall::Note(number))?;
+        both.call_mut_part(First::new(), kept, &mut (), *n)?;
         Ok(number)
     }
 }

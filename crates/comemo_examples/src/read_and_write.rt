@@ -10,7 +10,8 @@ use crate::adding::Adds;
 use crate::warmth::Warmth;
 use crate::{Counter, CounterCall, Town, TownCall};
 use comemo::{
-    CacheData, Fault, Function, MultiAnswer, MultiCall, ReadAndWrite, RecorderMut, RunMut,
+    CacheData, Fault, First, Function, MultiAnswer, MultiCall, ReadAndWrite, RecorderMut, RunMut,
+    Second,
 };
 
 /// Adds the degrees of a town to a counter, and returns them.
@@ -40,8 +41,8 @@ impl<'a> RunMut<ReadAndWrite<'a, Town, Counter>, CacheData<Warmth>> for TallyWar
         both: &mut RecorderMut<'_, '_, ReadAndWrite<'a, Town, Counter>>,
         kept: &mut CacheData<Warmth>,
     ) -> Result<u64, Fault> {
-        let degrees = both.call_first(kept, &mut (), ())?;
-        both.write_second(CounterCall::Add(degrees))?;
+        let degrees = both.call_part(First::new(), kept, &mut (), ())?;
+        both.write_part(Second::new(), CounterCall::Add(degrees))?;
         Ok(degrees)
     }
 }
@@ -72,9 +73,9 @@ impl<'a> RunMut<ReadAndWrite<'a, Town, Counter>, ()> for AddsDegrees {
         both: &mut RecorderMut<'_, '_, ReadAndWrite<'a, Town, Counter>>,
         _: &mut (),
     ) -> Result<u64, Fault> {
-        let number = both.ask_second(CounterCall::Get)?;
-        let degrees = both.ask_first(TownCall::Degrees)?;
-        both.write_second(CounterCall::Add(degrees))?;
+        let number = both.ask_part(Second::new(), CounterCall::Get)?;
+        let degrees = both.ask_part(First::new(), TownCall::Degrees)?;
+        both.write_part(Second::new(), CounterCall::Add(degrees))?;
         Ok(number)
     }
 }
@@ -105,8 +106,8 @@ impl<'a> RunMut<ReadAndWrite<'a, Town, Counter>, CacheData<Adds>> for AddsOneMor
         both: &mut RecorderMut<'_, '_, ReadAndWrite<'a, Town, Counter>>,
         kept: &mut CacheData<Adds>,
     ) -> Result<u64, Fault> {
-        let degrees = both.ask_first(TownCall::Degrees)?;
-        let sum = both.call_mut_second(kept, &mut (), degrees)?;
+        let degrees = both.ask_part(First::new(), TownCall::Degrees)?;
+        let sum = both.call_mut_part(Second::new(), kept, &mut (), degrees)?;
         Ok(sum)
     }
 }

@@ -6,7 +6,9 @@ ghost use Rattle.comemo_examples.specs.declared.town.TownCall.TheVariants.{Degre
 
 use crate::warmth::Warmth;
 use crate::{Town, TownCall};
-use comemo::{Both, CacheData, Fault, Function, MultiAnswer, MultiCall, Recorder, Run};
+use comemo::{
+    Both, CacheData, Fault, First, Function, MultiAnswer, MultiCall, Recorder, Run, Second,
+};
 
 /// Whether the first of two towns is warmer than the second. Asks each for its degrees, the first one first.
 pub struct IsWarmer;
@@ -32,8 +34,8 @@ impl<'a> Run<Both<'a, Town, Town>, ()> for IsWarmer {
         towns: &mut Recorder<'_, Both<'a, Town, Town>>,
         _: &mut (),
     ) -> Result<bool, Fault> {
-        let one = towns.ask_first(TownCall::Degrees)?;
-        let other = towns.ask_second(TownCall::Degrees)?;
+        let one = towns.ask_part(First::new(), TownCall::Degrees)?;
+        let other = towns.ask_part(Second::new(), TownCall::Degrees)?;
         Ok(one > other)
     }
 }
@@ -65,8 +67,8 @@ impl<'a> Run<Both<'a, Town, Town>, CacheData<Warmth>> for Lead {
         towns: &mut Recorder<'_, Both<'a, Town, Town>>,
         kept: &mut CacheData<Warmth>,
     ) -> Result<u64, Fault> {
-        let one = towns.call_first(kept, &mut (), ())?;
-        let other = towns.call_second(kept, &mut (), ())?;
+        let one = towns.call_part(First::new(), kept, &mut (), ())?;
+        let other = towns.call_part(Second::new(), kept, &mut (), ())?;
         Ok(one.saturating_sub(other))
     }
 }

@@ -8,8 +8,8 @@ ghost use Rattle.comemo_examples.specs.Totals.{total, notes};
 use crate::{Cells, Get, Notebook, NotebookCall};
 use comemo::internal::{Meant, Told, ToldMut};
 use comemo::{
-    Begun, CacheData, Fault, Function, Hold, MultiAnswer, MultiCall, ReadAndWrite, RecorderMut,
-    RunMut,
+    Begun, CacheData, Fault, First, Function, Hold, MultiAnswer, MultiCall, ReadAndWrite,
+    RecorderMut, RunMut, Second,
 };
 
 /// The total of the first cells, modulo 2^64, with the totals up to it noted in a notebook.
@@ -79,9 +79,9 @@ fn add_up<'a, H: Hold<RunningTotal>>(
         return Ok(0);
     }
     let before = totalled(cache, count - 1, both)?;
-    let cell = both.ask_first(Get { place: count - 1 })?;
+    let cell = both.ask_part(First::new(), Get { place: count - 1 })?;
     let total = before.wrapping_add(cell);
-    both.write_second(NotebookCall::Note(total))?;
+    both.write_part(Second::new(), NotebookCall::Note(total))?;
     Ok(total)
 }
 

@@ -7,7 +7,7 @@ ghost use Rattle.comemo_sheet.specs.Shown.{shown};
 use crate::number::NumberIn;
 use crate::settings::{Setting, Settings, SettingsCall};
 use crate::sheet::{Content, Sheet, SheetCall};
-use comemo::{Both, Fault, Function, Hold, MultiAnswer, MultiCall, Recorder, Run};
+use comemo::{Both, Fault, First, Function, Hold, MultiAnswer, MultiCall, Recorder, Run, Second};
 use std::marker::PhantomData;
 
 /// A number as it is shown: 0 if it is negative and those are hidden.
@@ -60,8 +60,8 @@ impl<'a, H: Hold<NumberIn>> Run<Both<'a, Sheet, Settings>, H> for Shown<H> {
         both: &mut Recorder<'_, Both<'a, Sheet, Settings>>,
         numbers: &mut H,
     ) -> Result<i64, Fault> {
-        let number = both.call_first(numbers, &mut (), name.clone()?)?;
-        let hides_negative = both.ask_second(SettingsCall::HidesNegative)?;
+        let number = both.call_part(First::new(), numbers, &mut (), name.clone()?)?;
+        let hides_negative = both.ask_part(Second::new(), SettingsCall::HidesNegative)?;
         Ok(show(number, hides_negative))
     }
 }

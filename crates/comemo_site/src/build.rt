@@ -17,8 +17,8 @@ use crate::text::Text;
 use crate::title::Title;
 use crate::warns::Warns;
 use comemo::{
-    Begun, CacheData, Fault, Function, Hold, MultiAnswer, MultiCall, ReadAndWrite, RecorderMut,
-    RunMut,
+    Begun, CacheData, Fault, First, Function, Hold, MultiAnswer, MultiCall, ReadAndWrite,
+    RecorderMut, RunMut, Second,
 };
 use std::alloc::Global;
 
@@ -64,7 +64,7 @@ pub fn built<'a, B: Hold<Build>, T: Hold<Title>>(
         (λ site. page_html site limit name) (λ site. page_warnings site limit name) }
 {
     if limit == 0 {
-        both.write_second(Warning::TooDeep(name))?;
+        both.write_part(Second::new(), Warning::TooDeep(name))?;
         return Ok(Rendered::new());
     }
     let key = (name, limit);
@@ -99,8 +99,9 @@ fn draft<'a, B: Hold<Build>, T: Hold<Title>>(
         (λ site. page_html site (limit + 1) name.now)
         (λ site. page_warnings site (limit + 1) name.now) }
 {
-    let SiteAnswer::Blocks(blocks) = both.ask_first(SiteCall::BlocksOf(name.clone()?))? else {
-        both.write_second(Warning::Missing(name.clone()?))?;
+    let SiteAnswer::Blocks(blocks) = both.ask_part(First::new(), SiteCall::BlocksOf(name.clone()?))?
+    else {
+        both.write_part(Second::new(), Warning::Missing(name.clone()?))?;
         return Ok(Rendered::new());
     };
     let mut html = Html::new(alloc);

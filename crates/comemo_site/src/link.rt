@@ -15,7 +15,8 @@ use crate::text::Text;
 use crate::title::Title;
 use crate::warns::Warns;
 use comemo::{
-    CacheData, Fault, Function, Hold, MultiAnswer, MultiCall, ReadAndWrite, RecorderMut, RunMut,
+    CacheData, Fault, First, Function, Hold, MultiAnswer, MultiCall, ReadAndWrite, RecorderMut,
+    RunMut, Second,
 };
 use std::alloc::Global;
 
@@ -66,12 +67,12 @@ pub fn link_built<'a, T: Hold<Title>>(
         (λ site. link_html site (codes "p") name.now)
         (λ site. missing name.now (title_in (site (TitleOf name.now)))) }
 {
-    let title = both.call_first(titles, &mut (), (name.clone()?, ()))?;
+    let title = both.call_part(First::new(), titles, &mut (), (name.clone()?, ()))?;
     match title {
         Some(title) => Ok(Rendered::link(alloc, Some(title), name)?),
         None => {
             let html = Rendered::link(alloc, None, name)?;
-            both.write_second(Warning::Missing(name.clone()?))?;
+            both.write_part(Second::new(), Warning::Missing(name.clone()?))?;
             Ok(html)
         }
     }
@@ -92,6 +93,6 @@ pub fn entry_built<'a, T: Hold<Title>>(
         (lent both.old.value both.old.recording) (lent both.new.value both.new.recording) result
         (λ site. link_html site (codes "li") name.now) (λ site. []) }
 {
-    let title = both.call_first(titles, &mut (), (name.clone()?, ()))?;
+    let title = both.call_part(First::new(), titles, &mut (), (name.clone()?, ()))?;
     Ok(Rendered::entry(alloc, title, name)?)
 }

@@ -5,8 +5,8 @@ ghost use Rattle.comemo.specs.Function.{WritesNone};
 
 use crate::inputs::LocationOf;
 use comemo::{
-    Both, CacheData, Constraint, Fault, Function, MultiAnswer, MultiCall, Recorder, Run, Sink, Top,
-    Track, View, memoize, memoized_with,
+    Both, CacheData, Constraint, Fault, First, Function, MultiAnswer, MultiCall, Recorder, Run,
+    Second, Sink, Top, Track, View, memoize, memoized_with,
 };
 use comemo_examples::{Context, ContextCall};
 use std::alloc::Global;
@@ -119,9 +119,9 @@ impl<'a> Run<Both<'a, Context, Context>, (CacheData<Failing>, CacheData<Refused>
         kept: &mut (CacheData<Failing>, CacheData<Refused>),
     ) -> Result<u64, Fault> {
         if key.0 {
-            of.call_first(&mut kept.0, &mut kept.1, key.1)
+            of.call_part(First::new(), &mut kept.0, &mut kept.1, key.1)
         } else {
-            of.call_second(&mut kept.0, &mut kept.1, key.1)
+            of.call_part(Second::new(), &mut kept.0, &mut kept.1, key.1)
         }
     }
 }

@@ -4,9 +4,10 @@ ghost use Rattle.std.proofs.Common.{rules};
 ghost use Rattle.comemo.specs.Multi.{OnParts};
 ghost use Rattle.comemo.specs.MeaningLaws.{none_alike};
 
-use comemo::internal::{First, Hashed, Input, Multi, Second};
+use comemo::internal::{Hashed, Input, Multi};
 use comemo::{
-    Begun, CacheData, Fault, Function, How, MultiAnswer, MultiCall, Reply, Top, Track, View, begin,
+    Begun, CacheData, Fault, First, Function, How, MultiAnswer, MultiCall, Reply, Second, Top,
+    Track, View, begin,
 };
 use comemo_examples::{Context, ContextCall};
 use std::alloc::Global;

@@ -1,10 +1,9 @@
 //! Two tracked values joined as one.
-ghost use Rattle.std.specs.Prelude.{◌≡◌};
 ghost use Rattle.std.proofs.Common.{rules};
 
 use crate::multi::{MultiAnswer, MultiCall};
 use crate::track::{Track, View};
-use std::alloc::{AllocError, Global};
+use std::alloc::AllocError;
 
 /// Two tracked values as one, which is tracked itself, so that a run can get both: a `View` of each.
 ///
@@ -40,22 +39,5 @@ impl<'a, A: Track, B: Track> Track for Both<'a, A, B> {
             MultiCall::A(call) => Ok(MultiAnswer::A(self.first.read(call)?)),
             MultiCall::B(call) => Ok(MultiAnswer::B(self.second.read(call)?)),
         }
-    }
-}
-
-/// Views of the parts.
-impl<'a, 'b, A: Track, B: Track> View<'a, Both<'b, A, B>> {
-    /// A view of the first value.
-    pub fn first(&self, alloc: Global) -> View<'b, A>
-        ensures { result ≡ self.now.first }
-    {
-        self.value.first.fork(alloc)
-    }
-
-    /// A view of the second value.
-    pub fn second(&self, alloc: Global) -> View<'b, B>
-        ensures { result ≡ self.now.second }
-    {
-        self.value.second.fork(alloc)
     }
 }

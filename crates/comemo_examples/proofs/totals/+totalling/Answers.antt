@@ -13,13 +13,13 @@ add_up-returns-then-count-eq0-clause-tells g t c = writes_nothing _ 0 (λ m f. r
 pub add_up-returns-in_err-cell-clause-tells : goal.add_up-returns-in_err-cell-clause-tells
 add_up-returns-in_err-cell-clause-tells g t c = failed_after c.in_ok-before.ensures.tells c.in_err-cell.field-0.0 c.from_residual-in_err-cell.result c.in_err-cell.ensures.tells c.from_residual-in_err-cell.ensures.1
 
-pub add_up-returns-in_err-write_second-clause-tells : goal.add_up-returns-in_err-write_second-clause-tells
-add_up-returns-in_err-write_second-clause-tells g t c = failed_after (writes_both c.in_ok-before.ensures.tells _ (called c.in_ok-cell.ensures.tells c.in_ok-cell.ensures.writes)) c.in_err-write_second.field-0.0 c.from_residual-in_err-write_second.result c.in_err-write_second.ensures.tells c.from_residual-in_err-write_second.ensures.1
+pub add_up-returns-in_err-write_part-clause-tells : goal.add_up-returns-in_err-write_part-clause-tells
+add_up-returns-in_err-write_part-clause-tells g t c = failed_after (writes_both c.in_ok-before.ensures.tells _ (called c.in_ok-cell.ensures.tells c.in_ok-cell.ensures.writes)) c.in_err-write_part.field-0.0 c.from_residual-in_err-write_part.result c.in_err-write_part.ensures.tells c.from_residual-in_err-write_part.ensures.1
 
 pub add_up-returns-clause-tells : goal.add_up-returns-clause-tells
 add_up-returns-clause-tells g t c =
     let low : suc (c.args.count - 1) ≡ c.args.count = omega (arith, c.if-count-eq0.false) in
-    let all = writes_both c.in_ok-before.ensures.tells _ (writes_both (called c.in_ok-cell.ensures.tells c.in_ok-cell.ensures.writes) _ (wrote c.in_ok-write_second.ensures.tells _ _ _ c.in_ok-write_second.ensures.sent)) in
+    let all = writes_both c.in_ok-before.ensures.tells _ (writes_both (called c.in_ok-cell.ensures.tells c.in_ok-cell.ensures.writes) _ (wrote c.in_ok-write_part.ensures.tells _ _ _ c.in_ok-write_part.ensures.sent)) in
     record {
       goes = all.goes;
       before = all.before;

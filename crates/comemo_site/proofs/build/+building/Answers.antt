@@ -21,19 +21,19 @@ built-returns-clause-agrees g t c = c.finish.ensures.agrees _ (within_goes (rw c
 pub built-returns-clause-tells : goal.built-returns-clause-tells
 built-returns-clause-tells g t c = c.finish.ensures.tells _ (within_goes (rw c.in-Run.is at c.in_ok-html.ensures.tells) c.draft-ran.ensures.tells.goes)
 
-pub draft-returns-in_err-write_second : goal.draft-returns-in_err-write_second
-draft-returns-in_err-write_second g t c = record {
-  agrees = c.in_err-write_second.ensures.agrees;
-  tells = failed_after (called c.in_ok-blocks.ensures.tells c.in_ok-blocks.ensures.writes) c.in_err-write_second.field-0.0 c.from_residual-in_err-write_second.result c.in_err-write_second.ensures.tells c.from_residual-in_err-write_second.ensures.1;
+pub draft-returns-in_err-write_part : goal.draft-returns-in_err-write_part
+draft-returns-in_err-write_part g t c = record {
+  agrees = c.in_err-write_part.ensures.agrees;
+  tells = failed_after (called c.in_ok-blocks.ensures.tells c.in_ok-blocks.ensures.writes) c.in_err-write_part.field-0.0 c.from_residual-in_err-write_part.result c.in_err-write_part.ensures.tells c.from_residual-in_err-write_part.ensures.1;
 }
 
 pub draft-returns-in_default : goal.draft-returns-in_default
 draft-returns-in_default g t c =
     let next : c.args.limit + 1 ≡ suc c.args.limit = omega arith in
     let none : blocks_in c.in_ok-blocks.field-0 ≡ None = search (rules, c.in_default.not-Blocks) in
-    let all = writes_both (called c.in_ok-blocks.ensures.tells c.in_ok-blocks.ensures.writes) _ (wrote c.in_ok-write_second.ensures.tells _ _ _ c.in_ok-write_second.ensures.sent) in
+    let all = writes_both (called c.in_ok-blocks.ensures.tells c.in_ok-blocks.ensures.writes) _ (wrote c.in_ok-write_part.ensures.tells _ _ _ c.in_ok-write_part.ensures.sent) in
     record {
-      agrees = c.in_ok-write_second.ensures.agrees;
+      agrees = c.in_ok-write_part.ensures.agrees;
       tells = writes_to all (λ m W f k. printed m (λ site p.
           let asked = blocks_alike (site (BlocksOf c.args.name.now)) c.in_ok-blocks.field-0 (search (rules, k.3.1 site p)) ∙ none in
           rw (k.2, k.3.0, k.4, next, asked) (search (rules, c.new.ensures))));
