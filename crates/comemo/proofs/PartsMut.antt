@@ -50,6 +50,24 @@ module _ {S M C D R Q : Type 0} (maps : M → C → D) (answers : M → R → Q)
   pub spoiled_as : {spoils : S → S → Type 0} (s t : MappedSink S M) (P : List (C × R)) (W : List C) → SpoiledAfter (MapsTook took maps answers) (MapsSpoils spoils) s t P W → SpoiledAfter took spoils s.sink.now t.sink.now (mapped_pairs (maps s.map) (answers s.map) P) (map (maps s.map) W)
   spoiled_as s t P W is = record { mid = is.mid.sink.now; taken = is.taken.sent; spoiled = is.spoiled.spoiled }
 
+module _ {K C R O : Type 0} {M : Meaning K C R O} {es es' : Entries K C R O} {call : Invocation K C R} where
+  -- a hit that was stopped, of which the writes were done so, and the sink was left so
+  stopped_as : {done did : List C → Type 0} {spoiled spoils : List (C × R) → List C → Type 0} → ((W : List C) → done W → did W) → ((P : List (C × R)) (W : List C) → spoiled P W → spoils P W) → WasStopped M es call done spoiled es' → WasStopped M es call did spoils es'
+  stopped_as d p k =
+      let is = k.1 in
+      (k.0, record { pairs = is.pairs; output = is.output; prefix = is.prefix; next = is.next; rest = is.rest; is_refused = is.is_refused; is_enabled = is.is_enabled; kept = is.kept; agrees = is.agrees; stands = is.stands; reads = is.reads; written = is.written; are_done = d is.prefix is.are_done; is_spoiled = p is.pairs is.prefix is.is_spoiled })
+
+  -- the fault of a call that failed so
+  pub fails_as : {done did : List C → Type 0} {breaks broken : Type 0} {spoiled spoils : List (C × R) → List C → Type 0} {f : Fault} → ((W : List C) → done W → did W) → (breaks → broken) → ((P : List (C × R)) (W : List C) → spoiled P W → spoils P W) → FailsBy M es call done breaks spoiled f es' → FailsBy M es call did broken spoils f es'
+  fails_as d b p (inl a) = inl (
+    a.0,
+    elim a.1 [
+      | inl x ↦ inl (x.0, d [] x.1)
+      | inr y ↦ inr (y.0, elim y.1 [ inl z ↦ inl z | inr z ↦ inr (b z) ])
+    ],
+  )
+  fails_as d b p (inr k) = inr (k.0, stopped_as d p k.1)
+
 module _ {K C R O : Type 0} {M : Meaning K C R O} {touches : C → C → Bool} {es es' : Entries K C R O} {call : Invocation K C R} where
   -- a reply of a function that writes, of which the pairs and writes went so to a sink
   pub resent_mut : {mid : Entries K C R O} {sent sends : Bool → List (C × R) → List C → Type 0} {reply : Reply O} → ((late : Bool) (P : List (C × R)) (W : List C) → sent late P W → sends late P W) → IsReplyMut M call touches es mid sent reply es' → IsReplyMut M call touches es mid sends reply es'
@@ -77,27 +95,10 @@ module _ {K C R O : Type 0} {M : Meaning K C R O} {touches : C → C → Bool} {
     same = b.same;
   })
 
-  -- a hit that was stopped, of which the writes were done so, and the sink was left so
-  stopped_as : {done did : List C → Type 0} {spoiled spoils : List (C × R) → List C → Type 0} → ((W : List C) → done W → did W) → ((P : List (C × R)) (W : List C) → spoiled P W → spoils P W) → WasStopped M es call done spoiled es' → WasStopped M es call did spoils es'
-  stopped_as d p k =
-      let is = k.1 in
-      (k.0, record { pairs = is.pairs; output = is.output; prefix = is.prefix; next = is.next; rest = is.rest; is_refused = is.is_refused; is_enabled = is.is_enabled; kept = is.kept; agrees = is.agrees; stands = is.stands; reads = is.reads; written = is.written; are_done = d is.prefix is.are_done; is_spoiled = p is.pairs is.prefix is.is_spoiled })
-
   -- a call that failed, of which the writes were done so, and the sink broke off so
   pub failed_as : {done did : List C → Type 0} {broken breaks : List (C × R) → Type 0} {spoiled spoils : List (C × R) → List C → Type 0} → ((W : List C) → done W → did W) → ((P : List (C × R)) → broken P → breaks P) → ((P : List (C × R)) (W : List C) → spoiled P W → spoils P W) → IsFailed M touches es call done broken spoiled es' → IsFailed M touches es call did breaks spoils es'
   failed_as d b p (inl a) = inl (a.0, record { pairs = a.1.pairs; agrees = a.1.agrees; is_broken = b a.1.pairs a.1.is_broken })
   failed_as d b p (inr k) = inr (stopped_as d p k)
-
-  -- and its fault
-  pub fails_as : {done did : List C → Type 0} {breaks broken : Type 0} {spoiled spoils : List (C × R) → List C → Type 0} {f : Fault} → ((W : List C) → done W → did W) → (breaks → broken) → ((P : List (C × R)) (W : List C) → spoiled P W → spoils P W) → FailsBy M es call done breaks spoiled f es' → FailsBy M es call did broken spoils f es'
-  fails_as d b p (inl a) = inl (
-    a.0,
-    elim a.1 [
-      | inl x ↦ inl (x.0, d [] x.1)
-      | inr y ↦ inr (y.0, elim y.1 [ inl z ↦ inl z | inr z ↦ inr (b z) ])
-    ],
-  )
-  fails_as d b p (inr k) = inr (k.0, stopped_as d p k.1)
 
 -- after a fault of a call of a function of a part, the recording of the whole is incomplete
 pub mapped_spoils : {K M C D R Q O : Type 0} {maps : M → C → D} {answers : M → R → Q} {N : Meaning K C R O} {touching : C → C → Bool} {es es' : Entries K C R O} {call : Invocation K C R} {done : List C → Type 0} {eq touches : D → D → Bool} (s t : MappedSink (Recording D Q) M) → IsFailed N touching es call done (BreaksOff (MapsTook (Took eq touches) maps answers) (MapsSpoils Spoiled) s t) (SpoiledAfter (MapsTook (Took eq touches) maps answers) (MapsSpoils Spoiled) s t) es' → t.sink.now.complete ≡ false
@@ -183,6 +184,10 @@ module _ {S V C D R Q : Type 0} (put : V → S) (f : C → D) {own : V → C →
   part_done : (i j : V) (W : List C) → Done own w touches same answers i j W → Done wrote v reach like gives (put i) (put j) (map f W)
   part_done i j [] d = ap put d
   part_done i j (c ∷ W) d = (put d.0, written i d.0 c d.1, part_done d.0 j W d.2)
+
+  -- so it was to the whole whose part it is
+  pub lent_done : (s : S) (i j : V) (W : List C) → put i ≡ s → Done own w touches same answers i j W → Done wrote v reach like gives s (put j) (map f W)
+  lent_done s i j W e d = subst (λ x. Done wrote v reach like gives x (put j) (map f W)) e (part_done i j W d)
 
 -- a reply of a function of a part, which did so, and sent its calls and writes on through a sink before a recording of the whole
 pub part_reply : {N C D R Q K O : Type 0} (maps : N → C → D) (answers : N → R → Q) (eqd touching : D → D → Bool) {M : Meaning K C R O} {call : Invocation K C R} {touches : C → C → Bool} {es mid es' : Entries K C R O} {reply : Reply O} (own : List C → Type 0) (did : List D → Type 0) (part : N) → ((W : List C) → own W → did (map (maps part) W)) → (a b : MappedSink (Recording D Q) N) {o r : Recording D Q} → a.map ≡ part → a.sink.now ≡ o → r ≡ b.sink.now → IsReplyMut M call touches es mid (λ late L W. TookAs (MapsTook (Took eqd touching) maps answers) (MapsLates MarkedLate) late a b L W × own W) reply es' → IsReplyMut M call touches es mid (λ late. Through (maps part) (answers part) (λ L W. TookAs (Took eqd touching) MarkedLate late o r L W × did W)) reply es'

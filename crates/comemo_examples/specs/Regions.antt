@@ -1,11 +1,17 @@
 -- What a region answers.
-use Rattle.std.specs.Prelude.{ℕ}
+use Rattle.comemo_examples.specs.declared.town.Town.{Town}
 use Rattle.comemo_examples.specs.declared.town.TownCall.{TownCall}
+use Rattle.comemo_examples.specs.declared.region.Region.{Region}
 use Rattle.comemo_examples.specs.declared.region.RegionCall.{RegionCall}
-use Rattle.comemo_examples.specs.declared.region.RegionCall.TheVariants.{Coast, River, Hill}
+use Rattle.comemo_examples.specs.declared.region.Place.{Place}
+use Rattle.comemo_examples.specs.declared.region.Place.TheVariants.{Coast, River, Hill}
 
--- each town answers what is asked of it
-abbrev pub of_each : (TownCall → ℕ) → (TownCall → ℕ) → (TownCall → ℕ) → RegionCall → ℕ
-of_each coast river hill (Coast call) = coast call
-of_each coast river hill (River call) = river call
-of_each coast river hill (Hill call) = hill call
+-- the town at a place
+abbrev pub town_of : Place → Region → Town
+town_of Coast region = region.coast.now
+town_of River region = region.river.now
+town_of Hill region = region.hill.now
+
+-- a question to the town at a place
+abbrev pub of : Place → TownCall → RegionCall
+of place call = record { place = place; call = call }
