@@ -18,9 +18,6 @@ length-contents inner leaves = length-map (slab.entries leaves) (entry_of inner)
 nothing : {X P : Type 0} (s : slab.Slab X) (at : ℕ) (x : X) → s.slots ≡ [] → slab.get s at ≡ Some x → P
 nothing s at x e f = let l : None ≡ Some x = sym (ap (λ xs. get_or xs at None) e) ∙ f in cc
 
-no_key : {K X S P : Type 0} (eqk : K → K → Bool) (m : HashMap K X S) (k : K) (x : X) → m.entries ≡ [] → get eqk m k ≡ Some x → P
-no_key eqk m k x e f = let l : None ≡ Some x = sym (ap (λ es. lookup (eqk k) es) e) ∙ f in cc
-
 no_first : {K S P : Type 0} (eqk : K → K → Bool) (m : HashMap K Start S) (k : K) (first : Node) → m.entries ≡ [] → first_of eqk m k ≡ Some first → P
 no_first eqk m k first e f = let l : None ≡ Some first = sym (ap (λ (es : List (_ × Start)). option_map (λ (start : Start). start.first) (lookup (eqk k) es)) e) ∙ f in cc
 
