@@ -1,5 +1,5 @@
 -- Writes: equal ones, and how they are sent to a sink and done on an input one by one.
-use Rattle.std.proofs.Common.{◌≡◌, ◌≤◌, ◌+◌, ℕ, suc, Bool, true, List, [], ◌∷◌, ◌++◌, length, IsTrue, refl, sym, ap, subst, ◌∙◌, arith, append_assoc, append-nil}
+use Rattle.std.proofs.Common.{◌≡◌, ◌≤◌, ◌+◌, ℕ, suc, Bool, true, List, [], ◌∷◌, ◌++◌, length, IsTrue, sym, ap, subst, ◌∙◌, arith, append_assoc, append-nil}
 use Rattle.std.specs.List.{All, AllZip}
 use Rattle.std.specs.Cmp.{IsEquivalence}
 use Rattle.comemo_base.proofs.Paths.{joined}
