@@ -9,9 +9,6 @@ use Rattle.calc_core.specs.Files.{answers_of}
 use Rattle.calc_core.specs.declared.files.FileCall.TheVariants.{Read}
 use Rattle.calc_core.specs.contracts.files.FileCallPartialEq.TheImpl.{ghosts}
 
-pub same_bytes : (a b : String Global) → IsTrue (string_eq a b) → string_bytes a ≡ string_bytes b
-same_bytes a b h = search rules
-
 pub same_text : (a b : String Global) → string_bytes a ≡ string_bytes b → IsTrue (string_eq a b)
 same_text a b h = search rules
 

@@ -12,7 +12,6 @@ pub mod Refusals
 pub mod ScriptAsking
 pub mod ScriptCalls
 pub mod Sizes
-pub mod TooDeep
 pub mod Totals
 pub mod WhatReadsTell
 pub mod Words

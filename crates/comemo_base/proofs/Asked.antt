@@ -1,10 +1,9 @@
 -- When an oracle can be asked the calls of a look-up.
-use Rattle.std.proofs.Common.{◌≡◌, List, [], ◌∷◌, refl, subst, Result, Ok}
+use Rattle.std.proofs.Common.{◌≡◌, List, [], ◌∷◌, subst, Result, Ok}
 use Rattle.std.proofs.lemmas.List.Elements.{All-head, All-tail}
 use Rattle.std.specs.List.{All, Any}
-use Rattle.std.specs.Fn.{Mut, TakesAt, CalledAt, always_mut}
+use Rattle.std.specs.Fn.{Mut, TakesAt, CalledAt}
 use Rattle.std.specs.declared.alloc.AllocError.{AllocError}
-use denote.Param.Always.{mut_next}
 use denote.Ref.{Bor}
 use Rattle.comemo_base.specs.Tree.{Stored}
 use Rattle.comemo_base.specs.Lookup.{Answered, IsStoredCall, CanBeAsked}
@@ -29,11 +28,6 @@ module _ {O K C R T : Type 0} (g : Mut O (Bor C × Unit {0}) (Result R AllocErro
   -- from what each answered stored call keeps, and what lets a stored call be asked
   pub CanBeAsked-by : (I : O → Type 0) → ((f : O) (call : C) → I f → IsStoredCall us call → TakesAt g f call) → ((f f' : O) (call : C) (r : R) → I f → IsStoredCall us call → CalledAt g f call (Ok r) f' → I f') → (f : O) → I f → CanBeAsked g us f
   CanBeAsked-by I takes step f i = record { at = λ asked at call all h stored. takes at call (kept I step asked f at i all h) stored }
-
-  -- an oracle that can always be called
-  pub CanBeAsked-always : (f : O) → always_mut g f → CanBeAsked g us f
-  CanBeAsked-always f always =
-      CanBeAsked-by (always_mut g) (λ f call i stored y is. (i.at ((y, tt) ∷ [])).0) (λ f f' call r i stored h. mut_next g f (h.shown, tt) (Ok r) f' f' h.called refl i) f always
 
   -- an oracle whose condition is a fact about the call alone, which holds of each stored call
   pub CanBeAsked-calls : (P : C → Type 0) → ((f : O) (call : C) → P call → TakesAt g f call) → All (λ e. All (λ p. P p.0) e.path) us → (f : O) → CanBeAsked g us f

@@ -68,7 +68,3 @@ module _ {K X : Type 0} {eq : K → K → Bool} (laws : IsEquivalence eq) (key :
 -- what is equal to a key isn't equal to one that differs from it
 pub other_passes : {K : Type 0} {eq : K → K → Bool} → IsEquivalence eq → (k q x : K) → eq k q ≡ false → eq k x ≡ true → eq q x ≡ false
 other_passes laws k q x apart alike = laws.symm q x ∙ sym (laws.congr k x q alike) ∙ apart
-
-pub lookup-nothing : {K X : Type 0} (test : K → Bool) (es : List (K × X)) → length es ≡ 0 → lookup test es ≡ None
-lookup-nothing test [] e = refl
-lookup-nothing test (x ∷ es) e = absurd (omega arith)

@@ -1,15 +1,15 @@
--- Lists of pairs that grow while a function runs: they stay causal, and in the end they hold what is asked.
+-- Lists of pairs that grow while a function runs: in the end they hold what is asked.
 use Rattle.std.proofs.Common.{◌≡◌, ◌⊎◌, Bool, true, false, List, [], ◌∷◌, ◌++◌, refl, sym, ap, ◌∙◌, inl, inr, IsTrue, subst, append_assoc, append-nil}
 use Rattle.std.proofs.lemmas.Bool.{cases_Bool}
 use Rattle.std.specs.Cmp.{IsEquivalence}
 use Rattle.comemo_base.specs.Sequence.{held, absorbed}
 use Rattle.comemo_base.specs.Answers.{Respects, Agrees}
 use Rattle.comemo_base.specs.Tree.{IsSamePath}
-use Rattle.comemo_base.specs.Insertion.{Has, AllAmong}
+use Rattle.comemo_base.specs.Insertion.{Has}
 use Rattle.comemo_base.proofs.Paths.{turned, joined, Agrees-same}
-use Rattle.comemo_base.specs.Runs.{IsAskedInTurn, IsCausal, IsRun}
-use Rattle.comemo_base.specs.Settling.{IsAskedAfter, Settles, nothing_left}
-use Rattle.comemo_base.proofs.Sets.{Agrees-has, Agrees-among, held-alike}
+use Rattle.comemo_base.specs.Runs.{IsAskedInTurn, IsRun}
+use Rattle.comemo_base.specs.Settling.{Settles, nothing_left}
+use Rattle.comemo_base.proofs.Sets.{Agrees-has, held-alike}
 
 agrees_parts : {C R : Type 0} (same : R → R → Bool) (m : C → R) (ps qs : List (C × R)) → Agrees same m (ps ++ qs) → Agrees same m ps × Agrees same m qs
 agrees_parts same m [] qs a = (tt, a)
@@ -29,10 +29,6 @@ module _ {C R : Type 0} (eq : C → C → Bool) where
   held_last (x ∷ xs) q c e = elim (cases_Bool (eq c x.0)) [ inl a ↦ rw a refl | inr a ↦ rw a (held_last xs q c e) ]
 
 module _ {C R : Type 0} {eq : C → C → Bool} {same : R → R → Bool} (calls : IsEquivalence eq) (answers : IsEquivalence same) where
-  -- a causal call stays causal when more pairs stand before it
-  pub causal_call_stays : (asked : (C → R) → C → Type 0) (ps qs : List (C × R)) (c : C) → AllAmong eq same qs ps → IsAskedAfter eq same asked ps c → IsAskedAfter eq same asked qs c
-  causal_call_stays asked ps qs c among h = λ m respects agrees. h m respects (Agrees-among calls answers m respects qs ps agrees among)
-
   -- under answers under which more is asked, what was asked in turn is so
   pub in_turn_more : (asked asks : C → Type 0) (m : C → R) → ((c : C) → asked c → asks c) → (ps : List (C × R)) → IsAskedInTurn eq same asked m ps → IsAskedInTurn eq same asks m ps
   in_turn_more asked asks m more [] h = tt
@@ -119,12 +115,6 @@ module _ {C R : Type 0} {eq : C → C → Bool} {same : R → R → Bool} (calls
           in_turn = t.in_turn;
           complete = λ m r k c h. inl (t.holds c ((run.complete m r (t.agrees m r k) c).0 h));
         }
-
-    -- where an outer function asks, under all answers that agree with its list, what the run's asks, the list stays causal
-    pub causal_absorbed : (outer : (C → R) → C → Type 0) (s ps : List (C × R)) → Agrees same now s → Agrees same now ps → IsRun eq same asked ps → IsCausal eq same outer s → ((c : C) (m : C → R) → Respects eq same m → Agrees same m s → asked m c → outer m c) → IsCausal eq same outer (absorbed eq s ps)
-    causal_absorbed outer s ps a b run causal reaches =
-        let t = takes s ps a b (λ m r k. run.causal m r) in
-        λ m r. subst (λ xs. IsAskedInTurn eq same (outer m) m xs) (sym t.parts) (in_turn_both (outer m) m s t.added (causal m r) (λ k. in_turn_more (asked m) (outer m) m (λ c. reaches c m r k) t.added (t.in_turn m r k)))
 
   -- nothing was added
   pub settles_not : (asked left : (C → R) → C → Type 0) (s : List (C × R)) → ((m : C → R) → Respects eq same m → Agrees same m s → (c : C) → asked m c → left m c) → Settles eq same asked left s s

@@ -79,9 +79,6 @@ module _ {K C R T : Type 0} (eqk : K → K → Bool) (es : List (Stored K C R T)
   pub under-none : All (λ e. ¬ IsTrue (eqk e.key key)) es → under eqk es key ≡ []
   under-none h = filter-none (λ e. eqk e.key key) es h
 
-  pub none-from_under : under eqk es key ≡ [] → All (λ e. ¬ IsTrue (eqk e.key key)) es
-  none-from_under is = All-from_filtered (λ (e : Stored K C R T). eqk e.key key) (λ e. ⊥) es (λ k d l. absurd (omega (arith, ap length is)))
-
   -- equal keys have the same entries
   pub under-alike : IsEquivalence eqk → (other : K) → IsTrue (eqk key other) → under eqk es key ≡ under eqk es other
   under-alike keys other e =

@@ -5,10 +5,6 @@ use Rattle.comemo_base.specs.Answers.{Respects, Agrees}
 use Rattle.comemo_base.specs.Runs.{IsAskedInTurn}
 
 module _ {C R : Type 0} (eq : C → C → Bool) (same : R → R → Bool) where
-  -- the call is asked under all answers that agree with the pairs before it
-  abbrev pub IsAskedAfter : ((C → R) → C → Type 0) → List (C × R) → C → Type 0
-  IsAskedAfter asked ps c = (m : C → R) → Respects eq same m → Agrees same m ps → asked m c
-
   -- t is s and then pairs that are asked in turn under all answers that agree with s; under all answers that agree with t, each
   -- asked call is in t or left to be asked
   pub record Settles (asked left : (C → R) → C → Type 0) (s t : List (C × R)) : Type 0 where

@@ -1,5 +1,5 @@
 -- What a run is told by the branches that it joined; and for authors of such runs, what it may conclude.
-use Rattle.std.proofs.Common.{◌≡◌, ◌∙◌, ◌<◌, ◌+◌, ℕ, true, OnOk, List, [], ◌∷◌, ◌++◌, Result, Ok, Err, IfOk, IsErrAnd, length, get_or, take, refl, rules, sym, subst}
+use Rattle.std.proofs.Common.{◌≡◌, ◌∙◌, ◌<◌, ◌+◌, ℕ, List, [], ◌∷◌, ◌++◌, Result, Ok, Err, IfOk, IsErrAnd, length, get_or, take, refl, rules, sym, subst}
 use Rattle.std.specs.Borrow.{Bor, MutBor}
 use Rattle.std.specs.Fn.{Shared}
 use Rattle.std.specs.List.{AllZip}
@@ -8,7 +8,6 @@ use Rattle.std.proofs.lemmas.Slice.Zip.{all_zipped_more}
 use Rattle.comemo.specs.Recording.{Recording}
 use Rattle.comemo.specs.Function.{Recorded}
 use Rattle.comemo.specs.Recursive.{TellsOwn}
-use Rattle.comemo.specs.Branch.{IsBranch}
 use Rattle.comemo.specs.declared.pending.Fault.{Fault}
 use Rattle.comemo.proofs.Recursions.{own_as, own_then}
 use Rattle.comemo_branches.specs.Branches.{IsEnded, GaveTo, BranchRan, KeepsBranches, BranchTold}
@@ -55,17 +54,7 @@ module _ {F P J V C R X : Type 0} (g : Shared F (MutBor P × (Bor J × Unit {0})
   TellsEach D = (given left : MutBor P) (item : Bor J) (r : Result X Fault) → g.post f (given, (item, tt)) (r, (left, tt)) → TellsOwn fits (seen given.now) (seen left.now) r (D item.now)
 
   module _ (D : J → X → (C → R) → Type 0) (tells : TellsEach D) (outer : Recorded V C R) where
-    on_success : {s t : Recorded V C R} (x : J) (r : Result X Fault) → TellsOwn fits s t r (D x) → s.recording.complete ≡ true → OnOk r (t.recording.complete ≡ true)
-    on_success x (Ok y) told w = told.complete ∙ w
-    on_success x (Err e) told w = tt
-
-    -- so branches are kept
-    pub keeps_by : KeepsBranches g f seen outer
-    keeps_by x r left ran =
-        let told = tells ran.given ran.after_call ran.item r ran.call in
-        subst (λ p. ((seen p).value ≡ outer.value) × OnOk r ((seen p).recording.complete ≡ true)) ran.is_left (told.same_value ∙ ran.begins.same_value, on_success ran.item.now r told ran.begins.complete)
-
-    -- and this holds of the item and the output of a branch
+    -- so this holds of the item and the output of a branch
     pub told_by : (m : C → R) (x : J) (y : X) → BranchTold g f seen outer fits m x y → D x y m
     told_by m x y b =
         let ran = b.ran in

@@ -42,7 +42,3 @@ module _ {K C R O : Type 0} (M : Meaning K C R O) where
 
     pub HasNone-alike : HasNone M es (invocation j m b) → HasNone M es (invocation k m c)
     HasNone-alike h = subst (λ us. All (λ e. ¬ Agrees M.same_answer m e.path) us) (under-alike M.same_key es j keys k alike) h
-
-  -- what is kept of one run is kept of the same under another key
-  pub Has-rekeyed : (es : Entries K C R O) (k : K) (m : C → R) (b : Bool) (ran : Run K C R O) (key : K) → Has M es (invocation k m b) ran → Has M es (invocation k m b) (record ran { key = key })
-  Has-rekeyed es k m b ran key h = h

@@ -1,5 +1,5 @@
 -- From what is known about a holder's entries, whether it shows them or not, to what else is known.
-use Rattle.std.proofs.Common.{Result, Ok, Err, IfOk, IfErr, IfSome, MatchOption, OnOk, OnErr, ◌≡◌, ℕ, Option, Some, None, ◌∷◌, refl, ap, subst, sym}
+use Rattle.std.proofs.Common.{Result, Ok, Err, IfOk, IfErr, OnOk, OnErr, ◌≡◌, ℕ, Option, Some, None, ◌∷◌, refl, ap, subst, sym}
 use Rattle.std.proofs.lemmas.List.Sorted.{IsPermutation-refl}
 use Rattle.std.specs.Cmp.{IsEquivalence}
 use Rattle.comemo_base.specs.Tree.{IsTree}

@@ -1,16 +1,16 @@
 -- What stays where a change doesn't reach.
-use Rattle.std.proofs.Common.{◌≡◌, ◌∙◌, ◌<◌, ℕ, Bool, true, false, ◌||◌, List, [], ◌∷◌, length, get_or, sym, ap, subst, refl, inl, inr, IsTrue}
+use Rattle.std.proofs.Common.{◌≡◌, ◌∙◌, ◌<◌, ℕ, Bool, true, false, ◌||◌, List, [], ◌∷◌, length, get_or, sym, ap, subst, inl, inr, IsTrue}
 use Rattle.std.specs.Cmp.{IsEquivalence}
 use Rattle.std.specs.List.{All, Any}
 use Rattle.std.proofs.lemmas.Bool.{cases_Bool}
-use Rattle.comemo_base.specs.Answers.{Respects, Agrees}
+use Rattle.comemo_base.specs.Answers.{Agrees}
 use Rattle.comemo_base.specs.Lookup.{under}
 use Rattle.comemo_base.specs.Tree.{Stored}
 use Rattle.comemo_base.proofs.Paths.{turned, joined, get_or_same}
 use Rattle.comemo_base.proofs.Under.{Any-under, Any-from_under}
 use Rattle.comemo_tree.specs.Reach.{is_one, asks_one}
 use Rattle.comemo_cache.specs.Meaning.{Meaning, Run, invocation}
-use Rattle.comemo_cache.specs.Cache.{Kept, Entries, FunctionLaws, IsLegal, IsEntryOf, HasAged, HasNone}
+use Rattle.comemo_cache.specs.Cache.{Kept, Entries, FunctionLaws, IsLegal, IsEntryOf, HasAged}
 use Rattle.comemo_cache.specs.Reaching.{DiffersAt, StaysUnreached}
 
 module _ {C R : Type 0} (eq : C → C → Bool) {same : R → R → Bool} (answers : IsEquivalence same) (calls : List C) where

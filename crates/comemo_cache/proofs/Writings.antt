@@ -1,5 +1,5 @@
 -- Writes: equal ones, and how they are sent to a sink and done on an input one by one.
-use Rattle.std.proofs.Common.{◌≡◌, ◌≤◌, ◌+◌, ℕ, suc, Bool, true, List, [], ◌∷◌, ◌++◌, length, IsTrue, refl, sym, ap, subst, ◌∙◌, arith, append_assoc, append-nil}
+use Rattle.std.proofs.Common.{◌≡◌, ◌≤◌, ◌+◌, ℕ, suc, Bool, true, List, [], ◌∷◌, ◌++◌, length, IsTrue, sym, ap, subst, ◌∙◌, arith, append_assoc, append-nil}
 use Rattle.std.specs.List.{All, AllZip}
 use Rattle.std.specs.Cmp.{IsEquivalence}
 use Rattle.comemo_base.proofs.Paths.{joined}
@@ -39,10 +39,6 @@ writes_left w old new c e h = let h' = subst (λ ps. All (λ c. w c ≡ true) ps
 pub head_write : {C : Type 0} (w : C → Bool) (old new : List C) (c : C) → old ≡ c ∷ new → All (λ c. w c ≡ true) old → w c ≡ true
 head_write w old new c e h = (subst (λ ps. All (λ c. w c ≡ true) ps) e h) 0 c (omega arith)
 
--- there is room for the next of the writes that have room, and then for the others
-pub room_first : {C : Type 0} (old new : List C) (c : C) (room : ℕ) → old ≡ c ∷ new → length old ≤ room → 1 ≤ room
-room_first old new c room e h = let h' : suc (length new) ≤ room = subst (λ xs. length xs ≤ room) e h in omega arith
-
 pub room_left : {C : Type 0} (old new : List C) (c : C) (room room' : ℕ) → old ≡ c ∷ new → length old ≤ room → room ≤ room' + 1 → length new ≤ room'
 room_left old new c room room' e h k = let h' : suc (length new) ≤ room = subst (λ xs. length xs ≤ room) e h in omega arith
 
@@ -53,12 +49,6 @@ pub record TookWrites {S C R : Type 0} (took : S → S → List (C × R) → Lis
   pub taken : took s t [] prefix
 
 module _ {S C R : Type 0} {took : S → S → List (C × R) → List C → Type 0} where
-  pub no_writes_yet : (s t : S) (all : List C) → took s t [] [] → TookWrites took s t all all
-  no_writes_yet s t all taken = record { prefix = []; parts = refl; taken = taken }
-
-  pub all_written : (s t : S) (all left : List C) → left ≡ [] → TookWrites took s t all left → took s t [] all
-  all_written s t all left none so = subst (λ ws. took s t [] ws) (sym (so.parts ∙ ap (λ ws. so.prefix ++ ws) none ∙ append-nil so.prefix)) so.taken
-
   pub writes_more : ((s t u : S) (P : List (C × R)) (V W : List C) → took s t P V → took t u [] W → took s u P (V ++ W)) → (s t u : S) (all old new : List C) (c : C) → old ≡ c ∷ new → took t u [] (c ∷ []) → TookWrites took s t all old → TookWrites took s u all new
   writes_more adds s t u all old new c e sent so = record {
     prefix = so.prefix ++ c ∷ [];
@@ -94,14 +84,6 @@ pub record DidWrites {I S C R : Type 0} (did : I → I → List C → Type 0) (t
   pub taken : took s t [] prefix
 
 module _ {I S C R : Type 0} {did : I → I → List C → Type 0} {took : S → S → List (C × R) → List C → Type 0} where
-  pub nothing_done : ((i : I) → did i i []) → ((s : S) → took s s [] []) → (i : I) (s : S) (all : List C) → DidWrites did took i i s s all all
-  nothing_done begins starts i s all = record { prefix = []; parts = refl; done = begins i; taken = starts s }
-
-  pub all_done : (i j : I) (s t : S) (all left : List C) → left ≡ [] → DidWrites did took i j s t all left → did i j all × took s t [] all
-  all_done i j s t all left none so =
-      let e = sym (so.parts ∙ ap (λ ws. so.prefix ++ ws) none ∙ append-nil so.prefix) in
-      (subst (λ ws. did i j ws) e so.done, subst (λ ws. took s t [] ws) e so.taken)
-
   module _ (does : (i j k : I) (V W : List C) → did i j V → did j k W → did i k (V ++ W)) where
     pub done_more : ((s t u : S) (P : List (C × R)) (V W : List C) → took s t P V → took t u [] W → took s u P (V ++ W)) → (i j k : I) (s t u : S) (all old new : List C) (c : C) → old ≡ c ∷ new → did j k (c ∷ []) → took t u [] (c ∷ []) → DidWrites did took i j s t all old → DidWrites did took i k s u all new
     done_more adds i j k s t u all old new c e did_one sent so = record {

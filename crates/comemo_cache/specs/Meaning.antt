@@ -1,5 +1,5 @@
 -- What a memoized function means, and how it is called, each as one value.
-use Rattle.std.specs.Prelude.{◌≡◌, Bool, List, [], IsTrue}
+use Rattle.std.specs.Prelude.{◌≡◌, Bool, List, IsTrue}
 use Rattle.std.specs.List.{AllZip}
 use Rattle.comemo_base.specs.Runs.{IsRun}
 

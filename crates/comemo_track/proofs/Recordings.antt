@@ -27,14 +27,6 @@ module _ {C R : Type 0} {eq : C → C → Bool} (laws : IsEquivalence eq) (w : C
   IsRecording-read t call answer (Ok false) read pairs seen held err = rw (held refl) is
   IsRecording-read t call answer (Err e) read pairs seen held err = rw err is
 
-  -- a write is added
-  pub IsRecording-written : (V : List C) (call : C) → w call ≡ true → V ≡ W ++ call ∷ [] → IsRecording eq w s V
-  IsRecording-written V call written e = record {
-    seen = is.seen;
-    all_reads = is.all_reads;
-    all_writes = rw e (All-push (λ c. w c ≡ true) W call is.all_writes written);
-  }
-
 -- nothing was taken
 pub took_none : {C R : Type 0} (eq touches : C → C → Bool) (s t : Recording C R) → t.pairs ≡ s.pairs → t.writes ≡ s.writes → t.complete ≡ s.complete → t.late ≡ s.late → Took eq touches s t [] []
 took_none eq touches s t pairs writes complete late = record { pairs = pairs; writes = writes ∙ sym (append-nil s.writes); complete = complete; late = late ∙ sym (or_none s.late) }

@@ -21,7 +21,3 @@ module _ {S C R : Type 0} (wrote : S → C → S → Type 0) (w : C → Bool) (t
   done_keeps laws s t (c ∷ W) a call read un =
       let un2 = neither (touches c call) (touched_by touches W call) un in
       joined laws (answers s call) (answers a.0 call) (answers t call) (a.1.reads call read un2.0) (done_keeps laws a.0 t W a.2 call read un2.1)
-
-  -- a single write is done
-  pub done_one : (s t : S) (call : C) → wrote s call t → SameReads w (touches call) same (answers s) (answers t) → Done wrote w touches same answers s t (call ∷ [])
-  done_one s t call a b = (t, record { did = a; reads = b }, refl)

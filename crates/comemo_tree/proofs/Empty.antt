@@ -2,7 +2,7 @@
 use Rattle.std.proofs.Common.{◌≡◌, ◌∙◌, ℕ, Bool, List, [], length, get_or, Some, None, sym, ap}
 use Rattle.std.specs.Map.{lookup}
 use Rattle.std.specs.Prelude.{option_map}
-use Rattle.std.specs.HashMap.{HashMap, get}
+use Rattle.std.specs.HashMap.{HashMap}
 use Rattle.slab.specs.Slab as slab
 use Rattle.slab.proofs.SlabLemmas.{length-entries}
 use Rattle.comemo_tree.specs.Nodes.{IsForest, contents, entry_of, first_of}
@@ -17,9 +17,6 @@ length-contents inner leaves = length-map (slab.entries leaves) (entry_of inner)
 
 nothing : {X P : Type 0} (s : slab.Slab X) (at : ℕ) (x : X) → s.slots ≡ [] → slab.get s at ≡ Some x → P
 nothing s at x e f = let l : None ≡ Some x = sym (ap (λ xs. get_or xs at None) e) ∙ f in cc
-
-no_key : {K X S P : Type 0} (eqk : K → K → Bool) (m : HashMap K X S) (k : K) (x : X) → m.entries ≡ [] → get eqk m k ≡ Some x → P
-no_key eqk m k x e f = let l : None ≡ Some x = sym (ap (λ es. lookup (eqk k) es) e) ∙ f in cc
 
 no_first : {K S P : Type 0} (eqk : K → K → Bool) (m : HashMap K Start S) (k : K) (first : Node) → m.entries ≡ [] → first_of eqk m k ≡ Some first → P
 no_first eqk m k first e f = let l : None ≡ Some first = sym (ap (λ (es : List (_ × Start)). option_map (λ (start : Start). start.first) (lookup (eqk k) es)) e) ∙ f in cc

@@ -26,10 +26,6 @@ IfOk-none (Ok None) h p = h p
 IfOk-none (Ok (Some x)) h p = tt
 IfOk-none (Err e) h p = tt
 
--- a change is at the key that was vacant
-pub at_slot : {X : Type 0} {old new : slab.Slab X} {w : Option X} {id slot : ℕ} → id ≡ slot → slab.Updates old new slot w → slab.Updates old new id w
-at_slot {old = old} {new = new} {w = w} e u = subst (λ k. slab.Updates old new k w) (sym e) u
-
 -- what was added to one tree was added to another with the same entries
 pub Grown-moved : {K C R T S : Type 0} {eq : C → C → Bool} {same : R → R → Bool} {eqk : K → K → Bool} {inner inner' later : slab.Slab (InnerNode C R)} {leaves leaves' later' : slab.Slab (LeafNode K T)} {starts : HashMap K Start S} {key key' : K} {path path' : List (C × R)} {value : T} → contents inner' leaves' ≡ contents inner leaves → key ≡ key' → path ≡ path' → Grown eq same eqk inner' leaves' later later' starts key path value → Grown eq same eqk inner leaves later later' starts key' path' value
 Grown-moved {inner = inner} {inner' = inner'} {later = later} {leaves = leaves} {leaves' = leaves'} {later' = later'} {key = key} {key' = key'} {path = path} {path' = path'} {value = value} e k p g = record {

@@ -1,20 +1,18 @@
 -- Lemmas on the keys whose paths ask given calls.
-use Rattle.std.proofs.Common.{◌≡◌, ◌≢◌, ◌∙◌, ◌<◌, ◌≤◌, ◌+◌, ℕ, zero, suc, Bool, true, false, List, [], ◌∷◌, ◌++◌, length, get_or, Option, Some, None, sym, ap, subst, refl, inl, inr, IsTrue, IsSome, arith, is_some, slice_set, length-append}
+use Rattle.std.proofs.Common.{◌≡◌, ◌≢◌, ◌∙◌, ◌<◌, ◌≤◌, ◌+◌, ℕ, zero, suc, Bool, true, false, List, [], ◌∷◌, ◌++◌, length, get_or, Option, Some, None, sym, ap, subst, refl, inl, inr, IsTrue, arith, is_some, slice_set, length-append}
 use Rattle.std.specs.Prelude.{option_map}
 use Rattle.std.specs.Cmp.{IsEquivalence}
-use Rattle.std.specs.List.{All, Any, list_any, slice_get}
-use Rattle.std.specs.Map.{lookup}
+use Rattle.std.specs.List.{All, Any, slice_get}
 use Rattle.std.specs.HashMap.{HashMap, get}
 use Rattle.std.proofs.lemmas.Bool.{cases_Bool, cases_eq}
 use Rattle.std.proofs.lemmas.List.{get_or-set_same, get_or-set_other, get_or_past, length-set}
-use Rattle.std.proofs.lemmas.List.Folds.{list_any-from_Any, Any-from_list_any}
 use Rattle.std.proofs.lemmas.Map.Entries.{place_from_lookup}
 use Rattle.std.proofs.lemmas.Option.{slice_get_within}
 use Rattle.slab.specs.Slab as slab
 use Rattle.comemo_base.specs.Tree.{Stored}
 use Rattle.comemo_base.proofs.Under.{Any-here, Any-weaker}
 use Rattle.comemo_tree.specs.Marks.{IsRooted, AreOf, rank}
-use Rattle.comemo_tree.specs.Nodes.{Leads, LeadsFrom, origin, extended, path_of, contents, first_of, IsForest}
+use Rattle.comemo_tree.specs.Nodes.{Leads, LeadsFrom, origin, extended, path_of, contents, IsForest}
 use Rattle.comemo_tree.specs.Reach.{is_one, asks_one, AsksUnder, HasParents, IsFirstOf, IsMarkedUpTo, marked}
 use Rattle.comemo_tree.specs.declared.children.Node.{Node}
 use Rattle.comemo_tree.specs.declared.children.Node.TheVariants.{Inner, Leaf}
@@ -22,7 +20,7 @@ use Rattle.comemo_tree.specs.declared.tree.InnerNode.{InnerNode}
 use Rattle.comemo_tree.specs.declared.tree.LeafNode.{LeafNode}
 use Rattle.comemo_tree.specs.declared.tree.Start.{Start}
 use Rattle.comemo_tree.proofs.Counts.{Any-left, Any-right}
-use Rattle.comemo_tree.proofs.Forest.{knows_from, leaf_below, any_entry, all_entries, first_alike}
+use Rattle.comemo_tree.proofs.Forest.{knows_from, leaf_below, any_entry, all_entries}
 use Rattle.comemo_tree.proofs.Passes.{some_of, cases_below}
 use Rattle.comemo_tree.proofs.Prefixes.{inner_reached}
 
@@ -85,23 +83,6 @@ module _ {C R : Type 0} (inner : slab.Slab (InnerNode C R)) where
 
   -- ---- the marks
   module _ (eq : C → C → Bool) (calls : List C) where
-    pub IsMarkedUpTo-init : (marks : List Bool) → length inner.slots ≤ length marks → ((i : ℕ) → get_or marks i false ≡ false) → IsMarkedUpTo eq calls inner marks 0
-    IsMarkedUpTo-init marks len none = record {
-      len = len;
-      marked = λ at node first l e h f. absurd (omega arith);
-      only = λ first h. (let e : true ≡ false = sym h ∙ none first in cc);
-    }
-
-    pub IsMarkedUpTo-none : (marks : List Bool) (end : ℕ) → IsMarkedUpTo eq calls inner marks end → slab.get inner end ≡ None → IsMarkedUpTo eq calls inner marks (end + 1)
-    IsMarkedUpTo-none marks end m none = record {
-      len = m.len;
-      marked = λ at node first l e h f. elim (cases_eq at end) [
-        | inl s ↦ (let two : None ≡ Some node = sym none ∙ ap (slab.get inner) (sym s) ∙ e in cc)
-        | inr d ↦ m.marked at node first (omega arith) e h f
-      ];
-      only = m.only;
-    }
-
     pub IsMarkedUpTo-skip : (marks : List Bool) (end : ℕ) (node : InnerNode C R) → IsMarkedUpTo eq calls inner marks end → slab.get inner end ≡ Some node → is_one eq calls node.call ≡ false → IsMarkedUpTo eq calls inner marks (end + 1)
     IsMarkedUpTo-skip marks end here m is absent = record {
       len = m.len;
@@ -129,13 +110,6 @@ module _ {C R : Type 0} (inner : slab.Slab (InnerNode C R)) where
         | inl s ↦ (end, here, is, present, subst (λ x. IsFirstOf inner end x) (sym s) f)
         | inr d ↦ m.only first (sym (get_or-set_other marks top first true false d) ∙ h)
       ];
-    }
-
-    pub IsMarkedUpTo-end : (marks : List Bool) (end : ℕ) → length inner.slots ≤ end → IsMarkedUpTo eq calls inner marks end → IsMarkedUpTo eq calls inner marks (length inner.slots)
-    IsMarkedUpTo-end marks end l m = record {
-      len = m.len;
-      marked = λ at node first k e h f. m.marked at node first (omega arith) e h f;
-      only = m.only;
     }
 
     -- a node that asks one of the calls lies on a way that asks one

@@ -1,5 +1,5 @@
 -- The keys whose paths ask given calls.
-use Rattle.std.specs.Prelude.{◌≡◌, ◌<◌, ◌≤◌, ℕ, suc, Bool, false, List, Some, Option, IsTrue, get_or, length}
+use Rattle.std.specs.Prelude.{◌≡◌, ◌<◌, ◌≤◌, ℕ, suc, Bool, false, List, Some, IsTrue, get_or, length}
 use Rattle.std.specs.List.{Any, list_any}
 use Rattle.slab.specs.Slab as slab
 use Rattle.comemo_base.specs.Tree.{Stored}

@@ -1,5 +1,5 @@
 //! The call tree on slabs: the map from keys and paths of calls to values in which memoized outputs are found. It has
-//! the contracts of the plain tree of `comemo_base`. A look-up follows one path, however many entries there are.
+//! the contracts of the plain tree of `comemo_plain`. A look-up follows one path, however many entries there are.
 //!
 //! A value is stored under a key and the calls that a run asked. It is found by their answers until a test drops it:
 //!

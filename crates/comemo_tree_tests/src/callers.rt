@@ -6,7 +6,8 @@ ghost use Rattle.std.specs.List.{All, Any};
 ghost use Rattle.comemo_base.specs.Answers.{Agrees};
 ghost use Rattle.comemo_base.specs.Lookup.{under, FindsAgreeing, FindsAgreeingPath};
 
-use comemo_base::{CallSequence, InsertError, PlainTree};
+use comemo_base::{CallSequence, InsertError};
+use comemo_plain::PlainTree;
 use std::alloc::AllocError;
 use std::hash::Hash;
 

@@ -1,8 +1,21 @@
-//! The examples of the first pages of `comemo_base` and `comemo_tree`.
+//! The examples of the first pages of `comemo_base`, `comemo_plain` and `comemo_tree`.
 
-use comemo_base::{CallSequence, PlainTree};
+use comemo_base::CallSequence;
+use comemo_plain::PlainTree;
 use comemo_tree::CallTree;
 use std::test::Fail;
+
+#[test]
+fn a_sequence_takes_in_a_call_once(rt: HostRuntime) -> Result<(), Fail> {
+    let mut run: CallSequence<u8, u64> = CallSequence::new(rt.alloc());
+    let _ = run.insert(b'a', 10)?;
+    let _ = run.insert(b'b', 20)?;
+    assert_eq!(rt; run.extract(&b'b'), Some(20));
+    assert_eq!(rt; run.insert(b'b', 30)?, false);
+    assert_eq!(rt; run.next(), Some((b'a', 10)));
+    assert_eq!(rt; run.next(), None);
+    Ok(())
+}
 
 #[test]
 fn what_is_stored_is_found_by_its_answers(rt: HostRuntime) -> Result<(), Fail> {

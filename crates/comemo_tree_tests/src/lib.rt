@@ -1,6 +1,6 @@
-//! Tests of `comemo_base` and `comemo_tree` from outside, through their public contracts alone: proved callers, laws of
-//! their definitions, worked examples, hashes from another program, random steps compared with a plain list, and the
-//! shapes of wide nodes and of a long chain. The rows of `bench rows` have more examples.
+//! Tests of `comemo_base`, `comemo_plain` and `comemo_tree` from outside, through their public contracts alone: proved
+//! callers, laws of their definitions, worked examples, hashes from another program, random steps compared with a plain
+//! list, and the shapes of wide nodes and of a long chain. The rows of `bench rows` have more examples.
 #![tactic(auto)]
 
 #[cfg(test)]

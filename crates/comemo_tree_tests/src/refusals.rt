@@ -4,7 +4,7 @@ ghost use Rattle.std.specs.List.{Any};
 ghost use Rattle.comemo_base.specs.Lookup.{under};
 ghost use Rattle.comemo_tree_tests.specs.Refusals.{GoesOnAfter, IsAnsweredBy, LacksAnswer};
 
-use comemo_base::PlainTree;
+use comemo_plain::PlainTree;
 use std::alloc::AllocError;
 use std::hash::Hash;
 

@@ -1,6 +1,7 @@
 //! Worked examples of sequences, with bytes as calls and numbers as answers. The rows of `bench rows` have more, and
 //! those of trees.
-use comemo_base::{CallSequence, PlainTree};
+use comemo_base::CallSequence;
+use comemo_plain::PlainTree;
 use std::alloc::Global;
 
 pub(crate) type Tree = PlainTree<u128, u8, u128, char>;

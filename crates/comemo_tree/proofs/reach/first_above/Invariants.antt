@@ -1,4 +1,3 @@
-use Rattle.std.proofs.Common.{◌≡◌}
 use Rattle.slab.specs.Slab as slab
 use Rattle.comemo_tree.specs.Marks.{rank}
 use Rattle.comemo_tree.proofs.Reaching.{SameFirst}

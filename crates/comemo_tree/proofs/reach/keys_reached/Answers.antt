@@ -1,4 +1,4 @@
-use Rattle.std.proofs.Common.{rules, ◌≡◌, ◌∙◌, Bor, sym, ap, refl, true, false, IsTrue}
+use Rattle.std.proofs.Common.{rules, ◌≡◌, ◌∙◌, Bor, sym, refl, true, false, IsTrue}
 use Rattle.std.proofs.lemmas.List.Elements.{All-push}
 use Rattle.std.proofs.lemmas.Map.Iter.{hash_map_turn, iter_turn, iter_end}
 use Rattle.std.specs.Map.Iter.{deref_pair}

@@ -1,5 +1,5 @@
 use Rattle.std.proofs.Common.{◌≡◌, ◌++◌, length}
-use Rattle.comemo_base.proofs.plain.new_path.Given as goal
+use Rattle.comemo_plain.proofs.new_path.Given as goal
 
 -- the path so far and what is left are the path at the start of the loop, and what was left then
 abbrev pub invariant-rest : goal.invariant-rest

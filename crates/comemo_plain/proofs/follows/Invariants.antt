@@ -1,6 +1,6 @@
 use Rattle.std.proofs.Common.{◌<◌, ℕ, IsTrue}
 use Rattle.std.specs.Prelude.{slice_index_or}
-use Rattle.comemo_base.proofs.plain.follows.Given as goal
+use Rattle.comemo_plain.proofs.follows.Given as goal
 
 -- the answers before i are the same
 abbrev pub invariant-loop-i : goal.invariant-loop-i

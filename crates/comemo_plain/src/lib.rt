@@ -2,6 +2,32 @@
 //!
 //! Look-ups search the whole list. It is short and slow, and no cache uses it: the tree of `comemo_tree` is compared
 //! with it, under contracts that are alike and independent of the entries' order.
+//!
+//! A tree stores a value under a key and the calls that a run asked, each with its answer. A look-up asks an oracle
+//! these calls. It returns the value if all answers are the same, and nothing if one differs:
+//!
+//! ```rust
+//! use comemo_base::CallSequence;
+//! use comemo_plain::PlainTree;
+//! use std::test::Fail;
+//!
+//! fn what_is_stored_is_found_by_its_answers(rt: HostRuntime) -> Result<(), Fail> {
+//!     let mut run = CallSequence::new(rt.alloc());
+//!     let _ = run.insert(b'a', 10)?;
+//!     let _ = run.insert(b'b', 20)?;
+//!     let mut tree: PlainTree<u32, u8, u64, u64> = PlainTree::new(rt.alloc());
+//!     tree.insert(7, run, 30)?;
+//!     let found = tree.get(&7, &mut |call: &u8| Ok(if *call == b'a' { 10 } else { 20 }))?;
+//!     assert_eq!(rt; found.copied(), Some(30));
+//!     let other = tree.get(&7, &mut |_: &u8| Ok(10))?;
+//!     assert_eq!(rt; other.copied(), None);
+//!     Ok(())
+//! }
+//! ```
+//!
+//! These lines run as a test in the crate `comemo_tree_tests`, in `src/examples.rt`.
+#![tactic(auto)]
+
 ghost use Rattle.std.specs.Prelude.{◌≡◌, ◌≤◌, ◌<◌, ◌↔◌, ◌⊎◌, ◌∷◌, ◌++◌, [], List, length, IsTrue, Some, IfSome, IfNone, IfOk, IfErr, OnOk, OnErr, IsOk, option_copied, option_map};
 ghost use Rattle.std.specs.List.{All, HoldsAt};
 ghost use Rattle.std.specs.List.Sorted.{IsPermutation};
@@ -12,8 +38,7 @@ ghost use Rattle.comemo_base.specs.Lookup.{under, Answered, CanBeAsked, IsAsked,
 ghost use Rattle.comemo_base.specs.Insertion.{Exists, Misses, IsStem, IsNewPath, IsReason, Adds, outside};
 ghost use Rattle.comemo_base.specs.Steps.{Follows};
 
-use crate::insertion::InsertError;
-use crate::sequence::CallSequence;
+use comemo_base::{CallSequence, InsertError};
 use std::alloc::{AllocError, Global};
 use std::hash::Hash;
 use std::marker::Model;

@@ -5,7 +5,7 @@ use Rattle.comemo_base.proofs.Under.{All-under}
 use Rattle.std.proofs.lemmas.List.Elements.{All-push}
 use Rattle.comemo_base.specs.Lookup.{under, IsStoredCall}
 use Rattle.comemo_base.proofs.Paths.{IfErr-refused, is_stored, found, whole_path, missed, refused, stepped}
-use Rattle.comemo_base.proofs.plain.get_in.Goals as goal
+use Rattle.comemo_plain.proofs.get_in.Goals as goal
 
 pub returns-in_default-clause-asked : goal.returns-in_default-clause-asked
 returns-in_default-clause-asked g c =

@@ -2,7 +2,7 @@ use Rattle.std.proofs.Common.{◌≡◌, ◌∙◌, sym, ap, subst, List, None, 
 use Rattle.comemo_base.specs.Tree.{Stored, IsSamePath}
 use Rattle.comemo_base.specs.Lookup.{under}
 use Rattle.comemo_base.proofs.Paths.{IfErr-refused, FindsAgreeing-from_asked, FindsAgreeingPath-from_asked, Agrees-asked, answers_next, IsSamePath-joined, IsSamePath-cloned}
-use Rattle.comemo_base.proofs.plain.PlainTree.find.Goals as goal
+use Rattle.comemo_plain.proofs.PlainTree.find.Goals as goal
 
 pub get_in-requires-clause-callable : goal.get_in-requires-clause-callable
 get_in-requires-clause-callable g c =

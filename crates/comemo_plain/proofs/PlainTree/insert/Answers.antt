@@ -2,7 +2,7 @@ use Rattle.std.proofs.Common.{◌≡◌, ◌∙◌, ◌∷◌, []}
 use Rattle.std.proofs.lemmas.List.Sorted.{IsPermutation-append_comm}
 use Rattle.comemo_base.specs.Tree.{stored}
 use Rattle.comemo_base.proofs.Steps.{IsTree-push}
-use Rattle.comemo_base.proofs.plain.PlainTree.insert.Goals as goal
+use Rattle.comemo_plain.proofs.PlainTree.insert.Goals as goal
 
 pub invariant_of-self-2 : goal.invariant_of-self-2
 invariant_of-self-2 g c =

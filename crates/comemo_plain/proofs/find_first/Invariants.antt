@@ -1,6 +1,6 @@
 use Rattle.std.specs.List.{AllWithin}
 use Rattle.std.proofs.Common.{IsTrue}
-use Rattle.comemo_base.proofs.plain.find_first.Given as goal
+use Rattle.comemo_plain.proofs.find_first.Given as goal
 
 -- no entry before i has the key
 abbrev pub invariant-loop-i : goal.invariant-loop-i

@@ -1,7 +1,7 @@
 use Rattle.std.proofs.Common.{◌≡◌, ◌∙◌, sym, ap, Some, None}
 use Rattle.comemo_base.specs.Tree.{Stored}
 use Rattle.comemo_base.proofs.Paths.{FindsAgreeing-from_asked, Agrees-asked, answers_next}
-use Rattle.comemo_base.proofs.plain.PlainTree.get.Goals as goal
+use Rattle.comemo_plain.proofs.PlainTree.get.Goals as goal
 
 pub get_in-requires-clause-callable : goal.get_in-requires-clause-callable
 get_in-requires-clause-callable g c =

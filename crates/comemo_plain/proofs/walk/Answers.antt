@@ -3,7 +3,7 @@ use Rattle.comemo_base.specs.Tree.{Stored}
 use Rattle.comemo_base.proofs.Under.{under-none, none-from_nothing}
 use Rattle.comemo_base.proofs.Paths.{get_or_same}
 use Rattle.comemo_base.proofs.Steps.{deeper, Exists-at, Misses-at, left_more, distinct_more, Walked-more, not_Exists, not_Misses, stem, apart, outside-nothing}
-use Rattle.comemo_base.proofs.plain.walk.Goals as goal
+use Rattle.comemo_plain.proofs.walk.Goals as goal
 
 pub walk-init : goal.walk-init
 walk-init g c = record {

@@ -1,7 +1,7 @@
 use Rattle.std.specs.List.{AllWithin}
 use Rattle.std.proofs.Common.{IsTrue}
 use Rattle.comemo_base.specs.Steps.{Follows}
-use Rattle.comemo_base.proofs.plain.find_branch.Given as goal
+use Rattle.comemo_plain.proofs.find_branch.Given as goal
 
 -- no entry before i follows
 abbrev pub invariant-loop-i : goal.invariant-loop-i

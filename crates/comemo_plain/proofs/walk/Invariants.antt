@@ -3,7 +3,7 @@ use Rattle.std.specs.List.{HoldsAt}
 use Rattle.comemo_base.specs.Sequence.{HasDistinctCalls}
 use Rattle.comemo_base.specs.Insertion.{outside}
 use Rattle.comemo_base.proofs.Steps.{Walked}
-use Rattle.comemo_base.proofs.plain.walk.Given as goal
+use Rattle.comemo_plain.proofs.walk.Given as goal
 
 -- the path so far is the prefix of the path at hand, and its pairs were taken out of the sequence
 abbrev pub invariant-walk : goal.invariant-walk

@@ -2,7 +2,7 @@ use Rattle.std.proofs.Common.{◌≤◌, ◌<◌, ◌-◌, List, length, take, s
 use Rattle.std.specs.List.{All, HoldsAt}
 use Rattle.comemo_base.specs.Tree.{IsSamePath}
 use Rattle.comemo_base.specs.Lookup.{under, Answered, IsStoredCall}
-use Rattle.comemo_base.proofs.plain.get_in.Given as goal
+use Rattle.comemo_plain.proofs.get_in.Given as goal
 
 -- the oracle was asked the prefix of the path at hand, at stored calls, and gave its answers
 abbrev pub invariant-loop-depth : goal.invariant-loop-depth

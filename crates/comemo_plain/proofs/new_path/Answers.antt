@@ -1,6 +1,6 @@
 use Rattle.std.proofs.Common.{◌≡◌, ◌∙◌, ◌++◌, sym, ap, append-nil}
 use Rattle.comemo_base.specs.Insertion.{outside}
-use Rattle.comemo_base.proofs.plain.new_path.Goals as goal
+use Rattle.comemo_plain.proofs.new_path.Goals as goal
 
 pub returns-clause-path : goal.returns-clause-path
 returns-clause-path g c =
