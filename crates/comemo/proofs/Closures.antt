@@ -14,12 +14,6 @@ use Rattle.comemo.specs.declared.pending.Fault.TheVariants as fault
 use Rattle.comemo.specs.declared.pending.Reply.{Reply}
 use Rattle.comemo.specs.declared.pending.How.TheVariants as how
 
--- only an incomplete recording results in `Incomplete`, so one that is finished was complete
-pub complete_of_ok : {O : Type 0} (r : Result O Fault) (w : Bool) → (r ≡ Err fault.Incomplete) ↔ (w ≡ false) → IfOk r (λ _. w ≡ true)
-complete_of_ok (Ok x) true h = refl
-complete_of_ok (Ok x) false h = let e = h.1 refl in cc
-complete_of_ok (Err e) w h = tt
-
 -- which fault a run that went so, or its end, returned: a failure to allocate, or one after which the sink took nothing
 pub fault_of_end : {A B : Type 0} (S : Type 0) (w : Bool) (ran : Result A Fault) (r : Result B Fault) → IfOk ran (λ _. (r ≡ Err fault.Incomplete) ↔ (w ≡ false)) → IfOk ran (λ _. IfErr r (λ f. f ≡ fault.Write → ⊥)) → IfErr ran (λ f. (r ≡ Err f) × S) → (w ≡ false → S) → IfErr r (λ f. (f ≡ fault.Memory) ⊎ S)
 fault_of_end S w ran (Ok x) h never given spoiled = tt
@@ -45,13 +39,6 @@ mapped_err f (Err e) p = f p
 pub err_with : {A P : Type 0} {Q X : Fault → Type 0} → ((f : Fault) → P → Q f → X f) → (r : Result A Fault) → OnErr r P → IfErr r Q → IfErr r X
 err_with f (Ok a) p q = tt
 err_with f (Err e) p q = f e p q
-
--- a failed call of a function whose calls are reads left the entries unchanged, and its sink broken off at some pairs
-pub at_some_pairs : {K C R O I P : Type 0} {M : Meaning K C R O} {es : Entries K C R O} {call : Invocation K C R} {did : I → I → List C → Type 0} {recording : P → Recording C R} {post : MutBor I → MutBor P → Result O Fault → MutBor I → MutBor P → Type 0} {input left : I} → (broken : List (C × R) → Type 0) {after : List (C × R) → List C → Type 0} {es' : Entries K C R O} → IsBroken M es call did recording post input left broken after es' → ((c : C) → M.is_write c ≡ false) → (es' ≡ es) × ((pairs : List (C × R)) × broken pairs)
-at_some_pairs broken (inl (same, inl begun)) reads = (same, (begun.1.pairs, begun.1.is_broken))
-at_some_pairs broken (inl (same, inr (inl (r, t, ran, spoiled, is)))) reads = (same, ([], is))
-at_some_pairs broken (inl (same, inr (inr (output, t, ran, complete, is)))) reads = (same, (is.given, is.is_broken))
-at_some_pairs broken (inr (touched, is)) reads = absurd (never_refused is reads)
 
 module _ {K C R O : Type 0} {M : Meaning K C R O} {es : Entries K C R O} {call : Invocation K C R} {begun : PendingRun K C R} (is : IsRun M es call begun) where
   module _ {I P : Type 0} (did : I → I → List C → Type 0) (recording : P → Recording C R) (post : MutBor I → MutBor P → Result O Fault → MutBor I → MutBor P → Type 0) (input : I) (t : Recording C R) where

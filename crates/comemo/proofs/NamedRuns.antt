@@ -50,20 +50,6 @@ module _ {C R : Type 0} {eq : C → C → Bool} {same : R → R → Bool} (calls
   settles_asked {s = s} {call = call} k =
       subst (λ ps. Settles eq same (λ n c. IsTrue (eq call c)) nothing_left s.pairs ps) (sym k.sent.pairs) (settles_one s.pairs (call, k.noted))
 
-  -- then the present answers still agree with what is recorded
-  pub agrees_asked : {touches : C → C → Bool} {m : C → R} {s t : Recording C R} {call : C} {answer : R} → Respects eq same m → Agrees same m s.pairs → Asks same m call answer (Took eq touches s t) → Agrees same m t.pairs
-  agrees_asked {m = m} {call = call} respects before k = agrees_from calls answers m respects ((call, k.noted) ∷ []) [] k.sent before (k.alike, tt)
-
-  -- what the questions of two stretches ask, one after the other, is recorded after both
-  pub settles_both : {one other : (C → R) → C → Type 0} {s t u : List (C × R)} → Settles eq same one nothing_left s t → Settles eq same other nothing_left t u → Settles eq same (λ m c. other m c ⊎ one m c) nothing_left s u
-  settles_both {one = one} {other = other} {s = s} {t = t} {u = u} first next =
-      settles_on calls answers (λ m c. other m c ⊎ one m c) other other nothing_left s t u (record {
-        added = first.added;
-        parts = first.parts;
-        in_turn = λ m r k. in_turn_more calls answers (one m) (λ c. other m c ⊎ one m c) m (λ c a. inr a) first.added (first.in_turn m r k);
-        complete = λ m r k c h. elim h [ inl a ↦ inr a | inr a ↦ elim (first.complete m r k c a) [ inl there ↦ inl there | inr never ↦ absurd never ] ];
-      }) next (λ m r k c a. inl a) (λ m r k c a. inl a)
-
 module _ {K C R : Type 0} {eqk : K → K → Bool} {eq : C → C → Bool} {same : R → R → Bool} (keys : IsEquivalence eqk) (calls : IsEquivalence eq) (answers : IsEquivalence same) where
   asked_alike : (asks : K → (C → R) → C → Type 0) (key : K) (m : C → R) (c d : C) → IsTrue (eq c d) → AsksAlike eqk eq asks key m c → AsksAlike eqk eq asks key m d
   asked_alike asks key m c d e (k, b, f, g, a) = (k, b, f, joined calls b c d g e, a)
@@ -74,19 +60,6 @@ module _ {K C R : Type 0} {eqk : K → K → Bool} {eq : C → C → Bool} {same
       let asked = AsksAlike eqk eq asks call.key in
       let run = run_alike calls answers asked (asked_alike asks call.key) k.pairs k.gives.given k.gives.alike k.settled in
       subst (λ ps. Settles eq same asked nothing_left s.pairs ps) (sym k.gives.are_sent.pairs) (settles_absorbed calls answers call.answers respects asked s.pairs k.gives.given agrees ((k.gives.agreeing call.answers respects).1 k.agrees) run)
-
-  -- then the present answers still agree with what is recorded
-  pub agrees_called : {O : Type 0} {is_write : C → Bool} {is_clone : O → O → Type 0} {def : K → (C → R) → O → List C → Type 0} {N : Naming K C R} {call : Invocation K C R} {es mid es' : Entries K C R O} {touches : C → C → Bool} {s t : Recording C R} {reply : Reply O} → Respects eq same call.answers → Agrees same call.answers s.pairs → IsReply (record { same_call = eq; same_answer = same; same_key = eqk; is_write = is_write; is_clone = is_clone; right = def; naming = N }) call es mid (Took eq touches s t) reply es' → Agrees same call.answers t.pairs
-  agrees_called {call = call} respects before k = agrees_from calls answers call.answers respects k.gives.given k.writes k.gives.are_sent before ((k.gives.agreeing call.answers respects).1 k.agrees)
-
-  -- what was settled from no pair on is a run of what is asked
-  pub run_settled : (asks : K → (C → R) → C → Type 0) (key : K) (ps : List (C × R)) → Settles eq same (AsksAlike eqk eq asks key) nothing_left [] ps → IsRun eq same (AsksAlike eqk eq asks key) ps
-  run_settled asks key ps h = run_from_settles calls answers (AsksAlike eqk eq asks key) (asked_alike asks key) ps h
-
-  -- so what a function's run owes is settled
-  pub settles_run : {X : Type 0} (asks : K → (C → R) → C → Type 0) (key : K) (s t : Recording C R) (r : Result X Fault) → Settles eq same (AsksAlike eqk eq asks key) nothing_left s.pairs t.pairs → SettlesRun eqk eq same (names asks) key s t r
-  settles_run asks key s t (Ok x) h none = λ w l. run_settled asks key t.pairs (subst (λ ps. Settles eq same (AsksAlike eqk eq asks key) nothing_left ps t.pairs) none h)
-  settles_run asks key s t (Err f) h none = tt
 
 -- the tests of calls and answers are equivalences, and this one is true of the key
 pub record Tests {K C R : Type 0} (like : K → Bool) (key : K) (eq : C → C → Bool) (same : R → R → Bool) : Type 0 where

@@ -17,10 +17,6 @@ use Rattle.comemo.proofs.Endings.{gives_early}
 use Rattle.comemo.proofs.Recorders.{still_agrees, fitted, fits_taken, stays_early}
 
 module _ {V C R X : Type 0} {fits : Recording C R → (C → R) → Type 0} {s t : Recorded V C R} where
-  -- a call of a function that calls itself is a call
-  pub own_tells : {P : X → (C → R) → Type 0} (r : Result X Fault) → TellsOwn fits s t r P → Tells fits s t r P
-  own_tells (Ok x) a = record { same_value = a.same_value; before = a.before; told = a.told; complete = a.complete; fault = tt }
-  own_tells (Err f) a = record { same_value = a.same_value; before = tt; told = tt; complete = tt; fault = λ e. absurd (a.fault e) }
 
   -- a question or a call of another function establishes what a nested call does, unless it fails with `Incomplete`
   pub tells_own : {P : X → (C → R) → Type 0} (r : Result X Fault) → Tells fits s t r P → IfErr r (λ f. f ≡ fault.Incomplete → ⊥) → TellsOwn fits s t r P

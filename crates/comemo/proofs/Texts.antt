@@ -74,7 +74,3 @@ module _ {C R : Type 0} {eq : C → C → Bool} {same : R → R → Bool} (m : C
   -- if g treats equal answers alike, it returns the same for the answer of a call and for that of an equal call
   pub alike_of_told : {X : Type 0} (g : R → X) → ((a b : R) → IsTrue (same a b) → g a ≡ g b) → (c d : C) (answer : R) → IsTrue (eq c d) → IsTrue (same (m c) answer) → g answer ≡ g (m d)
   alike_of_told g alike c d answer e h = sym (alike (m c) answer h) ∙ alike (m c) (m d) (respects c d e)
-
--- answers that tell no equal calls apart do so at the first part
-pub first_respects : {X Y P Q : Type 0} (eq : MultiCall X Y → MultiCall X Y → Bool) (same : MultiAnswer P Q → MultiAnswer P Q → Bool) (m : MultiCall X Y → MultiAnswer P Q) (n : X → P) → Respects eq same m → ((c : X) → m (first_call c) ≡ first_answer (n c)) → Respects (λ c d. eq (first_call c) (first_call d)) (λ a b. same (first_answer a) (first_answer b)) n
-first_respects eq same m n respects first c d h = subst (λ b. IsTrue (same (first_answer (n c)) b)) (first d) (subst (λ a. IsTrue (same a (m (first_call d)))) (first c) (respects (first_call c) (first_call d) h))
