@@ -7,7 +7,7 @@ use Rattle.comemo_base.specs.Sequence.{absorbed}
 use Rattle.comemo_track.specs.Recording.{Recording, Took}
 use Rattle.comemo_track.specs.RecordingLaws.{or_none}
 use Rattle.comemo_track.specs.Writing.{touched}
-use Rattle.comemo.specs.Function.{Recorded, IsRecorded, Fits}
+use Rattle.comemo.specs.Function.{IsRecorded, Fits}
 use Rattle.comemo.specs.Recursive.{TellsOwn}
 use Rattle.comemo.proofs.Recorders.{still_agrees, fitted, fits_taken, stays_early}
 

@@ -7,7 +7,7 @@ use Rattle.comemo_cache.specs.Cache.{Entries, Stands}
 use Rattle.comemo.specs.Begin.{PendingRun, came_to, IsRun}
 use Rattle.comemo.specs.Finish.{Ends, Finished, BreaksOffRun}
 use Rattle.comemo_cache.proofs.Sendings.{mapped}
-use Rattle.comemo.proofs.Calls.{recorded, stands_at_call, never_refused}
+use Rattle.comemo.proofs.Calls.{recorded, stands_at_call}
 use Rattle.comemo.specs.Closure.{Ran, RanTo, Ended, IsFault, IsBroken}
 use Rattle.comemo.specs.declared.pending.Fault.{Fault}
 use Rattle.comemo.specs.declared.pending.Fault.TheVariants as fault

@@ -1,6 +1,6 @@
 -- What a finished run has recorded, if the asked calls are named; and for authors of functions that name them: what
 -- follows from the clauses of a recorder's questions and calls.
-use Rattle.std.proofs.Common.{◌≡◌, ◌⊎◌, Bool, true, false, List, [], ◌∷◌, ◌++◌, Result, Ok, Err, OnOk, IsTrue, inl, inr, refl, sym, subst, append-nil}
+use Rattle.std.proofs.Common.{◌≡◌, ◌⊎◌, Bool, true, false, List, [], ◌∷◌, ◌++◌, Result, Ok, OnOk, IsTrue, inl, inr, refl, sym, subst, append-nil}
 use Rattle.std.specs.Bool.{⊤}
 use Rattle.std.proofs.lemmas.Bool.{cases_Bool}
 use Rattle.std.specs.Cmp.{IsEquivalence}
@@ -10,16 +10,16 @@ use Rattle.comemo_base.specs.Runs.{IsRun}
 use Rattle.comemo_base.specs.Settling.{Settles, nothing_left}
 use Rattle.comemo_base.proofs.Paths.{turned, joined}
 use Rattle.comemo_base.proofs.Sets.{held-alike}
-use Rattle.comemo_base.proofs.Settling.{settles_not, settles_on, settles_absorbed, in_turn_more, run_alike, run_from_settles}
+use Rattle.comemo_base.proofs.Settling.{settles_not, settles_on, settles_absorbed, run_alike, run_from_settles}
 use Rattle.comemo_track.specs.Recording.{Recording, Took}
 use Rattle.comemo_track.specs.Sending.{Asks}
 use Rattle.comemo_cache.specs.Cache.{Entries}
 use Rattle.comemo_cache.specs.Meaning.{Invocation, Naming, unnamed, names, AsksAlike, IsRunOf}
 use Rattle.comemo.specs.Called.{IsReply}
-use Rattle.comemo.specs.Function.{Fits, SettlesAs, SettlesRun}
+use Rattle.comemo.specs.Function.{Fits, SettlesAs}
 use Rattle.comemo.specs.declared.pending.Fault.{Fault}
 use Rattle.comemo.specs.declared.pending.Reply.{Reply}
-use Rattle.comemo.proofs.Recorders.{was_complete, in_time, agrees_from}
+use Rattle.comemo.proofs.Recorders.{was_complete, in_time}
 
 pub settled_end : {K C R X : Type 0} (eqk : K → K → Bool) (eq : C → C → Bool) (same : R → R → Bool) (N : Naming K C R) (key : K) (t : Recording C R) (r : Result X Fault) (output : X) → SettlesAs eqk eq same N key t r → r ≡ Ok output → t.complete ≡ true → t.late ≡ false → IsRunOf eqk eq same N key t.pairs
 settled_end eqk eq same unnamed key t r output s e w l = tt

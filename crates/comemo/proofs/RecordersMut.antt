@@ -1,18 +1,17 @@
 -- The invariant of a recorder that writes.
 use Rattle.std.specs.Prelude.{⊤}
-use Rattle.std.proofs.Common.{◌≡◌, ◌∙◌, ◌||◌, cond, Bool, true, false, List, [], ◌∷◌, ◌++◌, IsTrue, Result, Ok, Err, OnErr, IsErr, IsErrAnd, refl, sym, ap, subst, append-nil, inl, inr}
+use Rattle.std.proofs.Common.{◌≡◌, ◌∙◌, cond, Bool, true, false, List, [], ◌∷◌, ◌++◌, IsTrue, Result, Ok, Err, OnErr, IsErr, IsErrAnd, refl, sym, ap, subst, append-nil, inl, inr}
 use Rattle.std.proofs.lemmas.Bool.{cases_Bool}
 use Rattle.std.proofs.lemmas.List.Elements.{All-head, All-tail}
 use Rattle.std.specs.List.{All}
 use Rattle.std.specs.Cmp.{IsEquivalence}
 use Rattle.comemo_base.specs.Answers.{Respects, Agrees}
 use Rattle.comemo_base.specs.Sequence.{held, absorbed}
-use Rattle.comemo_base.proofs.Pairs.{held-push}
 use Rattle.comemo_base.proofs.Paths.{turned, joined, Agrees-same, IsSamePath-turned}
 use Rattle.comemo_track.specs.Multi.{OnParts}
 use Rattle.comemo_track.specs.declared.multi.MultiAnswer.{MultiAnswer}
 use Rattle.comemo_track.specs.declared.multi.MultiCall.{MultiCall}
-use Rattle.comemo_track.specs.Recording.{Recording, Took, Spoiled, MarkedLate, TouchesHeld, IsLateByTouch}
+use Rattle.comemo_track.specs.Recording.{Recording, Took, Spoiled, MarkedLate, TouchesHeld}
 use Rattle.comemo_track.specs.RecordingLaws.{held-absorbed}
 use Rattle.comemo_track.specs.Sending.{Asks, BreaksOff, SpoiledAfter, TookAs}
 use Rattle.comemo_track.specs.Writing.{Done, touched, touched_by}

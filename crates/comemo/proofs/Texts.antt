@@ -10,9 +10,6 @@ use Rattle.std.proofs.lemmas.Cmp.{nat_list_eq_equiv}
 use Rattle.comemo_base.specs.Answers.{Respects}
 use Rattle.comemo_track.specs.AnswerLaws.{items_clone}
 use Rattle.comemo_base.proofs.Paths.{turned, joined}
-use Rattle.comemo_track.specs.Multi.{first_call, first_answer}
-use Rattle.comemo_track.specs.declared.multi.MultiCall.{MultiCall}
-use Rattle.comemo_track.specs.declared.multi.MultiAnswer.{MultiAnswer}
 
 -- equal texts have the same bytes
 pub bytes_of_equal : (a b : String Global) → IsTrue (string_eq a b) → string_bytes a ≡ string_bytes b

@@ -1,5 +1,5 @@
 -- Equal questions to a text have equal answers.
-use Rattle.std.proofs.Common.{IsTrue, rules}
+use Rattle.std.proofs.Common.{rules}
 use Rattle.std.specs.Prelude.{String}
 use Rattle.std.specs.Global.{Global}
 use Rattle.comemo.specs.Answers.{Respects}
