@@ -151,36 +151,6 @@ impl Input for Page {
     }
 }
 
-/// The value whose path agrees with a page, with a text as key.
-pub fn get_by_page<'a>(
-    tree: &'a PlainTree<String, (), String, u32>,
-    key: &String,
-    page: &mut Page,
-) -> Result<Option<&'a u32>, AllocError>
-    ensures found { IfOk result (λ found.
-        FindsAgreeing ⟦<() as PartialEq>⟧.eq ⟦<String as PartialEq>⟧.eq
-        (under ⟦<String as PartialEq>⟧.eq tree.now key.now)
-        (λ _. page.old.text) (option_copied found)) }
-    ensures same { page.new.text ≡ page.old.text }
-{
-    get_by_input(tree, key, page)
-}
-
-/// The path that agrees with a page, with a text as key, and its value.
-pub fn find_by_page<'a>(
-    tree: &'a PlainTree<String, (), String, u32>,
-    key: &String,
-    page: &mut Page,
-) -> Result<Option<(Vec<((), String)>, &'a u32)>, AllocError>
-    ensures found { IfOk result (λ found.
-        FindsAgreeingPath ⟦<() as PartialEq>⟧.eq ⟦<String as PartialEq>⟧.eq
-        (under ⟦<String as PartialEq>⟧.eq tree.now key.now)
-        (λ _. page.old.text) (option_map (λ p. (p.0.items, p.1.now)) found)) }
-    ensures same { page.new.text ≡ page.old.text }
-{
-    find_by_input(tree, key, page)
-}
-
 #[cfg(test)]
 mod tests {
     use super::*;
@@ -213,16 +183,18 @@ mod tests {
 
     type Pages = PlainTree<String, (), String, u32>;
 
-    // Stores a value for a text, under the key `page`.
-    fn store_page(
-        alloc: Global,
-        tree: &mut Pages,
-        letters: &str,
-        value: u32,
-    ) -> Result<(), InsertError> {
+    // Whether a value is stored for a text, under the key `page`.
+    fn stores_page(alloc: Global, tree: &mut Pages, letters: &str, value: u32) -> bool {
+        let Ok(key) = String::from_str(alloc, "page") else {
+            return false;
+        };
+        let Ok(text) = String::from_str(alloc, letters) else {
+            return false;
+        };
         let mut sequence = CallSequence::new(alloc);
-        let _ = sequence.insert((), String::from_str(alloc, letters)?)?;
-        tree.insert(String::from_str(alloc, "page")?, sequence, value)
+        let is_taken = sequence.insert((), text) == Ok(true);
+        let is_stored = tree.insert(key, sequence, value).is_ok();
+        is_taken && is_stored
     }
 
     // Whether a page of a text gets this, under the key `page`.
@@ -234,7 +206,7 @@ mod tests {
             return false;
         };
         let mut page = Page { text };
-        match get_by_page(tree, &key, &mut page) {
+        match get_by_input(tree, &key, &mut page) {
             Ok(found) => found.copied() == wanted,
             Err(_) => false,
         }
@@ -249,7 +221,7 @@ mod tests {
             return false;
         };
         let mut page = Page { text };
-        match find_by_page(tree, &key, &mut page) {
+        match find_by_input(tree, &key, &mut page) {
             Ok(Some((path, value))) => {
                 let is_text = path.len() == 1 && path[0].1.as_str() == letters;
                 is_text && *value == wanted
@@ -262,7 +234,7 @@ mod tests {
     fn a_page_finds_what_was_stored_for_its_text(rt: HostRuntime) {
         let alloc = rt.alloc();
         let mut tree = PlainTree::new(alloc);
-        assert!(rt; store_page(alloc, &mut tree, "Ada", 7) == Ok(()));
+        assert!(rt; stores_page(alloc, &mut tree, "Ada", 7));
         assert!(rt; gets_page(alloc, &tree, "Ada", Some(7)));
         assert!(rt; gets_page(alloc, &tree, "Bea", None));
         assert!(rt; finds_page(alloc, &tree, "Ada", 7));

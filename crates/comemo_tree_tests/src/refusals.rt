@@ -49,12 +49,19 @@ pub fn get_with_one_answer<'a, K: Eq + Hash, C: Eq + Hash, R: Ord + Drop, T>(
 #[cfg(test)]
 mod tests {
     use super::*;
-    use crate::sequences::stores;
+    use crate::sequences::{Tree, stores};
 
-    // Whether a look-up did not fail, and found this.
-    fn is_found(found: Result<Option<&char>, AllocError>, wanted: Option<char>) -> bool {
+    // Whether a look-up with one answer fails, and so did its oracle.
+    fn is_refused(tree: &Tree, answer: u128) -> bool {
+        let (found, refused) = get_with_one_answer(tree, &0, answer);
+        found.is_err() && refused
+    }
+
+    // Whether a look-up with one answer did not fail, nor its oracle, and found this.
+    fn is_found(tree: &Tree, answer: u128, wanted: Option<char>) -> bool {
+        let (found, refused) = get_with_one_answer(tree, &0, answer);
         match found {
-            Ok(found) => found.copied() == wanted,
+            Ok(found) => found.copied() == wanted && !refused,
             Err(_) => false,
         }
     }
@@ -65,14 +72,8 @@ mod tests {
         let mut tree = PlainTree::new(alloc);
         assert!(rt; stores(alloc, &mut tree, &[(b'a', 1), (b'b', 2)], 'x'));
         assert!(rt; stores(alloc, &mut tree, &[(b'a', 3)], 'y'));
-        let (second, refused) = get_with_one_answer(&tree, &0, 1);
-        assert!(rt; second.is_err());
-        assert!(rt; refused);
-        let (found, refused) = get_with_one_answer(&tree, &0, 3);
-        assert!(rt; is_found(found, Some('y')));
-        assert!(rt; !refused);
-        let (missed, refused) = get_with_one_answer(&tree, &0, 4);
-        assert!(rt; is_found(missed, None));
-        assert!(rt; !refused);
+        assert!(rt; is_refused(&tree, 1));
+        assert!(rt; is_found(&tree, 3, Some('y')));
+        assert!(rt; is_found(&tree, 4, None));
     }
 }

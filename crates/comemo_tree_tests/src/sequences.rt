@@ -6,8 +6,8 @@ use std::alloc::Global;
 
 pub(crate) type Tree = PlainTree<u128, u8, u128, char>;
 
-// Whether a sequence saw none of these calls before, and absorbs their pairs.
-fn takes(sequence: &mut CallSequence<u8, u128>, pairs: &[(u8, u128)]) -> bool {
+/// Whether a sequence saw none of these calls before, and absorbs their pairs.
+pub(crate) fn takes(sequence: &mut CallSequence<u8, u128>, pairs: &[(u8, u128)]) -> bool {
     for (call, answer) in pairs {
         let Ok(true) = sequence.insert(*call, *answer) else {
             return false;
@@ -71,14 +71,16 @@ fn a_sequence_absorbs_what_it_never_saw(rt: HostRuntime) {
 // Whether a sequence of pairs, two of which have the same call, holds only the first of these.
 fn keeps_first_pairs(alloc: Global) -> bool {
     let given: &[(u8, u128)] = &[(b'a', 1), (b'b', 2), (b'a', 9)];
-    let Ok(mut sequence) = CallSequence::from_pairs(alloc, given.iter().copied()) else {
-        return false;
-    };
-    let first = sequence.next();
-    let second = sequence.next();
-    let third = sequence.next();
-    let is_left_out = leaves_out(&mut sequence, b'a', 5);
-    first == Some((b'a', 1)) && second == Some((b'b', 2)) && third.is_none() && is_left_out
+    match CallSequence::from_pairs(alloc, given.iter().copied()) {
+        Ok(mut sequence) => {
+            let is_first = sequence.next() == Some((b'a', 1));
+            let is_second = sequence.next() == Some((b'b', 2));
+            let is_all = sequence.next().is_none();
+            let is_left_out = leaves_out(&mut sequence, b'a', 5);
+            is_first && is_second && is_all && is_left_out
+        }
+        Err(_) => false,
+    }
 }
 
 #[test]

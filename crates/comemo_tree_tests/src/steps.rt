@@ -45,6 +45,21 @@ impl Numbers {
     }
 }
 
+/// Whether a sequence absorbs these pairs.
+fn takes(sequence: &mut CallSequence<u32, u32>, pairs: u32) -> bool {
+    let mut left = pairs;
+    for _ in 0..MOST {
+        let Some((call, answer)) = first_of(left) else {
+            return true;
+        };
+        let Ok(true) = sequence.insert(call, answer) else {
+            return false;
+        };
+        left = rest_of(left);
+    }
+    true
+}
+
 /// Stores a value under a key and the path of these pairs.
 fn insert(
     alloc: Global,
@@ -54,15 +69,13 @@ fn insert(
     value: u32,
 ) -> Result<(), InsertError> {
     let mut sequence = CallSequence::new(alloc);
-    let mut left = pairs;
-    for _ in 0..MOST {
-        let Some((call, answer)) = first_of(left) else {
-            break;
-        };
-        let _ = sequence.insert(call, answer)?;
-        left = rest_of(left);
+    let is_taken = takes(&mut sequence, pairs);
+    let done = tree.insert(key, sequence, value);
+    if is_taken {
+        done
+    } else {
+        Err(InsertError::Memory)
     }
-    tree.insert(key, sequence, value)
 }
 
 /// Whether a tree gets a value by answers, and asks the wanted calls.
