@@ -92,9 +92,9 @@ fn is_totalled(
 #[test]
 fn a_total_is_noted_by_the_totals_before(rt: HostRuntime) -> Result<(), Fail> {
     let alloc = rt.alloc();
-    let mut cache: CacheData<RunningTotal> = CacheData::new(alloc);
     // The cells hold 1, 4, 7 and 10.
     let mut cells = Cells::new(alloc, 4)?;
+    let mut cache: CacheData<RunningTotal> = CacheData::new(alloc);
     // The number that the last cell is set to, how many cells are totalled, the totals, and how many entries there are
     // then.
     let calls: &[(u64, u32, &[u64], usize)] = &[
@@ -120,8 +120,8 @@ fn a_total_is_noted_by_the_totals_before(rt: HostRuntime) -> Result<(), Fail> {
 #[test]
 fn totals_that_have_no_room_are_begun(rt: HostRuntime) -> Result<(), Fail> {
     let alloc = rt.alloc();
-    let mut cache: CacheData<RunningTotal> = CacheData::new(alloc);
     let cells = Cells::new(alloc, 4)?;
+    let mut cache: CacheData<RunningTotal> = CacheData::new(alloc);
     let calls: &[(Fault, &[u64])] = &[
         // The third total fails, in the run of 3 cells. Those of fewer were stored.
         (Fault::Memory, &[1, 5]),
@@ -162,9 +162,9 @@ fn is_compared(
 #[test]
 fn cells_are_compared_by_those_before(rt: HostRuntime) -> Result<(), Fail> {
     let alloc = rt.alloc();
-    let mut cache: CacheData<AllEqual> = CacheData::new(alloc);
     let one = Cells::new(alloc, 4)?;
     let mut other = Cells::new(alloc, 4)?;
+    let mut cache: CacheData<AllEqual> = CacheData::new(alloc);
     // The place that is set to 0, how many cells are compared, the result, and how many entries there are then.
     let calls: &[(usize, u32, bool, usize)] = &[
         (9, 3, true, 3),
