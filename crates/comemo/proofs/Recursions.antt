@@ -17,7 +17,6 @@ use Rattle.comemo.proofs.Endings.{gives_early}
 use Rattle.comemo.proofs.Recorders.{still_agrees, fitted, fits_taken, stays_early}
 
 module _ {V C R X : Type 0} {fits : Recording C R → (C → R) → Type 0} {s t : Recorded V C R} where
-
   -- a question or a call of another function establishes what a nested call does, unless it fails with `Incomplete`
   pub tells_own : {P : X → (C → R) → Type 0} (r : Result X Fault) → Tells fits s t r P → IfErr r (λ f. f ≡ fault.Incomplete → ⊥) → TellsOwn fits s t r P
   tells_own (Ok x) a never = record { same_value = a.same_value; before = a.before; told = a.told; complete = a.complete; fault = tt }
