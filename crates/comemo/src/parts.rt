@@ -1,5 +1,5 @@
-//! What a run that only reads asks of a part of its value. A part is named by the map of its calls and answers to those of
-//! the whole, as `First::new()`.
+//! What a run that only reads asks of a part of its value. A part is named by the map of its calls and answers to
+//! those of the whole, as `First::new()`.
 ghost use Rattle.std.specs.Prelude.{◌≡◌, [], true, false, IsTrue, IfOk, IfErr, OnOk, OnErr, refl};
 ghost use Rattle.comemo.specs.Called.{HeldReply, HeldFault, HeldNeeds};
 ghost use Rattle.comemo_cache.specs.Meaning.{invocation};

@@ -8,7 +8,7 @@ use std::alloc::AllocError;
 /// Two tracked values as one, which is tracked itself, so that a run can get both: a `View` of each.
 ///
 /// Each call and its answer belong to one part, as with `Multi`. For more than two values write a struct with its own
-/// calls and `Track`: the checker doesn't cover runs of functions whose parts are joined values themselves.
+/// calls, `Track` and `Part`: the checker doesn't cover runs of functions whose parts are joined values themselves.
 #[derive(Drop)]
 pub struct Both<'a, A, B> {
     /// A view of the first value.
