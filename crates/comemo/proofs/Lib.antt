@@ -10,7 +10,6 @@ pub mod Hits
 pub mod Closures
 pub mod Faults
 pub mod Growing
-pub mod JoinedHits
 pub mod ThroughMaps
 pub mod Again
 pub mod Keeping

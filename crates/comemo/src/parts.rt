@@ -12,9 +12,9 @@ use crate::function::{Recorder, Run, Told, memoized_view};
 use crate::pending::{Fault, Reply};
 use comemo_cache::cache::Meant;
 use comemo_cache::hold::Hold;
-use comemo_track::mapped::{CallMap, MappedSink};
+use comemo_track::mapped::MappedSink;
 use comemo_track::part::Part;
-use comemo_track::track::{Call, Track, View};
+use comemo_track::track::{Call, Track};
 
 impl<'a, T: Track> Recorder<'a, T> {
     /// Asks a part of the value a read, and records it as a call of the whole. Fails if out of memory.
@@ -63,41 +63,8 @@ impl<'a, T: Track> Recorder<'a, T> {
             × ⟦<T as Told>⟧.broke_off self.old self.new) }
     {
         let view = self.view.part(&part, self.alloc);
-        self.call_through(cache, needs, key, &view, part)
-    }
-
-    /// As `call`, for a function of a part of the value: what it asked is recorded, renamed by a map.
-    fn call_through<A: Track, G: Run<A, N>, H: Hold<G>, N, P>(
-        &mut self,
-        cache: &mut H,
-        needs: &mut N,
-        key: G::Key,
-        of: &View<'_, A>,
-        map: P,
-    ) -> Result<G::Out, Fault>
-    where
-        P: CallMap<From = A::Call, FromAnswer = A::Answer, To = T::Call, ToAnswer = T::Answer>
-            + Drop,
-        requires reads { WritesNone G.writes }
-        requires through { (c : A.Call)
-            → T.answers self.old.value (P.maps map c) ≡ P.maps_answer map (A.answers of.now c) }
-        ensures tells { Tells ⟦<T as Told>⟧.fits self.old self.new result
-            (λ output m. OnPart (P.maps map) (P.maps_answer map) m
-            (λ part. G.means key part output)) }
-        ensures reply { IfOk result (λ output. (reply : Reply G.Out) × (reply.output ≡ output)
-            × HeldReply ⟦<G as Meant>⟧.meaning (invocation key (A.answers of.now) true)
-            (H.entries cache.old) (Through (P.maps map) (P.maps_answer map)
-            (⟦<T as Told>⟧.took self.old self.new)) reply (H.entries cache.new)) }
-        ensures fault { IfErr result (HeldFault ⟦<G as Meant>⟧.meaning
-            (invocation key (A.answers of.now) true) (H.entries cache.old)) }
-        ensures needs { HeldNeeds ⟦<G as Meant>⟧.meaning
-            (invocation key (A.answers of.now) true) (H.entries cache.old) needs.old needs.new }
-        ensures err { OnErr result (Stays (H.entries cache.old) (H.entries cache.new)
-            × ⟦<T as Told>⟧.broke_off self.old self.new) }
-    {
-        let alloc = self.alloc;
-        let mut sink = MappedSink::new(&mut self.recording, map);
-        let reply = memoized_view(alloc, cache, needs, key, of, &mut sink, true)?;
+        let mut sink = MappedSink::new(&mut self.recording, part);
+        let reply = memoized_view(self.alloc, cache, needs, key, &view, &mut sink, true)?;
         Ok(reply.output)
     }
 }
