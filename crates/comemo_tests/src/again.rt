@@ -1,6 +1,6 @@
-//! Consecutive calls: what a stored call implies for the next one, proved from the contracts of `memoized_with` and
-//! `validate` alone.
-ghost use Rattle.std.specs.Prelude.{◌≡◌, IfOk, IsTrue};
+//! Consecutive calls: what a stored call implies for the next one, proved from the contract of `memoized_with` alone. For
+//! a value that changed between the calls `call_evict_call` of `comemo_theorems` proves it.
+ghost use Rattle.std.specs.Prelude.{◌≡◌, IfOk};
 ghost use Rattle.std.proofs.Common.{rules};
 ghost use Rattle.comemo.specs.Function.{WritesNone};
 
@@ -56,44 +56,17 @@ pub fn call_twice<M: Run<T, N>, T: Track, N>(
     Ok((first, second))
 }
 
-/// The replies of two calls, and whether the answers to the questions of the first one are the same before the second.
-pub struct Around<Out> {
-    pub first: Reply<Out>,
-    pub valid: bool,
-    pub second: Reply<Out>,
-}
-
-/// Calls a function of a value, and then, with an equal key, of the changed value.
-///
-/// If the first call was stored, and the answers to its questions are the same, the second is a hit, whatever else
-/// changed.
-pub fn call_around<M: Run<T, N>, T: Track, N>(
-    alloc: Global,
-    cache: &mut CacheData<M>,
-    needs: &mut N,
-    key: M::Key,
-    before: &T,
-    after: &T,
-) -> Result<Around<M::Out>, Fault>
-    requires { WritesNone M.writes }
-    ensures { IfOk result (λ around. IsTrue around.valid → around.first.how ≡ How.Stored
-        → around.second.how ≡ How.Hit) }
-{
-    let again = key.clone()?;
-    let mut asked = Constraint::new(alloc);
-    let first = memoized_with(alloc, cache, needs, key, before, &mut asked, true)?;
-    let valid = asked.validate(after)?;
-    let second = memoized_with(alloc, cache, needs, again, after, &mut Top::new(), true)?;
-    Ok(Around {
-        first,
-        valid,
-        second,
-    })
-}
-
 /// Whether a reply has this output, and the call ended as `how`.
 fn gives(reply: Reply<u64>, output: u64, how: How) -> bool {
     reply.output == output && reply.how == how
+}
+
+/// Whether a call returned this output, and ended as `how`.
+fn ends(reply: Result<Reply<u64>, Fault>, output: u64, how: How) -> bool {
+    match reply {
+        Ok(reply) => gives(reply, output, how),
+        Err(_) => false,
+    }
 }
 
 /// Whether of two calls at one context the first is stored and the second is a hit.
@@ -118,19 +91,21 @@ fn becomes(alloc: Global, location: u64, styles: u64, how: How) -> bool {
         styles: 40,
     };
     let after = Context { location, styles };
-    match call_around(alloc, &mut cache, &mut (), (), &before, &after) {
-        Ok(around) => {
-            let Around {
-                first,
-                valid,
-                second,
-            } = around;
-            let is_stored = gives(first, 3, How::Stored);
-            let is_so = gives(second, location, how);
-            is_stored && is_so && valid == (how == How::Hit)
-        }
-        Err(_) => false,
-    }
+    let mut asked = Constraint::new(alloc);
+    let first = memoized_with(alloc, &mut cache, &mut (), (), &before, &mut asked, true);
+    let valid = asked.validate(&after);
+    let second = memoized_with(
+        alloc,
+        &mut cache,
+        &mut (),
+        (),
+        &after,
+        &mut Top::new(),
+        true,
+    );
+    let is_stored = ends(first, 3, How::Stored);
+    let is_so = ends(second, location, how);
+    is_stored && is_so && valid == Ok(how == How::Hit)
 }
 
 #[test]
