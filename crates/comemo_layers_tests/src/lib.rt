@@ -1,0 +1,15 @@
+//! Tests of the crates over `comemo`: branches of runs, in threads and in turn, values that keep their answers, functions
+//! that ask outputs of others, and the requests that the theorems are about.
+#![tactic(auto)]
+
+pub mod cells;
+pub mod counted;
+#[cfg(test)]
+mod cutoff;
+pub mod rolls;
+#[cfg(test)]
+mod rounds;
+#[cfg(test)]
+mod schedules;
+#[cfg(test)]
+mod sessions;
