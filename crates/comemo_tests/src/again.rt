@@ -61,10 +61,23 @@ fn gives(reply: Reply<u64>, output: u64, how: How) -> bool {
     reply.output == output && reply.how == how
 }
 
-/// Whether a call returned this output, and ended as `how`.
-fn ends(reply: Result<Reply<u64>, Fault>, output: u64, how: How) -> bool {
-    match reply {
-        Ok(reply) => gives(reply, output, how),
+/// Whether a call at a context, whose questions go to a recording, is stored.
+fn is_stored(
+    alloc: Global,
+    cache: &mut CacheData<Location>,
+    context: &Context,
+    asked: &mut Constraint<ContextCall, u64>,
+) -> bool {
+    match memoized_with(alloc, cache, &mut (), (), context, asked, true) {
+        Ok(reply) => gives(reply, context.location, How::Stored),
+        Err(_) => false,
+    }
+}
+
+/// Whether a call at a context, whose questions go nowhere, ends as `how`.
+fn ends(alloc: Global, cache: &mut CacheData<Location>, context: &Context, how: How) -> bool {
+    match memoized_with(alloc, cache, &mut (), (), context, &mut Top::new(), true) {
+        Ok(reply) => gives(reply, context.location, how),
         Err(_) => false,
     }
 }
@@ -92,20 +105,10 @@ fn becomes(alloc: Global, location: u64, styles: u64, how: How) -> bool {
     };
     let after = Context { location, styles };
     let mut asked = Constraint::new(alloc);
-    let first = memoized_with(alloc, &mut cache, &mut (), (), &before, &mut asked, true);
-    let valid = asked.validate(&after);
-    let second = memoized_with(
-        alloc,
-        &mut cache,
-        &mut (),
-        (),
-        &after,
-        &mut Top::new(),
-        true,
-    );
-    let is_stored = ends(first, 3, How::Stored);
-    let is_so = ends(second, location, how);
-    is_stored && is_so && valid == Ok(how == How::Hit)
+    let is_stored = is_stored(alloc, &mut cache, &before, &mut asked);
+    let is_same = asked.validate(&after) == Ok(how == How::Hit);
+    let is_so = ends(alloc, &mut cache, &after, how);
+    is_stored && is_same && is_so
 }
 
 #[test]

@@ -91,6 +91,7 @@ fn a_change_reaches_the_keys_that_asked_behind_locks(rt: HostRuntime) {
     let cache: Cache<NumberFor> = Cache::new(alloc);
     let mut share = cache.hold(&rt);
     assert!(rt; asks_all(alloc, &mut share));
-    let is_so = are_even(cache.reached(&rt, [TownCall::People].as_slice()));
+    let calls: &[TownCall] = &[TownCall::People];
+    let is_so = are_even(cache.reached(&rt, calls));
     assert!(rt; is_so);
 }
