@@ -4,7 +4,7 @@ use crate::notes::{AddsThree, NotesThree};
 use comemo::internal::TrackedMut;
 use comemo::{
     Begun, BothMut, CacheData, Constraint, Fault, How, MultiAnswer, MultiCall, RecorderMut, Sink,
-    Top, Track, memoize, memoized_mut_with,
+    Top, Track, Tracked, memoize, memoized_mut_with,
 };
 use comemo_examples::{Counter, CounterCall, Notebook, NotebookCall, Town, TownCall};
 use std::alloc::Global;
@@ -20,16 +20,24 @@ fn is_recorded(recording: Constraint<NotebookCall, u64>, owner: u64, lines: &[u6
     is_so
 }
 
+/// Whether the line 5 is written through a view of a notebook whose owner is 7, and 6 exactly if there is room for it.
+fn writes(
+    view: &mut TrackedMut<'_, Notebook>,
+    recording: &mut Constraint<NotebookCall, u64>,
+    has_room: bool,
+) -> bool {
+    let first = view.write(NotebookCall::Note(5), recording).is_ok();
+    let owner = view.ask(NotebookCall::Owner, recording) == Ok(7);
+    let second = view.write(NotebookCall::Note(6), recording).is_ok();
+    first && owner && second == has_room
+}
+
 /// Whether of the lines 5 and 6, written to a notebook that has so much room, these are done and recorded, and the others
 /// are neither.
 fn are_written(alloc: Global, room: usize, lines: &[u64]) -> bool {
     let mut book = Notebook::new(alloc, 7, room);
     let mut recording = Constraint::new(alloc);
-    let mut view = book.track_mut(alloc);
-    let first = view.write(NotebookCall::Note(5), &mut recording).is_ok();
-    let owner = view.ask(NotebookCall::Owner, &mut recording) == Ok(7);
-    let second = view.write(NotebookCall::Note(6), &mut recording).is_ok();
-    let is_told = first && owner && second == (lines.len() == 2);
+    let is_told = writes(&mut book.track_mut(alloc), &mut recording, lines.len() == 2);
     let is_done = book.lines() == lines;
     is_told && is_done && recording.is_whole() && is_recorded(recording, 7, lines)
 }
@@ -57,6 +65,11 @@ fn a_write_is_done_and_recorded_or_neither(rt: HostRuntime) {
     assert!(rt; is_sent);
 }
 
+/// Whether a view tells the owner 7 of a notebook.
+fn tells_owner(mut view: Tracked<'_, Notebook>) -> bool {
+    view.ask(NotebookCall::Owner, &mut Top::new()) == Ok(7)
+}
+
 /// Whether views of a view write to its value and read it.
 fn are_of_one_value(alloc: Global) -> bool {
     let mut book = Notebook::new(alloc, 7, 9);
@@ -65,12 +78,8 @@ fn are_of_one_value(alloc: Global) -> bool {
     let first = inner.write(NotebookCall::Note(5), &mut Top::new()).is_ok();
     drop(inner);
     let second = view.write(NotebookCall::Note(6), &mut Top::new()).is_ok();
-    let mut reading = TrackedMut::reborrow(&view, alloc);
-    let owner = reading.ask(NotebookCall::Owner, &mut Top::new()) == Ok(7);
-    drop(reading);
-    let mut reading = TrackedMut::downgrade(view, alloc);
-    let owner_too = reading.ask(NotebookCall::Owner, &mut Top::new()) == Ok(7);
-    drop(reading);
+    let owner = tells_owner(TrackedMut::reborrow(&view, alloc));
+    let owner_too = tells_owner(TrackedMut::downgrade(view, alloc));
     first && second && owner && owner_too && book.lines() == [5, 6].as_slice()
 }
 
