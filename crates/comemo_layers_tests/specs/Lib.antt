@@ -1,4 +1,3 @@
-pub mod Cells
 pub mod Rolls
 pub mod RollLaws
 pub mod RollTells

@@ -5,7 +5,7 @@ use Rattle.std.specs.Cmp.Lexicographic.{pointwise}
 use Rattle.std.proofs.Common.{IsTrue, rules, ap, sym}
 use Rattle.comemo.specs.AnswerLaws.{items_clone}
 use Rattle.comemo.proofs.Texts.{items_same}
-use Rattle.comemo_layers_tests.specs.declared.cells.Get.{Get}
+use Rattle.comemo_cutoff.specs.declared.cells.Get.{Get}
 use Rattle.comemo_layers_tests.specs.Rolls.{total}
 
 pub places_clone : (xs ys : List ℕ) → AllZip (λ x y. y ≡ x) xs ys → IsTrue (pointwise nat_eq xs ys)

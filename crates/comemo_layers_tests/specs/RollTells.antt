@@ -4,9 +4,9 @@ use Rattle.comemo.specs.Function.{Recorded, Fits}
 use Rattle.comemo.specs.Recursive.{TellsOwn}
 use Rattle.comemo.specs.declared.pending.Fault.{Fault}
 use Rattle.comemo_layers_tests.specs.Rolls.{rolled_at}
-use Rattle.comemo_layers_tests.specs.declared.cells.Cells.{Cells}
-use Rattle.comemo_layers_tests.specs.declared.cells.Get.{Get}
-use Rattle.comemo_layers_tests.specs.contracts.cells.GetPartialEq.TheImpl as get
+use Rattle.comemo_cutoff.specs.declared.cells.Cells.{Cells}
+use Rattle.comemo_cutoff.specs.declared.cells.Get.{Get}
+use Rattle.comemo_cutoff.specs.contracts.cells.GetPartialEq.TheImpl as get
 
 -- the result is the number of this place
 abbrev pub TellsRolled : ℕ → Recorded Cells Get ℕ → Recorded Cells Get ℕ → Result ℕ Fault → Type 0

@@ -1,7 +1,7 @@
 -- A number that is costly to find, and totals of such.
 use Rattle.std.specs.Prelude.{ℕ, zero, suc, ◌+◌, ◌*◌, ◌%◌, ◌^◌, List, map}
 use Rattle.std.specs.List.{fold}
-use Rattle.comemo_layers_tests.specs.declared.cells.Get.{Get}
+use Rattle.comemo_cutoff.specs.declared.cells.Get.{Get}
 
 -- the next number
 abbrev pub step : ℕ → ℕ

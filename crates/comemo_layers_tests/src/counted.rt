@@ -1,33 +1,11 @@
 //! A tracked value that counts its answers, and a function of any value with the same calls.
-ghost use Rattle.std.specs.Prelude.{◌≡◌, ◌+◌, ◌%◌, ◌^◌, false};
+ghost use Rattle.std.specs.Prelude.{◌≡◌, ◌+◌, ◌%◌, ◌^◌};
 ghost use Rattle.std.proofs.Common.{rules};
 
-use comemo::{Call, Fault, Function, Recorder, Run, Track};
+use comemo::{Fault, Function, Recorder, Run, Track};
+use comemo_cutoff::Get;
 use std::alloc::AllocError;
 use std::cell::Cell;
-
-/// A read of the number at a place.
-#[derive(Clone, Copy, Drop, Debug, PartialEq, Eq, Hash)]
-pub struct At {
-    /// The place.
-    pub place: u32,
-}
-
-impl Call for At {
-    ghost is_write = { λ _. false };
-
-    ghost touches = { λ _ _. false };
-
-    ghost laws = { Prim.search rules };
-
-    fn is_mutable(&self) -> bool {
-        false
-    }
-
-    fn touches(&self, _read: &At) -> bool {
-        false
-    }
-}
 
 /// The same number at each place; how often it was asked is counted.
 #[derive(Drop)]
@@ -39,7 +17,7 @@ pub struct Counted {
 }
 
 impl Track for Counted {
-    type Call = At;
+    type Call = Get;
 
     type Answer = u64;
 
@@ -47,7 +25,7 @@ impl Track for Counted {
 
     ghost alike = { λ s x y h. Prim.search rules };
 
-    fn ask(&self, _call: &At) -> Result<u64, AllocError> {
+    fn ask(&self, _call: &Get) -> Result<u64, AllocError> {
         self.asked.set(self.asked.get().wrapping_add(1));
         Ok(self.number)
     }
@@ -59,13 +37,13 @@ pub struct Pair;
 impl Function for Pair {
     type Key = (u32, u32);
 
-    type Call = At;
+    type Call = Get;
 
     type Answer = u64;
 
     type Out = u64;
 
-    ghost use Rattle.comemo_layers_tests.specs.declared.counted.At.{At};
+    ghost use Rattle.comemo_cutoff.specs.declared.cells.Get.{Get};
 
     ghost means = { λ key m out.
         out ≡ (m (record { place = key.0 }) + m (record { place = key.1 })) % 2 ^ 64 };
@@ -73,10 +51,10 @@ impl Function for Pair {
     ghost laws = { Prim.search rules };
 }
 
-impl<T: Track<Call = At, Answer = u64>> Run<T, ()> for Pair {
+impl<T: Track<Call = Get, Answer = u64>> Run<T, ()> for Pair {
     fn run(key: &(u32, u32), of: &mut Recorder<'_, T>, _: &mut ()) -> Result<u64, Fault> {
-        let one = of.ask(At { place: key.0 })?;
-        let other = of.ask(At { place: key.1 })?;
+        let one = of.ask(Get { place: key.0 })?;
+        let other = of.ask(Get { place: key.1 })?;
         Ok(one.wrapping_add(other))
     }
 }

@@ -2,11 +2,12 @@
 //! that ask outputs of others, and the requests that the theorems are about.
 #![tactic(auto)]
 
-pub mod cells;
-pub mod counted;
+#[cfg(test)]
+mod counted;
 #[cfg(test)]
 mod cutoff;
-pub mod rolls;
+#[cfg(test)]
+mod rolls;
 #[cfg(test)]
 mod rounds;
 #[cfg(test)]

@@ -8,10 +8,10 @@ ghost use Rattle.comemo.specs.MeaningLaws.{output_laws};
 ghost use Rattle.comemo_layers_tests.specs.Rolls.{plus, rolled, rolled_at, total};
 ghost use Rattle.comemo_layers_tests.specs.RollLaws.{places_clone, total_alike};
 
-use crate::cells::{Cells, Get};
 use comemo::internal::Told;
 use comemo::{Begun, Cache, Fault, Function, Hold, Recorder, Run};
 use comemo_branches::map_in_threads;
+use comemo_cutoff::{Cells, Get};
 use std::marker::Sync;
 use std::sync::Wait;
 use std::thread::Threads;

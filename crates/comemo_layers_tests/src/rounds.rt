@@ -1,9 +1,10 @@
 //! Calls in a row, for which a value that keeps its answers is asked each question once.
 ghost use Rattle.std.specs.Prelude.{◌≡◌, ℕ, nat_eq};
-ghost use Rattle.comemo_layers_tests.specs.declared.counted.At.{At};
+ghost use Rattle.comemo_cutoff.specs.declared.cells.Get.{Get};
 
-use crate::counted::{At, Counted, Pair};
+use crate::counted::{Counted, Pair};
 use comemo::{CacheData, Track, memoized};
+use comemo_cutoff::Get;
 use comemo_kept::{Kept, Says};
 use std::alloc::{AllocError, Global};
 use std::cell::Cell;
@@ -11,7 +12,7 @@ use std::marker::Brand;
 use std::test::Fail;
 
 /// The total of the sums of neighbours, for the first places. Fails if out of memory.
-fn sums<T: Track<Call = At, Answer = u64>>(
+fn sums<T: Track<Call = Get, Answer = u64>>(
     alloc: Global,
     count: u32,
     of: &T,
@@ -28,12 +29,12 @@ fn sums<T: Track<Call = At, Answer = u64>>(
 }
 
 /// The same of a value that keeps its answers.
-fn sums_of_kept<B: Says<At, u64>>(
+fn sums_of_kept<B: Says<Get, u64>>(
     alloc: Global,
     count: u32,
     of: &Counted,
 ) -> Result<u64, AllocError>
-    requires { (call : At) (answer : ℕ) → B.says call answer ≡ nat_eq of.now.number answer }
+    requires { (call : Get) (answer : ℕ) → B.says call answer ≡ nat_eq of.now.number answer }
 {
     let kept: Kept<'_, Counted, B> = Kept::new(alloc, of);
     sums(alloc, count, &kept)

@@ -1,8 +1,8 @@
 //! The same total by one thread and by several.
 
-use crate::cells::Cells;
 use crate::rolls::{Rolled, Total, totalled};
 use comemo::{Cache, CacheData, Recorder, Track};
+use comemo_cutoff::Cells;
 use std::alloc::{AllocError, Global};
 use std::marker::Sync;
 use std::sync::Wait;
