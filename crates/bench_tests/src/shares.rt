@@ -34,8 +34,9 @@ fn is_tallied<H: Hold<Tally>>(alloc: Global, cache: &mut H, how: How) -> bool {
 fn a_hit_of_a_share_sends_its_reads_and_its_writes(rt: HostRuntime) {
     let alloc = rt.alloc();
     let cache: Cache<Tally> = Cache::new(alloc);
-    for how in [How::Stored, How::Hit] {
+    let hows: &[How] = &[How::Stored, How::Hit];
+    for how in hows {
         let held = &mut cache.hold(&rt);
-        assert!(rt; is_tallied(alloc, held, how), "for {how:?}");
+        assert!(rt; is_tallied(alloc, held, *how), "for {how:?}");
     }
 }

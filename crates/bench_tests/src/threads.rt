@@ -7,20 +7,21 @@ use bench_rows::workers::{
 };
 use comemo::internal::evictors::evict;
 use comemo::internal::{Evict, Evictor, Hashed, register_evictor};
-use comemo::{Cache, CacheData, Function, Hold, How, memoized};
+use comemo::{Cache, CacheData, Fault, Function, Hold, How, memoized};
 use comemo_examples::Town;
 use comemo_examples::double::Double;
 use comemo_examples::shared::warmths;
 use comemo_examples::warmth::Warmth;
 use std::alloc::{AllocError, Global};
 use std::sync::{Arc, Mutex, RwLock, Wait};
-use std::test::Fail;
-use std::thread::join;
+use std::thread::{Threads, join};
 
 #[test]
 fn a_holder_that_neither_looks_nor_stores_is_found(rt: HostRuntime) {
     let alloc = rt.alloc();
-    for dead in [Step::Look, Step::Store] {
+    let steps: &[Step] = &[Step::Look, Step::Store];
+    for step in steps {
+        let dead = *step;
         let cache: Cache<Double> = Cache::new(alloc);
         let held = cache.hold(&rt);
         let left = Dead { alloc, held, dead };
@@ -32,7 +33,7 @@ fn a_holder_that_neither_looks_nor_stores_is_found(rt: HostRuntime) {
 }
 
 #[test]
-fn a_lock_that_is_held_over_a_run_is_found(rt: HostRuntime) -> Result<(), Fail> {
+fn a_lock_that_is_held_over_a_run_is_found(rt: HostRuntime) {
     let alloc = rt.alloc();
     let lock: RwLock<CacheData<Double>> = RwLock::new(CacheData::new(alloc));
     let gate = Meeting::new(&rt, 2, 100);
@@ -41,8 +42,11 @@ fn a_lock_that_is_held_over_a_run_is_found(rt: HostRuntime) -> Result<(), Fail> 
         || doubled(alloc, &mut *lock.write(&rt), 21, &gate),
         || doubled(alloc, &mut *lock.write(&rt), 21, &gate),
     );
-    assert!(rt; left?.is_none() || right?.is_none());
-    Ok(())
+    let is_found = match (left, right) {
+        (Ok(left), Ok(right)) => left.is_none() || right.is_none(),
+        _ => false,
+    };
+    assert!(rt; is_found);
 }
 
 /// Evicts nothing.
@@ -64,11 +68,21 @@ fn an_evictor_that_evicts_nothing_is_found(rt: HostRuntime) {
     assert!(rt; matches!(reached, Ok(false)));
 }
 
+/// An evictor of a shared cache.
+fn evictor_of<M: Function, R: Wait + Drop + Clone>(
+    rt: &R,
+    cache: &Arc<Cache<M>, Global>,
+) -> Result<Evictor<M, R>, AllocError> {
+    let rt = rt.clone()?;
+    let cache = Arc::try_clone(cache)?;
+    Ok(Evictor::new(cache, rt))
+}
+
 #[test]
-fn an_eviction_reaches_all_keys(rt: HostRuntime) -> Result<(), Fail> {
+fn an_eviction_reaches_all_keys(rt: HostRuntime) -> Result<(), AllocError> {
     let alloc = rt.alloc();
     let cache: Arc<Cache<Double>, Global> = Arc::new(alloc, Cache::new(alloc))?;
-    let evictor = Evictor::new(Arc::try_clone(&cache)?, rt.clone()?);
+    let evictor = evictor_of(&rt, &cache)?;
     let reached = evictions_reach_all_keys(alloc, &mut cache.hold(&rt), &evictor);
     assert!(rt; matches!(reached, Ok(true)));
     Ok(())
@@ -105,34 +119,48 @@ fn each_share_finds_what_another_kept(rt: HostRuntime) {
     }
 }
 
-#[test]
-fn a_table_is_made_by_threads(rt: HostRuntime) -> Result<(), Fail> {
-    let alloc = rt.alloc();
-    let cache: Cache<Warmth> = Cache::new(alloc);
+/// Towns with so many degrees.
+fn towns(alloc: Global, degrees: &[u64]) -> Result<Vec<Town>, AllocError> {
     let people = 900;
-    let towns = vec![in alloc;
-        Town {
-            people,
-            degrees: 21
-        },
-        Town { people, degrees: 4 },
-        Town {
-            people,
-            degrees: 30
-        },
-    ]?;
+    let mut towns = Vec::new(alloc);
+    for degrees in degrees {
+        let degrees = *degrees;
+        towns.push(Town { people, degrees })?;
+    }
+    Ok(towns)
+}
+
+/// Whether the warmths of three towns, which threads find, are these.
+fn are_warmths<R: Threads + Wait + Sync>(
+    rt: &R,
+    alloc: Global,
+    cache: &Cache<Warmth>,
+    towns: &[Town],
+    wanted: &[Result<u64, Fault>],
+) -> bool {
+    match warmths(rt, alloc, cache, towns) {
+        Ok(table) => table.as_slice() == wanted,
+        Err(_) => false,
+    }
+}
+
+#[test]
+fn a_table_is_made_by_threads(rt: HostRuntime) -> Result<(), AllocError> {
+    let alloc = rt.alloc();
+    let towns = towns(alloc, &[21, 4, 30])?;
+    let cache: Cache<Warmth> = Cache::new(alloc);
+    let wanted: &[Result<u64, Fault>] = &[Ok(21), Ok(4), Ok(30)];
     for _ in 0..2_u32 {
-        let table = warmths(&rt, alloc, &cache, towns.as_slice())?;
-        assert_eq!(rt; table.as_slice(), [Ok(21), Ok(4), Ok(30)].as_slice());
+        assert!(rt; are_warmths(&rt, alloc, &cache, towns.as_slice(), wanted));
     }
     Ok(())
 }
 
 #[test]
-fn a_holder_that_does_not_touch_is_found(rt: HostRuntime) -> Result<(), Fail> {
+fn a_holder_that_does_not_touch_is_found(rt: HostRuntime) -> Result<(), AllocError> {
     let alloc = rt.alloc();
     let cache: Arc<Cache<Null>, Global> = Arc::new(alloc, Cache::new(alloc))?;
-    let evictor = Evictor::new(Arc::try_clone(&cache)?, rt.clone()?);
+    let evictor = evictor_of(&rt, &cache)?;
     let mut held = Dead {
         alloc,
         held: cache.hold(&rt),
@@ -160,19 +188,24 @@ impl<M: Function, R: Wait + Drop> Evict for Numbered<M, R> {
 }
 
 impl<M: Function, R: Wait + Drop + Clone> Numbered<M, R> {
-    /// An evictor of this cache with this number.
+    /// An evictor of this cache with this number, in a box.
     fn new(
         rt: &R,
+        alloc: Global,
         cache: &Arc<Cache<M>, Global>,
         number: u32,
         list: &Arc<Mutex<Vec<u32>>, Global>,
-    ) -> Result<Self, AllocError> {
-        Ok(Numbered {
-            evictor: Evictor::new(Arc::try_clone(cache)?, rt.clone()?),
+    ) -> Result<Box<Self>, AllocError> {
+        let own = rt.clone()?;
+        let list = Arc::try_clone(list)?;
+        let evictor = evictor_of(rt, cache)?;
+        let numbered = Numbered {
+            evictor,
             number,
-            list: Arc::try_clone(list)?,
-            rt: rt.clone()?,
-        })
+            list,
+            rt: own,
+        };
+        Ok(Box::new(alloc, numbered)?)
     }
 }
 
@@ -185,24 +218,39 @@ fn gives_nothing<H: Hold<Null>>(alloc: Global, held: &mut H, how: How) -> bool {
     }
 }
 
+/// Whether calls are stored after each eviction by these evictors, and are hits in between.
+fn are_evicted<R: Wait>(
+    rt: &R,
+    alloc: Global,
+    evictors: &[Box<dyn Evict>],
+    doubles: &Cache<Double>,
+    nulls: &Cache<Null>,
+) -> bool {
+    let hows: &[How] = &[How::Stored, How::Hit, How::Stored];
+    let mut is_so = true;
+    for how in hows {
+        if *how == How::Stored {
+            evict(evictors, 0);
+        }
+        let is_doubled = doubles_seven(alloc, &mut doubles.hold(rt), *how);
+        let is_nothing = gives_nothing(alloc, &mut nulls.hold(rt), *how);
+        is_so = is_so && is_doubled && is_nothing;
+    }
+    is_so
+}
+
 #[test]
-fn registered_evictors_evict_in_order(rt: HostRuntime) -> Result<(), Fail> {
+fn registered_evictors_evict_in_order(rt: HostRuntime) -> Result<(), AllocError> {
     let alloc = rt.alloc();
     let list: Arc<Mutex<Vec<u32>>, Global> = Arc::new(alloc, Mutex::new(Vec::new(alloc)))?;
     let doubles: Arc<Cache<Double>, Global> = Arc::new(alloc, Cache::new(alloc))?;
     let nulls: Arc<Cache<Null>, Global> = Arc::new(alloc, Cache::new(alloc))?;
+    let first = Numbered::new(&rt, alloc, &doubles, 1, &list)?;
+    let second = Numbered::new(&rt, alloc, &nulls, 2, &list)?;
     let mut evictors: Vec<Box<dyn Evict>> = Vec::new(alloc);
-    let first = Numbered::new(&rt, &doubles, 1, &list)?;
-    register_evictor(&mut evictors, Box::new(alloc, first)?)?;
-    let second = Numbered::new(&rt, &nulls, 2, &list)?;
-    register_evictor(&mut evictors, Box::new(alloc, second)?)?;
-    for how in [How::Stored, How::Hit, How::Stored] {
-        if how == How::Stored {
-            evict(evictors.as_slice(), 0);
-        }
-        assert!(rt; doubles_seven(alloc, &mut doubles.hold(&rt), how));
-        assert!(rt; gives_nothing(alloc, &mut nulls.hold(&rt), how));
-    }
+    assert!(rt; register_evictor(&mut evictors, first).is_ok());
+    assert!(rt; register_evictor(&mut evictors, second).is_ok());
+    assert!(rt; are_evicted(&rt, alloc, evictors.as_slice(), &doubles, &nulls));
     assert!(rt; list.lock(&rt).as_slice() == [1, 2, 1, 2].as_slice());
     Ok(())
 }
@@ -221,8 +269,9 @@ fn an_eviction_that_overtakes_a_hit_comes_before_or_after_its_touch(rt: HostRunt
     };
     // An entry of age 0 counts as touched before the eviction. One of age 1 is looked up twice, and touched after the
     // next two evictions.
-    for age in [1, 0] {
+    let ages: &[usize] = &[1, 0];
+    for age in ages {
         assert!(rt; doubles_seven(alloc, overtaken, How::Hit));
-        assert!(rt; age_of_seven(held) == Some(age));
+        assert!(rt; age_of_seven(held) == Some(*age));
     }
 }

@@ -1,22 +1,11 @@
 //! Tests of `evaluate`.
+use crate::files::is_put;
 use CalcFault::{NotANumber, Overflow};
 use calc_core::evaluation::{Eval, EvalFault, evaluate};
 use calc_core::files::Files;
 use calc_core::scripts::{CalcFault, Outcome};
 use comemo::{CacheData, Constraint, How, Reply, Track};
-use std::alloc::{AllocError, Global};
-use std::test::Fail;
-
-/// Files with these texts at these paths.
-fn files_with(alloc: Global, texts: &[(&str, &str)]) -> Result<Files, AllocError> {
-    let mut files = Files::new(alloc);
-    for (path, text) in texts {
-        let path = String::from_str(alloc, *path)?;
-        let text = String::from_str(alloc, *text)?;
-        files.write(path, text)?;
-    }
-    Ok(files)
-}
+use std::alloc::Global;
 
 /// Whether a script has this result under a limit, with this many reads recorded, or fails, with the recording
 /// incomplete.
@@ -59,10 +48,13 @@ fn has_height(alloc: Global, files: &Files, script: &str, outcome: Outcome, read
 }
 
 #[test]
-fn a_script_is_evaluated_from_its_height_on(rt: HostRuntime) -> Result<(), Fail> {
+fn a_script_is_evaluated_from_its_height_on(rt: HostRuntime) {
     let alloc = rt.alloc();
+    let mut files = Files::new(alloc);
     let texts: &[(&str, &str)] = &[("a", "1"), ("b", "3 + 4"), ("c", "eval b")];
-    let files = files_with(alloc, texts)?;
+    for (path, text) in texts {
+        assert!(rt; is_put(alloc, &mut files, *path, *text));
+    }
     let cases: &[(&str, Result<i32, CalcFault>, u64, usize)] = &[
         ("1", Ok(1), 1, 0),
         ("007 + -7", Ok(0), 1, 0),
@@ -82,5 +74,4 @@ fn a_script_is_evaluated_from_its_height_on(rt: HostRuntime) -> Result<(), Fail>
         let is_so = has_height(alloc, &files, *script, outcome, *reads);
         assert!(rt; is_so, "for {script:?}");
     }
-    Ok(())
 }

@@ -1,12 +1,14 @@
 //! The examples at the heads of the crates and modules that the program is made of.
+use crate::files::is_put;
 use calc_core::commands::{Answer, Command};
-use calc_core::evaluation::evaluate;
-use calc_core::files::{Files, size};
+use calc_core::evaluation::{Eval, evaluate};
+use calc_core::files::{FileSize, Files, size};
 use calc_core::scripts::{CalcFault, Outcome, Part, Parts, Total};
 use calc_core::sessions::{run, start};
 use calc_lines::Session;
 use comemo::{CacheData, How, Top, Track};
 use std::alloc::{AllocError, Global};
+use std::slice;
 use std::test::Fail;
 
 /// Answers each line with itself.
@@ -25,127 +27,147 @@ impl Session for Echo {
     }
 }
 
-#[test]
-fn of_calc_lines(rt: HostRuntime) -> Result<(), Fail> {
-    let alloc = rt.alloc();
+/// Whether a line loop prints each line.
+fn is_echoed(alloc: Global) -> bool {
     let mut printed: Vec<u8> = Vec::new(alloc);
-    calc_lines::run(
-        alloc,
-        &mut "a\n\nb".as_bytes(),
-        &mut printed,
-        &mut Echo { alloc },
-    )?;
-    assert_eq!(rt; printed.as_slice(), b"a\nb\n".as_slice());
-    Ok(())
+    let mut input = "a\n\nb".as_bytes();
+    let is_well = calc_lines::run(alloc, &mut input, &mut printed, &mut Echo { alloc }).is_ok();
+    is_well && printed.as_slice() == b"a\nb\n".as_slice()
+}
+
+#[test]
+fn of_calc_lines(rt: HostRuntime) {
+    assert!(rt; is_echoed(rt.alloc()));
 }
 
 #[test]
 fn of_scripts(rt: HostRuntime) {
     let mut parts = Parts::new("-7 + eval a");
-    assert_eq!(rt; parts.next(), Some(Part::Number(-7)));
-    assert_eq!(rt; parts.next(), Some(Part::Eval("a")));
-    assert_eq!(rt; parts.next(), None);
+    let is_number = parts.next() == Some(Part::Number(-7));
+    let is_call = parts.next() == Some(Part::Eval("a"));
+    let is_end = parts.next() == None;
+    assert!(rt; is_number && is_call && is_end);
 
     let mut total = Total::new();
     let most = Outcome {
         value: Ok(i32::MAX),
         height: 1,
     };
-    assert_eq!(rt; total.add(most), Ok(()));
-    assert_eq!(rt; total.add(most), Err(CalcFault::Overflow));
+    let is_added = total.add(most) == Ok(());
+    let is_refused = total.add(most) == Err(CalcFault::Overflow);
+    assert!(rt; is_added && is_refused);
+}
+
+/// Whether a line asks for a write of this text to this path.
+fn asks_for_write(alloc: Global, line: &str, path: &str, text: &str) -> bool {
+    match Command::parse(alloc, line) {
+        Ok(Some(Command::Write(at, what))) => at.as_str() == path && what.as_str() == text,
+        _ => false,
+    }
+}
+
+/// Whether a line asks for nothing.
+fn asks_for_nothing(alloc: Global, line: &str) -> bool {
+    matches!(Command::parse(alloc, line), Ok(None))
+}
+
+/// Whether an answer prints so.
+fn prints(alloc: Global, answer: Answer, want: &str) -> bool {
+    match answer.text(alloc) {
+        Ok(text) => text.as_str() == want,
+        Err(_) => false,
+    }
 }
 
 #[test]
-fn of_commands(rt: HostRuntime) -> Result<(), Fail> {
+fn of_commands(rt: HostRuntime) {
     let alloc = rt.alloc();
-    let path = String::from_str(alloc, "a")?;
-    let text = String::from_str(alloc, "1 + 2")?;
-    let found = Command::parse(alloc, "write a 1 + 2")?;
-    assert_eq!(rt; found, Some(Command::Write(path, text)));
-    assert_eq!(rt; Command::parse(alloc, "help"), Ok(None));
+    assert!(rt; asks_for_write(alloc, "write a 1 + 2", "a", "1 + 2"));
+    assert!(rt; asks_for_nothing(alloc, "help"));
 
     let answer = Answer::Size {
         hit: true,
         bytes: 5,
     };
-    let printed = answer.text(alloc)?;
-    assert_eq!(rt; printed.as_str(), "hit 5\n");
-    Ok(())
+    assert!(rt; prints(alloc, answer, "hit 5\n"));
+}
+
+/// Whether the size of the file `a` is 5, and comes this way.
+fn is_five(alloc: Global, sizes: &mut CacheData<FileSize>, files: &Files, how: How) -> bool {
+    match size(alloc, sizes, &files.view(alloc), "a", &mut Top::new()) {
+        Ok(reply) => reply.output == 5 && reply.how == how,
+        Err(_) => false,
+    }
 }
 
 #[test]
-fn of_files(rt: HostRuntime) -> Result<(), Fail> {
+fn of_files(rt: HostRuntime) {
     let alloc = rt.alloc();
     let mut files = Files::new(alloc);
-    files.write(
-        String::from_str(alloc, "a")?,
-        String::from_str(alloc, "hello")?,
-    )?;
+    assert!(rt; is_put(alloc, &mut files, "a", "hello"));
     let mut sizes = CacheData::new(alloc);
-    let first = size(alloc, &mut sizes, &files.view(alloc), "a", &mut Top::new())?;
-    assert_eq!(rt; (first.output, first.how), (5, How::Stored));
+    assert!(rt; is_five(alloc, &mut sizes, &files, How::Stored));
 
-    files.write(
-        String::from_str(alloc, "b")?,
-        String::from_str(alloc, "other")?,
-    )?;
-    let again = size(alloc, &mut sizes, &files.view(alloc), "a", &mut Top::new())?;
-    assert_eq!(rt; (again.output, again.how), (5, How::Hit));
-    Ok(())
+    assert!(rt; is_put(alloc, &mut files, "b", "other"));
+    assert!(rt; is_five(alloc, &mut sizes, &files, How::Hit));
+}
+
+/// Whether a script is 3 under a limit of 8, with this height, and comes this way.
+fn is_three(
+    alloc: Global,
+    cache: &mut CacheData<Eval>,
+    files: &Files,
+    script: &str,
+    height: u64,
+    how: How,
+) -> bool {
+    match evaluate(alloc, cache, &files.view(alloc), script, 8, &mut Top::new()) {
+        Ok(reply) => {
+            reply.output.value == Ok(3) && reply.output.height == height && reply.how == how
+        }
+        Err(_) => false,
+    }
 }
 
 #[test]
-fn of_evaluation(rt: HostRuntime) -> Result<(), Fail> {
+fn of_evaluation(rt: HostRuntime) {
     let alloc = rt.alloc();
     let mut files = Files::new(alloc);
-    files.write(
-        String::from_str(alloc, "a")?,
-        String::from_str(alloc, "1 + eval b")?,
-    )?;
-    files.write(String::from_str(alloc, "b")?, String::from_str(alloc, "2")?)?;
+    assert!(rt; is_put(alloc, &mut files, "a", "1 + eval b"));
+    assert!(rt; is_put(alloc, &mut files, "b", "2"));
     let mut cache = CacheData::new(alloc);
-    let outer = evaluate(
-        alloc,
-        &mut cache,
-        &files.view(alloc),
-        "eval a",
-        8,
-        &mut Top::new(),
-    )?;
-    assert_eq!(rt; (outer.output.value, outer.output.height), (Ok(3), 3));
+    assert!(rt; is_three(alloc, &mut cache, &files, "eval a", 3, How::Stored));
 
     // What the run called is stored too.
-    let inner = evaluate(
-        alloc,
-        &mut cache,
-        &files.view(alloc),
-        "1 + eval b",
-        8,
-        &mut Top::new(),
-    )?;
-    assert_eq!(rt; (inner.output.value, inner.how), (Ok(3), How::Hit));
-    Ok(())
+    assert!(rt; is_three(alloc, &mut cache, &files, "1 + eval b", 2, How::Hit));
+}
+
+/// The lines of a session.
+const LINES: &str = "write a 1 + eval b\nwrite b 2\neval eval a\nwrite c 7\neval eval a\n";
+
+/// Whether a session over `LINES` prints its answers.
+fn is_answered(alloc: Global) -> bool {
+    let mut printed: Vec<u8> = Vec::new(alloc);
+    let mut input = LINES.as_bytes();
+    let is_well = run(alloc, &mut input, &mut printed).is_ok();
+    is_well && printed.as_slice() == b"miss 3\nhit 3\n".as_slice()
+}
+
+/// Whether the whole program, which takes no words after its name, refuses these.
+fn is_refused(alloc: Global, words: &[String]) -> bool {
+    let mut printed: Vec<u8> = Vec::new(alloc);
+    let mut errors: Vec<u8> = Vec::new(alloc);
+    let mut input = LINES.as_bytes();
+    let status = start(alloc, words, &mut input, &mut printed, &mut errors);
+    status == 2 && errors.as_slice() == b"usage: calc\n".as_slice()
 }
 
 #[test]
 fn of_sessions(rt: HostRuntime) -> Result<(), Fail> {
     let alloc = rt.alloc();
-    let lines = "write a 1 + eval b\nwrite b 2\neval eval a\nwrite c 7\neval eval a\n";
-    let mut printed: Vec<u8> = Vec::new(alloc);
-    run(alloc, &mut lines.as_bytes(), &mut printed)?;
-    assert_eq!(rt; printed.as_slice(), b"miss 3\nhit 3\n".as_slice());
+    assert!(rt; is_answered(alloc));
 
-    // The whole program, which takes no words after its name.
-    let words = vec![in alloc; String::from_str(alloc, "help")?]?;
-    let mut errors: Vec<u8> = Vec::new(alloc);
-    let status = start(
-        alloc,
-        words.as_slice(),
-        &mut lines.as_bytes(),
-        &mut printed,
-        &mut errors,
-    );
-    assert_eq!(rt; status, 2);
-    assert_eq!(rt; errors.as_slice(), b"usage: calc\n".as_slice());
+    let word = String::from_str(alloc, "help")?;
+    assert!(rt; is_refused(alloc, slice::from_ref(&word)));
     Ok(())
 }

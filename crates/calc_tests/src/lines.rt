@@ -290,9 +290,10 @@ fn starts_and_says_what_failed(rt: HostRuntime) -> Result<(), Fail> {
     }
     let word = String::from_str(alloc, "a")?;
     let words = slice::from_ref(&word);
-    for (errors_room, said) in [(99, "usage: echo\n"), (3, "usa")] {
-        let usage = (2, "", said);
-        let is_so = starts(alloc, words, (b"a\n", None), (9, errors_room), usage);
+    let usages: &[(usize, &str)] = &[(99, "usage: echo\n"), (3, "usa")];
+    for (errors_room, said) in usages {
+        let usage = (2, "", *said);
+        let is_so = starts(alloc, words, (b"a\n", None), (9, *errors_room), usage);
         assert!(rt; is_so, "for {said}");
     }
     Ok(())

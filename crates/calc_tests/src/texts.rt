@@ -60,8 +60,8 @@ fn texts_are_told_apart_by_their_bytes(rt: HostRuntime) {
 
 #[test]
 fn an_empty_text_that_was_shared_is_the_empty_one(rt: HostRuntime) -> Result<(), AllocError> {
-    let empty = Text::empty();
     let text = shared(rt.alloc(), "")?;
+    let empty = Text::empty();
     let is_alike = text == empty && comemo::hash(&text) == comemo::hash(&empty);
     let is_empty = empty.as_str().is_empty() && empty.len() == 0;
     assert!(rt; is_alike && is_empty);

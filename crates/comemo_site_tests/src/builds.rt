@@ -12,7 +12,8 @@ use comemo_site::table::{SharedPages, table};
 use comemo_site::text::Text;
 use comemo_site::title::Title;
 use std::alloc::{AllocError, Global};
-use std::test::Fail;
+use std::sync::Wait;
+use std::thread::Threads;
 
 const HOME: &str = "# Home\n\nwelcome\n\nlink about\ninclude footer\n";
 
@@ -38,19 +39,23 @@ fn text(alloc: Global, s: &str) -> Result<Text, AllocError> {
     Text::from_str(alloc, s)
 }
 
-/// Sets the page of a name to a source.
-fn set(alloc: Global, site: &mut Site, name: &str, source: &str) -> Result<(), AllocError> {
-    let page = parse(alloc, name, source)?;
-    site.set(String::from_str(alloc, name)?, page)
+/// Sets the page of a name to a source. Returns whether that worked.
+pub(crate) fn is_set(alloc: Global, site: &mut Site, name: &str, source: &str) -> bool {
+    let Ok(key) = String::from_str(alloc, name) else {
+        return false;
+    };
+    let Ok(page) = parse(alloc, name, source) else {
+        return false;
+    };
+    site.set(key, page).is_ok()
 }
 
-fn small_site(alloc: Global) -> Result<Site, AllocError> {
-    let mut site = Site::new(alloc);
-    set(alloc, &mut site, "home", HOME)?;
+/// Fills a new site with three pages. Returns whether that worked.
+fn is_filled(alloc: Global, site: &mut Site) -> bool {
     let about = "# About us\nwe are\ninclude footer\n";
-    set(alloc, &mut site, "about", about)?;
-    set(alloc, &mut site, "footer", FOOTER)?;
-    Ok(site)
+    is_set(alloc, site, "home", HOME)
+        && is_set(alloc, site, "about", about)
+        && is_set(alloc, site, "footer", FOOTER)
 }
 
 /// Whether a page of the site, after an edit of another or of none, is this HTML, and so many pages and titles are
@@ -64,7 +69,7 @@ fn renders(
     html: &[u8],
     count: (usize, usize),
 ) -> bool {
-    if edit.0 != "" && set(alloc, site, edit.0, edit.1).is_err() {
+    if edit.0 != "" && !is_set(alloc, site, edit.0, edit.1) {
         return false;
     }
     let Ok(name) = text(alloc, name) else {
@@ -104,9 +109,10 @@ const EDITS: &[(&str, &str, &str, &[u8], usize, usize)] = &[
 ];
 
 #[test]
-fn an_edit_runs_again_what_it_reaches(rt: HostRuntime) -> Result<(), Fail> {
+fn an_edit_runs_again_what_it_reaches(rt: HostRuntime) {
     let alloc = rt.alloc();
-    let mut site = small_site(alloc)?;
+    let mut site = Site::new(alloc);
+    assert!(rt; is_filled(alloc, &mut site));
     let mut kept: Kept = (CacheData::new(alloc), CacheData::new(alloc));
     for (edited, source, name, html, pages, titles) in EDITS {
         let edit = (*edited, *source);
@@ -135,7 +141,6 @@ fn an_edit_runs_again_what_it_reaches(rt: HostRuntime) -> Result<(), Fail> {
     assert!(rt; is_so);
     kept.evict_all(1);
     assert_eq!(rt; (kept.0.len(), kept.1.len()), (1, 0));
-    Ok(())
 }
 
 /// Whether the pages of a table are five, the third is this HTML, and the last is empty.
@@ -146,23 +151,48 @@ fn is_table(pages: &[Result<Rendered, Fault>], footer: &[u8]) -> bool {
     third.as_bytes() == footer && last.as_bytes().is_empty()
 }
 
-#[test]
-fn threads_render_a_table(rt: HostRuntime) -> Result<(), Fail> {
-    let alloc = rt.alloc();
-    let mut site = small_site(alloc)?;
-    let shared: SharedPages = (Cache::new(alloc), Cache::new(alloc));
-    let mut names = Vec::new(alloc);
+/// Adds the names of five pages, the last of which is missing. Returns whether that worked.
+fn are_named(alloc: Global, names: &mut Vec<Text>) -> bool {
     let rows: &[&str] = &["home", "about", "footer", "home", "nowhere"];
-    for name in rows {
-        names.push(text(alloc, *name)?)?;
+    for row in rows {
+        let Ok(name) = text(alloc, *row) else {
+            return false;
+        };
+        if names.push(name).is_err() {
+            return false;
+        }
     }
-    let pages = table(&rt, alloc, &shared, &site, names.as_slice(), 4)?;
-    assert!(rt; is_table(pages.as_slice(), FOOTER_HTML));
-    set(alloc, &mut site, "footer", "go to\n\nlink home\n")?;
-    let pages = table(&rt, alloc, &shared, &site, names.as_slice(), 4)?;
+    true
+}
+
+/// Whether threads render a table of these pages, of which the third is this HTML.
+fn is_rendered<R: Threads + Wait + Sync>(
+    rt: &R,
+    alloc: Global,
+    shared: &SharedPages,
+    site: &Site,
+    names: &[Text],
+    footer: &[u8],
+) -> bool {
+    match table(rt, alloc, shared, site, names, 4) {
+        Ok(pages) => is_table(pages.as_slice(), footer),
+        Err(_) => false,
+    }
+}
+
+#[test]
+fn threads_render_a_table(rt: HostRuntime) {
+    let alloc = rt.alloc();
+    let mut site = Site::new(alloc);
+    assert!(rt; is_filled(alloc, &mut site));
+    let mut names = Vec::new(alloc);
+    assert!(rt; are_named(alloc, &mut names));
+    let names = names.as_slice();
+    let shared: SharedPages = (Cache::new(alloc), Cache::new(alloc));
+    assert!(rt; is_rendered(&rt, alloc, &shared, &site, names, FOOTER_HTML));
+    assert!(rt; is_set(alloc, &mut site, "footer", "go to\n\nlink home\n"));
     let gone: &[u8] = b"<p>go to</p>\n<p><a href=\"home.html\">Home</a></p>\n";
-    assert!(rt; is_table(pages.as_slice(), gone));
-    Ok(())
+    assert!(rt; is_rendered(&rt, alloc, &shared, &site, names, gone));
 }
 
 /// Whether a link to a page is this HTML, comes this way, and leaves so many warnings in the log.
@@ -192,10 +222,19 @@ fn links(
     is_so && both.second.warnings().len() == warnings
 }
 
+/// Whether the last of these warnings is of the page `lost`, which is missing.
+fn ends_with_lost(warnings: &[Warning]) -> bool {
+    match warnings {
+        [.., Warning::Missing(name)] => name.as_str() == "lost",
+        _ => false,
+    }
+}
+
 #[test]
-fn a_hit_warns_again(rt: HostRuntime) -> Result<(), Fail> {
+fn a_hit_warns_again(rt: HostRuntime) {
     let alloc = rt.alloc();
-    let site = small_site(alloc)?;
+    let mut site = Site::new(alloc);
+    assert!(rt; is_filled(alloc, &mut site));
     let mut log = Log::new(alloc);
     let mut kept = (CacheData::new(alloc), (alloc, CacheData::new(alloc)));
     let about: &[u8] = b"<p><a href=\"about.html\">About us</a></p>\n";
@@ -211,8 +250,7 @@ fn a_hit_warns_again(rt: HostRuntime) -> Result<(), Fail> {
         );
         assert!(rt; is_so, "{name}");
     }
-    assert!(rt; log.warnings().last() == Some(&Warning::Missing(text(alloc, "lost")?)));
-    Ok(())
+    assert!(rt; ends_with_lost(log.warnings()));
 }
 
 const ONCE: &[u8] = b"<p>see</p>\n<p><a href=\"nowhere.html\">nowhere</a></p>\n";
@@ -276,11 +314,12 @@ fn publishes(
 }
 
 #[test]
-fn a_page_that_is_a_hit_warns_again(rt: HostRuntime) -> Result<(), Fail> {
+fn a_page_that_is_a_hit_warns_again(rt: HostRuntime) {
     let alloc = rt.alloc();
-    let mut site = small_site(alloc)?;
+    let mut site = Site::new(alloc);
+    assert!(rt; is_filled(alloc, &mut site));
     let source = "see\n\nlink nowhere\ninclude broken\n";
-    set(alloc, &mut site, "broken", source)?;
+    assert!(rt; is_set(alloc, &mut site, "broken", source));
     let mut cache: CacheData<Publish> = CacheData::new(alloc);
     let mut needs = (alloc, (CacheData::new(alloc), CacheData::new(alloc)));
     // pages that are kept stand last: broken at 3 does the warnings of broken at 2 again by a hit
@@ -296,5 +335,4 @@ fn a_page_that_is_a_hit_warns_again(rt: HostRuntime) -> Result<(), Fail> {
         assert!(rt; is_so, "{limit} by {how:?}");
         assert_eq!(rt; (needs.1.0.len(), needs.1.1.len()), (*pages, 1));
     }
-    Ok(())
 }

@@ -2,16 +2,16 @@
 
 ghost use Rattle.std.specs.Prelude.{◌<◌};
 
+use crate::builds::is_set;
 use comemo::{Cache, Fault};
 use comemo_site::log::Warning;
 use comemo_site::names::{document_path, page_name};
-use comemo_site::parse::parse;
 use comemo_site::publish::{Published, Settings, SharedBuilt, is_reached, publish_all};
 use comemo_site::report::{Summary, is_changed, round_line, warning_line};
 use comemo_site::site::{Site, SiteCall};
 use comemo_site::tally::Tally;
 use comemo_site::text::Text;
-use std::alloc::{AllocError, Global};
+use std::alloc::Global;
 use std::sync::Wait;
 use std::test::Fail;
 use std::thread::Threads;
@@ -60,21 +60,17 @@ const EMPTY: &[u8] =
     b"<!DOCTYPE html>\n<html>\n<head>\n<meta charset=\"utf-8\">\n<base href=\"./\">\n\
     <title>empty</title>\n</head>\n<body>\n</body>\n</html>\n";
 
-/// Sets the page of a name to a source.
-fn set(alloc: Global, site: &mut Site, name: &str, source: &str) -> Result<(), AllocError> {
-    let page = parse(alloc, name, source)?;
-    site.set(String::from_str(alloc, name)?, page)
-}
-
-/// The site, with the names of its pages.
-fn ten_pages(alloc: Global) -> Result<(Site, Vec<Text>), AllocError> {
-    let mut site = Site::new(alloc);
-    let mut names = Vec::new(alloc);
+/// Fills a new site with the ten pages, and a list with their names. Returns whether that worked.
+fn are_filled(alloc: Global, site: &mut Site, names: &mut Vec<Text>) -> bool {
     for (name, source) in PAGES {
-        set(alloc, &mut site, *name, *source)?;
-        names.push(Text::from_str(alloc, *name)?)?;
+        let Ok(text) = Text::from_str(alloc, *name) else {
+            return false;
+        };
+        if names.push(text).is_err() || !is_set(alloc, site, *name, *source) {
+            return false;
+        }
     }
-    Ok((site, names))
+    true
 }
 
 /// What ends a line.
@@ -174,18 +170,32 @@ fn are_ten(alloc: Global, names: &[Text], pages: &[Result<Published, Fault>]) ->
     pages.len() == 10 && are_first && are_last && is_said(alloc, names, pages, WARNINGS)
 }
 
+/// Whether the ten pages of a site are published as such.
+fn are_published<R: Threads + Wait + Sync>(
+    rt: &R,
+    alloc: Global,
+    shared: &SharedBuilt,
+    site: &Site,
+    names: &[Text],
+) -> bool {
+    match publish_all(rt, alloc, shared, site, names, SETTINGS) {
+        Ok(pages) => are_ten(alloc, names, pages.as_slice()),
+        Err(_) => false,
+    }
+}
+
 #[test]
-fn ten_pages_are_published(rt: HostRuntime) -> Result<(), Fail> {
+fn ten_pages_are_published(rt: HostRuntime) {
     let alloc = rt.alloc();
-    let (site, names) = ten_pages(alloc)?;
+    let mut site = Site::new(alloc);
+    let mut names = Vec::new(alloc);
+    assert!(rt; are_filled(alloc, &mut site, &mut names));
     let names = names.as_slice();
     let shared: SharedBuilt = (Cache::new(alloc), Cache::new(alloc));
     // by runs, and then by hits
     for _ in 0..2 {
-        let pages = publish_all(&rt, alloc, &shared, &site, names, SETTINGS)?;
-        assert!(rt; are_ten(alloc, names, pages.as_slice()));
+        assert!(rt; are_published(&rt, alloc, &shared, &site, names));
     }
-    Ok(())
 }
 
 /// Why the ten pages are rendered if nothing is kept.
@@ -239,15 +249,16 @@ fn explains<R: Threads + Wait + Sync>(
 }
 
 #[test]
-fn an_edit_is_explained(rt: HostRuntime) -> Result<(), Fail> {
+fn an_edit_is_explained(rt: HostRuntime) {
     let alloc = rt.alloc();
-    let (mut site, names) = ten_pages(alloc)?;
+    let mut site = Site::new(alloc);
+    let mut names = Vec::new(alloc);
+    assert!(rt; are_filled(alloc, &mut site, &mut names));
     let names = names.as_slice();
     let shared: SharedBuilt = (Cache::new(alloc), Cache::new(alloc));
     for (name, source, expected) in EDITS {
-        if *name != "" {
-            set(alloc, &mut site, *name, *source)?;
-        }
+        let is_ready = *name == "" || is_set(alloc, &mut site, *name, *source);
+        assert!(rt; is_ready, "{name:?} is {source:?}");
         let said = explains(&rt, alloc, &shared, &site, names, SETTINGS, *expected);
         assert!(rt; said.is_some(), "{name:?} is {source:?}");
     }
@@ -263,7 +274,6 @@ fn an_edit_is_explained(rt: HostRuntime) -> Result<(), Fail> {
     };
     let anew = explains(&rt, alloc, &shared, &site, names, one, NEW);
     assert!(rt; anew == Some(Tally { runs: 15, hits: 2 }));
-    Ok(())
 }
 
 /// Whether a change reaches just these pages, each followed by a space.
@@ -301,7 +311,9 @@ fn reaches(
 #[test]
 fn a_change_reaches_who_asked(rt: HostRuntime) -> Result<(), Fail> {
     let alloc = rt.alloc();
-    let (site, names) = ten_pages(alloc)?;
+    let mut site = Site::new(alloc);
+    let mut names = Vec::new(alloc);
+    assert!(rt; are_filled(alloc, &mut site, &mut names));
     let names = names.as_slice();
     let shared: SharedBuilt = (Cache::new(alloc), Cache::new(alloc));
     let pages = publish_all(&rt, alloc, &shared, &site, names, SETTINGS)?;
@@ -334,7 +346,9 @@ fn is_written_if_new(pages: &[Result<Published, Fault>]) -> bool {
 #[test]
 fn a_document_is_written_if_it_is_new(rt: HostRuntime) -> Result<(), Fail> {
     let alloc = rt.alloc();
-    let (site, names) = ten_pages(alloc)?;
+    let mut site = Site::new(alloc);
+    let mut names = Vec::new(alloc);
+    assert!(rt; are_filled(alloc, &mut site, &mut names));
     let shared: SharedBuilt = (Cache::new(alloc), Cache::new(alloc));
     let pages = publish_all(&rt, alloc, &shared, &site, names.as_slice(), SETTINGS)?;
     assert!(rt; is_written_if_new(pages.as_slice()));

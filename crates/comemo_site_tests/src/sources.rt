@@ -1,40 +1,37 @@
 //! What sources are parsed to, and their documents.
 
+use crate::builds::is_set;
 use comemo::CacheData;
 use comemo_site::html::{Html, Rendered};
 use comemo_site::parse::parse;
 use comemo_site::render::{Kept, page_now};
-use comemo_site::site::{Page, Site};
+use comemo_site::site::Site;
 use comemo_site::text::Text;
 use std::alloc::{AllocError, Global};
 use std::test::Fail;
 
-/// A site with this page `a`, and a page `b` whose title is `B & <B>`.
-fn site_of(alloc: Global, page: Page) -> Result<Site, AllocError> {
-    let mut site = Site::new(alloc);
-    site.set(String::from_str(alloc, "a")?, page)?;
-    let other = parse(alloc, "b", "# B & <B>\n")?;
-    site.set(String::from_str(alloc, "b")?, other)?;
-    Ok(site)
+/// Whether a source has this title.
+fn is_titled(alloc: Global, source: &str, title: &str) -> bool {
+    match parse(alloc, "a", source) {
+        Ok(page) => page.title.as_str() == title,
+        Err(_) => false,
+    }
 }
 
-/// Whether a page `a` with this source has this title and this HTML.
-fn is_rendered(alloc: Global, source: &str, title: &str, html: &[u8]) -> bool {
-    let Ok(page) = parse(alloc, "a", source) else {
+/// Whether a page `a` with this source, in a site with a page `b` whose title is `B & <B>`, is this HTML.
+fn is_rendered(alloc: Global, source: &str, html: &[u8]) -> bool {
+    let mut site = Site::new(alloc);
+    if !is_set(alloc, &mut site, "a", source) || !is_set(alloc, &mut site, "b", "# B & <B>\n") {
         return false;
-    };
-    let has_title = page.title.as_str() == title;
-    let Ok(site) = site_of(alloc, page) else {
-        return false;
-    };
+    }
     let Ok(name) = Text::from_str(alloc, "a") else {
         return false;
     };
     let mut kept: Kept = (CacheData::new(alloc), CacheData::new(alloc));
-    let Ok(came) = page_now(alloc, &mut kept, &site, name, 4) else {
-        return false;
-    };
-    has_title && came.as_bytes() == html
+    match page_now(alloc, &mut kept, &site, name, 4) {
+        Ok(came) => came.as_bytes() == html,
+        Err(_) => false,
+    }
 }
 
 #[test]
@@ -105,8 +102,9 @@ fn each_line_has_its_block(rt: HostRuntime) {
         ("toc of it\n", "a", b"<p>toc of it</p>\n"),
     ];
     for (source, title, html) in cases {
+        let has_title = is_titled(alloc, *source, *title);
         assert!(rt;
-            is_rendered(alloc, *source, *title, *html),
+            has_title && is_rendered(alloc, *source, *html),
             "for {source:?}"
         );
     }
@@ -126,12 +124,17 @@ fn is_document(alloc: Global, name: &str, body: &Rendered, expected: &[u8]) -> b
     document.as_bytes() == expected
 }
 
+/// The paragraph `x`.
+fn paragraph(alloc: Global) -> Result<Rendered, AllocError> {
+    let mut body = Html::new(alloc);
+    body.push(b"<p>x</p>\n")?;
+    body.finish()
+}
+
 #[test]
 fn a_document_has_its_title_and_the_way_up(rt: HostRuntime) -> Result<(), Fail> {
     let alloc = rt.alloc();
-    let mut body = Html::new(alloc);
-    body.push(b"<p>x</p>\n")?;
-    let body = body.finish()?;
+    let body = paragraph(alloc)?;
     let flat = b"<!DOCTYPE html>\n<html>\n<head>\n<meta charset=\"utf-8\">\n<base href=\"./\">\n\
         <title>R&amp;D</title>\n</head>\n<body>\n<p>x</p>\n</body>\n</html>\n";
     let deep =

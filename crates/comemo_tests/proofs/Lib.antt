@@ -1,4 +1,3 @@
 pub mod Numbers
-pub mod Contains
 pub mod Failing
 pub mod TouchedAlike

@@ -1,6 +1,6 @@
-//! Consecutive calls: what a stored call implies for the next one, proved from the contracts of `memoized_with` and
-//! `validate` alone.
-ghost use Rattle.std.specs.Prelude.{◌≡◌, IfOk, IsTrue};
+//! Consecutive calls: what a stored call implies for the next one, proved from the contract of `memoized_with` alone. For
+//! a value that changed between the calls `call_evict_call` of `comemo_theorems` proves it.
+ghost use Rattle.std.specs.Prelude.{◌≡◌, IfOk};
 ghost use Rattle.std.proofs.Common.{rules};
 ghost use Rattle.comemo.specs.Function.{WritesNone};
 
@@ -56,44 +56,30 @@ pub fn call_twice<M: Run<T, N>, T: Track, N>(
     Ok((first, second))
 }
 
-/// The replies of two calls, and whether the answers to the questions of the first one are the same before the second.
-pub struct Around<Out> {
-    pub first: Reply<Out>,
-    pub valid: bool,
-    pub second: Reply<Out>,
-}
-
-/// Calls a function of a value, and then, with an equal key, of the changed value.
-///
-/// If the first call was stored, and the answers to its questions are the same, the second is a hit, whatever else
-/// changed.
-pub fn call_around<M: Run<T, N>, T: Track, N>(
-    alloc: Global,
-    cache: &mut CacheData<M>,
-    needs: &mut N,
-    key: M::Key,
-    before: &T,
-    after: &T,
-) -> Result<Around<M::Out>, Fault>
-    requires { WritesNone M.writes }
-    ensures { IfOk result (λ around. IsTrue around.valid → around.first.how ≡ How.Stored
-        → around.second.how ≡ How.Hit) }
-{
-    let again = key.clone()?;
-    let mut asked = Constraint::new(alloc);
-    let first = memoized_with(alloc, cache, needs, key, before, &mut asked, true)?;
-    let valid = asked.validate(after)?;
-    let second = memoized_with(alloc, cache, needs, again, after, &mut Top::new(), true)?;
-    Ok(Around {
-        first,
-        valid,
-        second,
-    })
-}
-
 /// Whether a reply has this output, and the call ended as `how`.
 fn gives(reply: Reply<u64>, output: u64, how: How) -> bool {
     reply.output == output && reply.how == how
+}
+
+/// Whether a call at a context, whose questions go to a recording, is stored.
+fn is_stored(
+    alloc: Global,
+    cache: &mut CacheData<Location>,
+    context: &Context,
+    asked: &mut Constraint<ContextCall, u64>,
+) -> bool {
+    match memoized_with(alloc, cache, &mut (), (), context, asked, true) {
+        Ok(reply) => gives(reply, context.location, How::Stored),
+        Err(_) => false,
+    }
+}
+
+/// Whether a call at a context, whose questions go nowhere, ends as `how`.
+fn ends(alloc: Global, cache: &mut CacheData<Location>, context: &Context, how: How) -> bool {
+    match memoized_with(alloc, cache, &mut (), (), context, &mut Top::new(), true) {
+        Ok(reply) => gives(reply, context.location, how),
+        Err(_) => false,
+    }
 }
 
 /// Whether of two calls at one context the first is stored and the second is a hit.
@@ -118,19 +104,11 @@ fn becomes(alloc: Global, location: u64, styles: u64, how: How) -> bool {
         styles: 40,
     };
     let after = Context { location, styles };
-    match call_around(alloc, &mut cache, &mut (), (), &before, &after) {
-        Ok(around) => {
-            let Around {
-                first,
-                valid,
-                second,
-            } = around;
-            let is_stored = gives(first, 3, How::Stored);
-            let is_so = gives(second, location, how);
-            is_stored && is_so && valid == (how == How::Hit)
-        }
-        Err(_) => false,
-    }
+    let mut asked = Constraint::new(alloc);
+    let is_stored = is_stored(alloc, &mut cache, &before, &mut asked);
+    let is_same = asked.validate(&after) == Ok(how == How::Hit);
+    let is_so = ends(alloc, &mut cache, &after, how);
+    is_stored && is_same && is_so
 }
 
 #[test]

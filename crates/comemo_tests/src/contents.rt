@@ -5,7 +5,6 @@ ghost use Rattle.std.proofs.Common.{rules};
 use comemo::{Cache, CacheData, Contents, Fault, Function, Hold, Recorder, Run, memoized};
 use comemo_examples::{Town, TownCall};
 use std::alloc::Global;
-use std::test::Fail;
 
 /// How warm a town is, for a reader who has a number.
 pub struct WarmthFor;
@@ -33,113 +32,90 @@ impl Run<Town, ()> for WarmthFor {
     }
 }
 
-/// A hit or a run of the function for each of these readers, while the town has these degrees.
-fn ask_all<H: Hold<WarmthFor>>(
+/// Whether there is a hit or a run of the function for each of these readers, while the town has these degrees.
+fn asks_all<H: Hold<WarmthFor>>(
     alloc: Global,
     cache: &mut H,
     readers: &[u64],
     degrees: u64,
-) -> Result<(), Fault> {
+) -> bool {
     let town = Town {
         people: 900,
         degrees,
     };
+    let mut is_so = true;
     for reader in readers {
-        let _ = memoized(alloc, cache, *reader, &town)?;
+        let is_told = memoized(alloc, cache, *reader, &town).is_ok();
+        is_so = is_so && is_told;
     }
-    Ok(())
+    is_so
+}
+
+/// Whether there is a hit or a run of the function for each reader below a number, while the town has these degrees.
+fn asks_below<H: Hold<WarmthFor>>(alloc: Global, cache: &mut H, bound: u64, degrees: u64) -> bool {
+    let mut is_so = true;
+    for reader in 0..bound {
+        let is_told = asks_all(alloc, cache, &[reader], degrees);
+        is_so = is_so && is_told;
+    }
+    is_so
+}
+
+/// Whether a cache holds so many entries, under so many keys, of these ages.
+fn are(contents: Contents, entries: usize, keys: usize, ages: &[usize]) -> bool {
+    contents.entries == entries && contents.keys == keys && contents.ages.as_slice() == ages
+}
+
+/// Whether an unshared cache does.
+fn holds(cache: &CacheData<WarmthFor>, entries: usize, keys: usize, ages: &[usize]) -> bool {
+    are(cache.contents(), entries, keys, ages)
 }
 
 #[test]
 fn an_empty_cache_holds_nothing(rt: HostRuntime) {
     let cache: CacheData<WarmthFor> = CacheData::new(rt.alloc());
-    let wanted = Contents {
-        entries: 0,
-        keys: 0,
-        ages: [0; 8],
-    };
-    assert_eq!(rt; cache.contents(), wanted);
+    assert!(rt; holds(&cache, 0, 0, &[0; 8]));
 }
 
 #[test]
-fn entries_are_counted_by_key_and_age(rt: HostRuntime) -> Result<(), Fail> {
+fn entries_are_counted_by_key_and_age(rt: HostRuntime) {
     let alloc = rt.alloc();
     let mut cache: CacheData<WarmthFor> = CacheData::new(alloc);
-    ask_all(alloc, &mut cache, &[1, 2, 3], 21)?;
-    ask_all(alloc, &mut cache, &[1, 2], 4)?;
-    let young = Contents {
-        entries: 5,
-        keys: 3,
-        ages: [5, 0, 0, 0, 0, 0, 0, 0],
-    };
-    assert_eq!(rt; cache.contents(), young);
+    assert!(rt; asks_all(alloc, &mut cache, &[1, 2, 3], 21));
+    assert!(rt; asks_all(alloc, &mut cache, &[1, 2], 4));
+    assert!(rt; holds(&cache, 5, 3, &[5, 0, 0, 0, 0, 0, 0, 0]));
     cache.evict(30);
     cache.evict(30);
     // A hit makes an entry young again.
-    ask_all(alloc, &mut cache, &[2], 21)?;
-    ask_all(alloc, &mut cache, &[4], 21)?;
+    assert!(rt; asks_all(alloc, &mut cache, &[2], 21));
+    assert!(rt; asks_all(alloc, &mut cache, &[4], 21));
     cache.evict(30);
-    let mixed = Contents {
-        entries: 6,
-        keys: 4,
-        ages: [0, 2, 0, 4, 0, 0, 0, 0],
-    };
-    assert_eq!(rt; cache.contents(), mixed);
+    assert!(rt; holds(&cache, 6, 4, &[0, 2, 0, 4, 0, 0, 0, 0]));
     for _ in 0..4_u32 {
         cache.evict(30);
     }
     // Ages 5 and 7.
-    let old = Contents {
-        entries: 6,
-        keys: 4,
-        ages: [0, 0, 0, 0, 0, 2, 0, 4],
-    };
-    assert_eq!(rt; cache.contents(), old);
+    assert!(rt; holds(&cache, 6, 4, &[0, 0, 0, 0, 0, 2, 0, 4]));
     for _ in 0..3_u32 {
         cache.evict(30);
     }
     // Ages 8 and 10.
-    let older = Contents {
-        ages: [0, 0, 0, 0, 0, 0, 0, 6],
-        ..old
-    };
-    assert_eq!(rt; cache.contents(), older);
+    assert!(rt; holds(&cache, 6, 4, &[0, 0, 0, 0, 0, 0, 0, 6]));
     cache.evict(9);
-    let left = Contents {
-        entries: 2,
-        keys: 2,
-        ages: [0, 0, 0, 0, 0, 0, 0, 2],
-    };
-    assert_eq!(rt; cache.contents(), left);
-    Ok(())
+    assert!(rt; holds(&cache, 2, 2, &[0, 0, 0, 0, 0, 0, 0, 2]));
 }
 
 #[test]
-fn the_parts_of_a_shared_cache_are_summed(rt: HostRuntime) -> Result<(), Fail> {
+fn the_parts_of_a_shared_cache_are_summed(rt: HostRuntime) {
     let alloc = rt.alloc();
     let cache: Cache<WarmthFor> = Cache::new(alloc);
     let mut hold = cache.hold(&rt);
-    let none = Contents {
-        entries: 0,
-        keys: 0,
-        ages: [0; 8],
-    };
-    assert_eq!(rt; cache.contents(&rt), none);
-    for reader in 0..100_u64 {
-        ask_all(alloc, &mut hold, &[reader], 21)?;
-    }
-    for reader in 0..10_u64 {
-        ask_all(alloc, &mut hold, &[reader], 4)?;
-    }
+    assert!(rt; are(cache.contents(&rt), 0, 0, &[0; 8]));
+    assert!(rt; asks_below(alloc, &mut hold, 100, 21));
+    assert!(rt; asks_below(alloc, &mut hold, 10, 4));
     cache.evict(&rt, 30);
-    ask_all(alloc, &mut hold, &[200, 201], 21)?;
-    let wanted = Contents {
-        entries: 112,
-        keys: 102,
-        ages: [2, 110, 0, 0, 0, 0, 0, 0],
-    };
-    assert_eq!(rt; cache.contents(&rt), wanted);
+    assert!(rt; asks_all(alloc, &mut hold, &[200, 201], 21));
+    assert!(rt; are(cache.contents(&rt), 112, 102, &[2, 110, 0, 0, 0, 0, 0, 0]));
     cache.evict(&rt, 0);
-    assert_eq!(rt; cache.contents(&rt), none);
-    Ok(())
+    assert!(rt; are(cache.contents(&rt), 0, 0, &[0; 8]));
 }

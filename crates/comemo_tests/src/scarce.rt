@@ -348,28 +348,27 @@ fn pairs(alloc: Global, left: &Left) -> Result<Vec<(Scarce, u64)>, AllocError> {
 fn steps(alloc: Global, left: &Left) -> Result<Vec<Step<AnyEcho>>, AllocError>
     ensures { IfOk result (λ steps. All (IsStep ⟦<AnyEcho as Meant>⟧.meaning) steps.items) }
 {
-    let store = Step::Store {
+    let stored = pairs(alloc, left)?;
+    let first = pairs(alloc, left)?;
+    let second = pairs(alloc, left)?;
+    let mut steps = Vec::with_capacity(alloc, 4)?;
+    steps.push_reserved(Step::Store {
         key: 7,
-        pairs: pairs(alloc, left)?,
+        pairs: stored,
         output: 3,
         writes: Vec::new(alloc),
-    };
-    let look = Step::Look {
+    });
+    steps.push_reserved(Step::Look {
         key: 7,
-        answers: pairs(alloc, left)?,
+        answers: first,
         other: 0,
-    };
-    let again = Step::Look {
+    });
+    steps.push_reserved(Step::Evict { max_age: 9 });
+    steps.push_reserved(Step::Look {
         key: 7,
-        answers: pairs(alloc, left)?,
+        answers: second,
         other: 0,
-    };
-    let mut steps = Vec::new(alloc);
-    steps.reserve(4)?;
-    steps.push(store)?;
-    steps.push(look)?;
-    steps.push(Step::Evict { max_age: 9 })?;
-    steps.push(again)?;
+    });
     Ok(steps)
 }
 

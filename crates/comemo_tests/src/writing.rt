@@ -4,11 +4,10 @@ use crate::notes::{AddsThree, NotesThree};
 use comemo::internal::TrackedMut;
 use comemo::{
     Begun, BothMut, CacheData, Constraint, Fault, How, MultiAnswer, MultiCall, RecorderMut, Sink,
-    Top, Track, memoize, memoized_mut_with,
+    Top, Track, Tracked, memoize, memoized_mut_with,
 };
 use comemo_examples::{Counter, CounterCall, Notebook, NotebookCall, Town, TownCall};
 use std::alloc::Global;
-use std::test::Fail;
 
 /// Whether a recording has the one read of a notebook's owner, and these lines as its writes.
 fn is_recorded(recording: Constraint<NotebookCall, u64>, owner: u64, lines: &[u64]) -> bool {
@@ -21,16 +20,24 @@ fn is_recorded(recording: Constraint<NotebookCall, u64>, owner: u64, lines: &[u6
     is_so
 }
 
+/// Whether the line 5 is written through a view of a notebook whose owner is 7, and 6 exactly if there is room for it.
+fn writes(
+    view: &mut TrackedMut<'_, Notebook>,
+    recording: &mut Constraint<NotebookCall, u64>,
+    has_room: bool,
+) -> bool {
+    let first = view.write(NotebookCall::Note(5), recording).is_ok();
+    let owner = view.ask(NotebookCall::Owner, recording) == Ok(7);
+    let second = view.write(NotebookCall::Note(6), recording).is_ok();
+    first && owner && second == has_room
+}
+
 /// Whether of the lines 5 and 6, written to a notebook that has so much room, these are done and recorded, and the others
 /// are neither.
 fn are_written(alloc: Global, room: usize, lines: &[u64]) -> bool {
     let mut book = Notebook::new(alloc, 7, room);
     let mut recording = Constraint::new(alloc);
-    let mut view = book.track_mut(alloc);
-    let first = view.write(NotebookCall::Note(5), &mut recording).is_ok();
-    let owner = view.ask(NotebookCall::Owner, &mut recording) == Ok(7);
-    let second = view.write(NotebookCall::Note(6), &mut recording).is_ok();
-    let is_told = first && owner && second == (lines.len() == 2);
+    let is_told = writes(&mut book.track_mut(alloc), &mut recording, lines.len() == 2);
     let is_done = book.lines() == lines;
     is_told && is_done && recording.is_whole() && is_recorded(recording, 7, lines)
 }
@@ -58,6 +65,11 @@ fn a_write_is_done_and_recorded_or_neither(rt: HostRuntime) {
     assert!(rt; is_sent);
 }
 
+/// Whether a view tells the owner 7 of a notebook.
+fn tells_owner(mut view: Tracked<'_, Notebook>) -> bool {
+    view.ask(NotebookCall::Owner, &mut Top::new()) == Ok(7)
+}
+
 /// Whether views of a view write to its value and read it.
 fn are_of_one_value(alloc: Global) -> bool {
     let mut book = Notebook::new(alloc, 7, 9);
@@ -66,12 +78,8 @@ fn are_of_one_value(alloc: Global) -> bool {
     let first = inner.write(NotebookCall::Note(5), &mut Top::new()).is_ok();
     drop(inner);
     let second = view.write(NotebookCall::Note(6), &mut Top::new()).is_ok();
-    let mut reading = TrackedMut::reborrow(&view, alloc);
-    let owner = reading.ask(NotebookCall::Owner, &mut Top::new()) == Ok(7);
-    drop(reading);
-    let mut reading = TrackedMut::downgrade(view, alloc);
-    let owner_too = reading.ask(NotebookCall::Owner, &mut Top::new()) == Ok(7);
-    drop(reading);
+    let owner = tells_owner(TrackedMut::reborrow(&view, alloc));
+    let owner_too = tells_owner(TrackedMut::downgrade(view, alloc));
     first && second && owner && owner_too && book.lines() == [5, 6].as_slice()
 }
 
@@ -79,6 +87,26 @@ fn are_of_one_value(alloc: Global) -> bool {
 fn views_of_views_are_of_the_same_value(rt: HostRuntime) {
     let is_so = are_of_one_value(rt.alloc());
     assert!(rt; is_so);
+}
+
+/// A recording of calls of a town and a counter.
+type Recording = Constraint<MultiCall<TownCall, CounterCall>, MultiAnswer<u64, u64>>;
+
+/// Whether a view of a town of 21 degrees and a counter tells the degrees, and adds 4.
+fn reads_and_adds(
+    view: &mut TrackedMut<'_, BothMut<'_, Town, Counter>>,
+    recording: &mut Recording,
+) -> bool {
+    let degrees = view.ask(MultiCall::A(TownCall::Degrees), recording);
+    let is_read = degrees == Ok(MultiAnswer::A(21));
+    let add = MultiCall::B(CounterCall::Add(4));
+    is_read && view.write(add, recording).is_ok()
+}
+
+/// Whether a recording has one write.
+fn has_one_write(recording: Recording) -> bool {
+    let (_, writes) = recording.into_parts();
+    writes.len() == 1
 }
 
 /// Whether a write of two values is done on its own and recorded, and a read is answered by the other.
@@ -89,13 +117,9 @@ fn changes_its_own(alloc: Global, town: &mut Town, counter: &mut Counter) -> boo
     };
     let mut recording = Constraint::new(alloc);
     let mut view = both.track_mut(alloc);
-    let degrees = view.ask(MultiCall::A(TownCall::Degrees), &mut recording);
-    let is_read = degrees == Ok(MultiAnswer::A(21));
-    let add = MultiCall::B(CounterCall::Add(4));
-    let is_written = view.write(add, &mut recording).is_ok();
+    let is_done = reads_and_adds(&mut view, &mut recording);
     drop(view);
-    let (_, writes) = recording.into_parts();
-    is_read && is_written && writes.len() == 1
+    is_done && has_one_write(recording)
 }
 
 #[test]
@@ -247,13 +271,14 @@ fn add_three_by_hand(
 }
 
 #[test]
-fn a_call_by_hand_that_writes_says_what_became_of_it(rt: HostRuntime) -> Result<(), Fail> {
+fn a_call_by_hand_that_writes_says_what_became_of_it(rt: HostRuntime) {
     let alloc = rt.alloc();
     let mut cache: CacheData<AddsThree> = CacheData::new(alloc);
     let mut counter = Counter { number: 0 };
-    for (how, sum) in [(How::Stored, 3_u64), (How::Hit, 6)] {
-        let went = add_three_by_hand(alloc, &mut cache, &mut counter)?;
-        assert_eq!(rt; (went, counter.number), (how, sum));
+    let calls: &[(How, u64)] = &[(How::Stored, 3), (How::Hit, 6)];
+    for (how, sum) in calls {
+        let is_so = add_three_by_hand(alloc, &mut cache, &mut counter) == Ok(*how);
+        assert!(rt; is_so, "for {how:?}");
+        assert_eq!(rt; counter.number, *sum);
     }
-    Ok(())
 }

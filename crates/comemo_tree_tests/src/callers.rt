@@ -168,6 +168,11 @@ mod tests {
         }
     }
 
+    // Whether a tree gets this under a key by a table of answers.
+    fn gets(tree: &Tree, key: u128, table: &[u128], wanted: Option<char>) -> bool {
+        get_by_table(tree, key, table).copied() == wanted
+    }
+
     #[test]
     fn a_table_finds_the_path_of_its_answers(rt: HostRuntime) {
         let alloc = rt.alloc();
@@ -175,9 +180,9 @@ mod tests {
         assert!(rt; stores(alloc, &mut tree, &[(0, 10), (1, 15)], 'f'));
         assert!(rt; stores(alloc, &mut tree, &[(0, 10), (1, 20)], 's'));
         assert_eq!(rt; tree.len(), 2);
-        assert_eq!(rt; get_by_table(&tree, 0, &[10, 20]).copied(), Some('s'));
-        assert_eq!(rt; get_by_table(&tree, 0, &[15, 20]).copied(), None);
-        assert_eq!(rt; get_by_table(&tree, 1, &[10, 20]).copied(), None);
+        assert!(rt; gets(&tree, 0, &[10, 20], Some('s')));
+        assert!(rt; gets(&tree, 0, &[15, 20], None));
+        assert!(rt; gets(&tree, 1, &[10, 20], None));
         assert!(rt; finds_path(&tree, &[10, 15], &[(0, 10), (1, 15)], 'f'));
     }
 

@@ -55,6 +55,12 @@ struct Both<M: Machine> {
 }
 
 impl<M: Machine> Both<M> {
+    /// The machine's reply to an insertion of a run.
+    fn reply(&mut self, key: u64, run: &Run, value: u32) -> Result<TreeReply, AllocError> {
+        let pairs = pairs_of(self.alloc, run)?;
+        self.machine.insert(key, pairs.as_slice(), value)
+    }
+
     /// Whether an insertion of a run, in one of its orders, has the same result in both.
     fn agree_on_insert(
         &mut self,
@@ -67,8 +73,7 @@ impl<M: Machine> Both<M> {
         requires below { key < 5 }
     {
         let run = run_under(self.alloc, key, answers.first, answers.others, numbers)?;
-        let pairs = pairs_of(self.alloc, &run)?;
-        let wanted = self.machine.insert(key, pairs.as_slice(), value)?;
+        let wanted = self.reply(key, &run, value)?;
         match self.tree.insert(key, run, value) {
             Ok(()) => Ok(wanted == TreeReply::Inserted),
             Err(InsertError::AlreadyExists) => Ok(wanted == TreeReply::AlreadyExists),

@@ -160,14 +160,20 @@ fn has_values(alloc: Global, tree: &Tree, wanted: &[&'static str]) -> bool {
     values.sort().is_ok() && values.as_slice() == wanted
 }
 
+/// Whether so many values of a tree are visited, and it says so before.
+fn visits(tree: &Tree, count: usize) -> bool {
+    let is_said = tree.values().len() == count;
+    is_said && tree.values().count() == count
+}
+
 #[test]
 fn each_value_is_visited_once(rt: HostRuntime) {
     let alloc = rt.alloc();
     let mut tree = Tree::new(alloc);
-    assert_eq!(rt; tree.values().count(), 0);
+    assert!(rt; visits(&tree, 0));
     assert!(rt; stores(alloc, &mut tree, 1, &[('a', 15), ('c', 15)], "third"));
     assert!(rt; stores(alloc, &mut tree, 1, &[('a', 10)], "second"));
     assert!(rt; stores(alloc, &mut tree, 2, &[], "other"));
-    assert_eq!(rt; tree.values().len(), 3);
+    assert!(rt; visits(&tree, 3));
     assert!(rt; has_values(alloc, &tree, &["other", "second", "third"]));
 }

@@ -1,4 +1,0 @@
-pub mod Cells
-pub mod Rolls
-pub mod RollLaws
-pub mod RollTells

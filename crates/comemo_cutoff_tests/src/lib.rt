@@ -1,5 +1,0 @@
-//! Tests of functions that ask outputs of others.
-#![tactic(auto)]
-
-#[cfg(test)]
-mod cutoff;

@@ -1,0 +1,3 @@
+pub mod Rolls
+pub mod RollLaws
+pub mod RollTells

@@ -1,0 +1,16 @@
+//! Tests of the crates over `comemo`: branches of runs, in threads and in turn, values that keep their answers, functions
+//! that ask outputs of others, and the requests that the theorems are about.
+#![tactic(auto)]
+
+#[cfg(test)]
+mod counted;
+#[cfg(test)]
+mod cutoff;
+#[cfg(test)]
+mod rolls;
+#[cfg(test)]
+mod rounds;
+#[cfg(test)]
+mod schedules;
+#[cfg(test)]
+mod sessions;
