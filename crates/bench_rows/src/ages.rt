@@ -198,11 +198,7 @@ fn after(
 }
 
 /// Checks the replies to steps with one path, and returns whether there is an entry afterwards.
-fn after_all(
-    tally: &mut Tally,
-    wanted: &[(Kind, Said)],
-    replies: &[StepReply<Anything>],
-) -> bool {
+fn after_all(tally: &mut Tally, wanted: &[(Kind, Said)], replies: &[StepReply<Anything>]) -> bool {
     tally.hold(replies.len() == wanted.len());
     let mut kept = None;
     for (reply, (kind, said)) in replies.iter().zip(wanted) {
@@ -276,7 +272,10 @@ pub(crate) fn touches_go_by_answers(alloc: Global) -> bool {
             (Kind::Touch, Said::Done),
             (Kind::Evict(1), Said::Done),
             (Kind::Store(&[(b'c', 1)], Z), Said::MissingCall),
-            (Kind::Store(&[(b'c', 1), (b'b', 10)], Z), Said::AlreadyExists),
+            (
+                Kind::Store(&[(b'c', 1), (b'b', 10)], Z),
+                Said::AlreadyExists,
+            ),
             (Kind::Look(A), Said::NotFound),
             (Kind::Look(B), Said::Found(Y)),
             (Kind::Evict(1), Said::Done),

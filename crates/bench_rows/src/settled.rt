@@ -77,11 +77,7 @@ fn finds(
 }
 
 /// A look-up: the answers, the value found, and the calls asked.
-type Look = (
-    &'static [(Letter, u128)],
-    Option<char>,
-    &'static [Letter],
-);
+type Look = (&'static [(Letter, u128)], Option<char>, &'static [Letter]);
 
 /// Whether a tree has these look-ups, and this shape.
 fn finds_all(

@@ -20,10 +20,7 @@ use crate::sessions::{
     the_bytes_of_files_are_counted,
 };
 use crate::settled::no_run_is_lost;
-use crate::sharing::{
-    a_shared_cache_stores_one_of_two, branches_and_evictions, evictions_beside_workers,
-    other_questions, turned_orders,
-};
+use crate::sharing::{a_shared_cache_stores_one_of_two, branches_and_evictions};
 use crate::streams::what_was_answered_was_written;
 use crate::texts::{functions_are_kept, two_kinds_of_questions};
 use crate::trees::{
@@ -32,6 +29,9 @@ use crate::trees::{
     what_is_kept_is_found_alone, what_is_stored_stays,
 };
 use crate::views::a_view_asks_once;
+use crate::workers::{
+    two_runs_that_ask_in_turned_order, two_runs_that_ask_other_questions, workers_beside_evictions,
+};
 use crate::writes::hits_write_again;
 use std::alloc::Global;
 use std::rt::Clock;
@@ -73,14 +73,14 @@ pub fn run_rows<R: Threads + Wait + Clock + Sync>(rt: &R, alloc: Global) -> Outc
     rows.row("R10", Ok(no_run_is_lost(alloc)));
     rows.row("R11", Ok(a_view_asks_once(alloc)));
     rows.row("R12", what_was_answered_was_written(alloc));
-    rows.row("R13", Ok(other_questions(rt, alloc)));
+    rows.row("R13", Ok(two_runs_that_ask_other_questions(rt, alloc)));
     rows.row("R13", Ok(touches_go_by_answers(alloc)));
     rows.row("R13", Ok(scripts_that_misbehave_are_told_so(alloc)));
     rows.row("R13", Ok(a_limit_holds_for_a_hit(alloc)));
-    rows.row("R13", Ok(evictions_beside_workers(rt, alloc)));
+    rows.row("R13", Ok(workers_beside_evictions(rt, alloc)));
     rows.row("R14", Ok(keys_of_one_hash_are_kept_apart(alloc)));
     rows.row("R14", Ok(what_is_said_to_be_kept_is_found(alloc)));
-    rows.row("R14", Ok(turned_orders(rt, alloc)));
+    rows.row("R14", Ok(two_runs_that_ask_in_turned_order(rt, alloc)));
     rows.row("R15", Ok(late_runs(rt, alloc)));
     rows
 }
