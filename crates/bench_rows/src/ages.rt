@@ -1,38 +1,15 @@
 //! Rows of ages: what evictions drop, and what hits and touches refresh.
-ghost use Rattle.std.specs.Prelude.{◌≡◌, IfOk};
+ghost use Rattle.std.specs.Prelude.{IfOk};
 ghost use Rattle.std.specs.List.{All};
-ghost use Rattle.std.proofs.Common.{rules};
 ghost use Rattle.comemo.specs.Steps.{IsStep};
 
 use crate::broken::Broken;
 use crate::steps::{Anything, evict, look, store, touch};
 use crate::tally::Tally;
+use crate::workers::Null;
 use comemo::internal::{Meant, Step, StepReply};
-use comemo::{CacheData, Constraint, Fault, Function, How, Recorder, Run, memoized_with};
+use comemo::{CacheData, Constraint, How, memoized_with};
 use std::alloc::{AllocError, Global};
-
-/// Returns 0.
-struct Null;
-
-impl Function for Null {
-    type Key = ();
-
-    type Call = ();
-
-    type Answer = ();
-
-    type Out = u64;
-
-    ghost means = { λ _ _ out. out ≡ 0 };
-
-    ghost laws = { Prim.search rules };
-}
-
-impl Run<(), ()> for Null {
-    fn run(_: &(), _: &mut Recorder<'_, ()>, _: &mut ()) -> Result<u64, Fault> {
-        Ok(0)
-    }
-}
 
 /// An entry's age after an eviction, if it stays.
 pub(crate) fn aged(age: Option<usize>, max_age: usize) -> Option<usize> {
@@ -40,6 +17,18 @@ pub(crate) fn aged(age: Option<usize>, max_age: usize) -> Option<usize> {
         Some(age) if age < max_age => Some(age.saturating_add(1)),
         _ => None,
     }
+}
+
+/// Ages the entries by an eviction, and returns how many stay.
+pub(crate) fn age_all(ages: &mut [Option<usize>], max_age: usize) -> usize {
+    let mut count: usize = 0;
+    for age in ages.iter_mut() {
+        *age = aged(*age, max_age);
+        if age.is_some() {
+            count = count.saturating_add(1);
+        }
+    }
+    count
 }
 
 /// Calls the function of nothing, whose entry has this age, or doesn't exist. Checks the result, and returns the
@@ -99,7 +88,7 @@ pub(crate) fn hits_stay_young(alloc: Global) -> Result<bool, Broken> {
 }
 
 /// A short form of a step's result.
-#[derive(Clone, Copy, Drop, Debug, PartialEq, Eq)]
+#[derive(Clone, Copy, Drop, PartialEq, Eq)]
 enum Said {
     Found(u32),
     NotFound,
@@ -123,24 +112,6 @@ fn said_by(reply: &StepReply<Anything>) -> Said {
     }
 }
 
-/// Whether a new cache answers the steps like this.
-fn are_answered(
-    alloc: Global,
-    steps: Vec<Step<Anything>>,
-    wanted: &[Said],
-) -> Result<bool, AllocError>
-    requires { All (IsStep ⟦<Anything as Meant>⟧.meaning) steps.items }
-{
-    let mut cache: CacheData<Anything> = CacheData::new(alloc);
-    let replies = cache.replay(alloc, steps)?;
-    for (reply, want) in replies.iter().zip(wanted) {
-        if said_by(reply) != *want {
-            return Ok(false);
-        }
-    }
-    Ok(replies.len() == wanted.len())
-}
-
 /// The outputs.
 const X: u32 = 1;
 
@@ -148,45 +119,44 @@ const Y: u32 = 2;
 
 const Z: u32 = 3;
 
-/// Steps, unless they ran out of memory.
-type Steps = Result<Vec<Step<Anything>>, AllocError>;
+/// The pairs of a path.
+type Pairs = &'static [(u8, u8)];
 
-/// The steps and one more, unless either ran out of memory.
-fn add(steps: Steps, step: Result<Step<Anything>, AllocError>) -> Steps
-    requires before { IfOk steps (λ steps.
-        All (IsStep ⟦<Anything as Meant>⟧.meaning) steps.items) }
-    requires one_more { IfOk step (IsStep ⟦<Anything as Meant>⟧.meaning) }
-    ensures { IfOk result (λ steps. All (IsStep ⟦<Anything as Meant>⟧.meaning) steps.items) }
-{
-    let mut steps = steps?;
-    steps.push(step?)?;
-    Ok(steps)
-}
+const A: Pairs = &[(b'a', 10)];
 
-/// Steps under one key, with one path.
-fn steps_of_one_path(alloc: Global) -> Steps
-    ensures { IfOk result (λ steps. All (IsStep ⟦<Anything as Meant>⟧.meaning) steps.items) }
-{
-    let steps = Ok(Vec::new(alloc));
-    let steps = add(steps, store(alloc, 1, &[(b'a', 10)], X, &[]));
-    let steps = add(steps, look(alloc, 1, &[(b'a', 10)], 0));
-    let steps = add(steps, Ok(evict(0)));
-    let steps = add(steps, store(alloc, 1, &[(b'a', 10)], Y, &[]));
-    let steps = add(steps, Ok(evict(1)));
-    let steps = add(steps, touch(alloc, 1, &[10]));
-    let steps = add(steps, Ok(evict(1)));
-    let steps = add(steps, look(alloc, 1, &[(b'a', 10)], 0));
-    let steps = add(steps, Ok(evict(1)));
-    add(steps, look(alloc, 1, &[(b'a', 10)], 0))
-}
+const B: Pairs = &[(b'b', 10)];
 
-/// A step with one path: it stores an output, looks, touches, or evicts with a bound.
+/// A step under one key: it stores an output under a path, looks with the answers of one, touches what has the answer
+/// 10, or evicts with a bound.
 #[derive(Clone, Copy, Drop)]
 enum Kind {
-    Store(u32),
-    Look,
+    Store(Pairs, u32),
+    Look(Pairs),
     Touch,
     Evict(usize),
+}
+
+/// A step of a kind.
+fn step_of(alloc: Global, kind: Kind) -> Result<Step<Anything>, AllocError>
+    ensures { IfOk result (IsStep ⟦<Anything as Meant>⟧.meaning) }
+{
+    match kind {
+        Kind::Store(pairs, output) => store(alloc, 1, pairs, output, &[]),
+        Kind::Look(pairs) => look(alloc, 1, pairs, 0),
+        Kind::Touch => touch(alloc, 1, &[10]),
+        Kind::Evict(max_age) => Ok(evict(max_age)),
+    }
+}
+
+/// Steps of these kinds.
+fn steps_of(alloc: Global, kinds: &[(Kind, Said)]) -> Result<Vec<Step<Anything>>, AllocError>
+    ensures { IfOk result (λ steps. All (IsStep ⟦<Anything as Meant>⟧.meaning) steps.items) }
+{
+    let mut steps = Vec::new(alloc);
+    for kind in kinds {
+        steps.push(step_of(alloc, kind.0)?)?;
+    }
+    Ok(steps)
 }
 
 /// Checks the reply to a step with one path, given the entry's output and age before, and returns them afterwards. A
@@ -198,17 +168,17 @@ fn after(
     reply: &StepReply<Anything>,
 ) -> Option<(u32, usize)> {
     match (kind, reply) {
-        (Kind::Store(output), StepReply::Stored) => {
+        (Kind::Store(_, output), StepReply::Stored) => {
             tally.hold(kept.is_none());
             return Some((output, 0));
         }
-        (Kind::Store(_), StepReply::AlreadyExists) => tally.hold(kept.is_some()),
-        (Kind::Store(_), StepReply::Memory) => tally.refuse(),
-        (Kind::Look, StepReply::Found(found)) => {
+        (Kind::Store(..), StepReply::AlreadyExists) => tally.hold(kept.is_some()),
+        (Kind::Store(..), StepReply::Memory) => tally.refuse(),
+        (Kind::Look(_), StepReply::Found(found)) => {
             tally.hold(kept == Some((found.output, found.age)) && found.writes.is_empty());
         }
-        (Kind::Look, StepReply::NotFound) => tally.hold(kept.is_none()),
-        (Kind::Look, StepReply::Memory) => {
+        (Kind::Look(_), StepReply::NotFound) => tally.hold(kept.is_none()),
+        (Kind::Look(_), StepReply::Memory) => {
             tally.hold(kept.is_some());
             tally.refuse();
         }
@@ -227,76 +197,89 @@ fn after(
     kept
 }
 
-/// Whether a touch refreshes an entry, a look-up doesn't, and a failing step changes nothing.
-pub(crate) fn touches_stay_young(alloc: Global) -> Result<bool, Broken> {
-    let wanted: &[(Kind, Said)] = &[
-        (Kind::Store(X), Said::Stored),
-        (Kind::Look, Said::Found(X)),
-        (Kind::Evict(0), Said::Done),
-        (Kind::Store(Y), Said::Stored),
-        (Kind::Evict(1), Said::Done),
-        (Kind::Touch, Said::Done),
-        (Kind::Evict(1), Said::Done),
-        (Kind::Look, Said::Found(Y)),
-        (Kind::Evict(1), Said::Done),
-        (Kind::Look, Said::NotFound),
-    ];
-    let mut cache: CacheData<Anything> = CacheData::new(alloc);
-    let mut tally = Tally::new();
-    let steps = steps_of_one_path(alloc)?;
-    let Ok(replies) = cache.replay(alloc, steps) else {
-        tally.refuse();
-        tally.hold(cache.len() == 0);
-        return tally.came_to();
-    };
+/// Checks the replies to steps with one path, and returns whether there is an entry afterwards.
+fn after_all(tally: &mut Tally, wanted: &[(Kind, Said)], replies: &[StepReply<Anything>]) -> bool {
     tally.hold(replies.len() == wanted.len());
     let mut kept = None;
     for (reply, (kind, said)) in replies.iter().zip(wanted) {
-        kept = after(&mut tally, kept, *kind, reply);
+        kept = after(tally, kept, *kind, reply);
         tally.hold_if_ample(said_by(reply) == *said);
     }
-    tally.hold(cache.len() == usize::from(kept.is_some()));
+    kept.is_some()
+}
+
+/// Whether a touch refreshes an entry, a look-up doesn't, and a failing step changes nothing.
+pub(crate) fn touches_stay_young(alloc: Global) -> Result<bool, Broken> {
+    let wanted: &[(Kind, Said)] = &[
+        (Kind::Store(A, X), Said::Stored),
+        (Kind::Look(A), Said::Found(X)),
+        (Kind::Evict(0), Said::Done),
+        (Kind::Store(A, Y), Said::Stored),
+        (Kind::Evict(1), Said::Done),
+        (Kind::Touch, Said::Done),
+        (Kind::Evict(1), Said::Done),
+        (Kind::Look(A), Said::Found(Y)),
+        (Kind::Evict(1), Said::Done),
+        (Kind::Look(A), Said::NotFound),
+    ];
+    let mut cache: CacheData<Anything> = CacheData::new(alloc);
+    let mut tally = Tally::new();
+    let steps = steps_of(alloc, wanted)?;
+    let is_kept = match cache.replay(alloc, steps) {
+        Ok(replies) => after_all(&mut tally, wanted, replies.as_slice()),
+        Err(_) => {
+            tally.refuse();
+            false
+        }
+    };
+    tally.hold(cache.len() == usize::from(is_kept));
     tally.came_to()
 }
 
-/// Steps under one key, where the paths have different calls but equal answers.
-fn steps_of_another_path(alloc: Global) -> Steps
-    ensures { IfOk result (λ steps. All (IsStep ⟦<Anything as Meant>⟧.meaning) steps.items) }
-{
-    let steps = Ok(Vec::new(alloc));
-    let steps = add(steps, store(alloc, 1, &[(b'a', 10)], X, &[]));
-    let steps = add(steps, look(alloc, 1, &[(b'a', 10)], 0));
-    let steps = add(steps, Ok(evict(0)));
-    let steps = add(steps, touch(alloc, 1, &[10]));
-    let steps = add(steps, store(alloc, 1, &[(b'b', 10)], Y, &[]));
-    let steps = add(steps, Ok(evict(1)));
-    let steps = add(steps, touch(alloc, 1, &[10]));
-    let steps = add(steps, Ok(evict(1)));
-    let steps = add(steps, store(alloc, 1, &[(b'c', 1)], Z, &[]));
-    let steps = add(steps, store(alloc, 1, &[(b'c', 1), (b'b', 10)], Z, &[]));
-    let steps = add(steps, look(alloc, 1, &[(b'a', 10)], 0));
-    let steps = add(steps, look(alloc, 1, &[(b'b', 10)], 0));
-    let steps = add(steps, Ok(evict(1)));
-    add(steps, look(alloc, 1, &[(b'b', 10)], 0))
+/// Whether these are the replies.
+fn are_said(replies: &[StepReply<Anything>], wanted: &[(Kind, Said)]) -> bool {
+    for (reply, want) in replies.iter().zip(wanted) {
+        if said_by(reply) != want.1 {
+            return false;
+        }
+    }
+    replies.len() == wanted.len()
+}
+
+/// Whether a new cache answers the steps like this.
+fn are_answered(alloc: Global, wanted: &[(Kind, Said)]) -> bool {
+    let mut cache: CacheData<Anything> = CacheData::new(alloc);
+    let Ok(steps) = steps_of(alloc, wanted) else {
+        return false;
+    };
+    match cache.replay(alloc, steps) {
+        Ok(replies) => are_said(replies.as_slice(), wanted),
+        Err(_) => false,
+    }
 }
 
 /// Whether a touch with the answers of a dropped entry refreshes a later one with equal answers, and nothing else does.
-pub(crate) fn touches_go_by_answers(alloc: Global) -> Result<bool, Broken> {
-    let wanted: &[Said] = &[
-        Said::Stored,
-        Said::Found(X),
-        Said::Done,
-        Said::Done,
-        Said::Stored,
-        Said::Done,
-        Said::Done,
-        Said::Done,
-        Said::MissingCall,
-        Said::AlreadyExists,
-        Said::NotFound,
-        Said::Found(Y),
-        Said::Done,
-        Said::NotFound,
-    ];
-    Ok(are_answered(alloc, steps_of_another_path(alloc)?, wanted)?)
+pub(crate) fn touches_go_by_answers(alloc: Global) -> bool {
+    are_answered(
+        alloc,
+        &[
+            (Kind::Store(A, X), Said::Stored),
+            (Kind::Look(A), Said::Found(X)),
+            (Kind::Evict(0), Said::Done),
+            (Kind::Touch, Said::Done),
+            (Kind::Store(B, Y), Said::Stored),
+            (Kind::Evict(1), Said::Done),
+            (Kind::Touch, Said::Done),
+            (Kind::Evict(1), Said::Done),
+            (Kind::Store(&[(b'c', 1)], Z), Said::MissingCall),
+            (
+                Kind::Store(&[(b'c', 1), (b'b', 10)], Z),
+                Said::AlreadyExists,
+            ),
+            (Kind::Look(A), Said::NotFound),
+            (Kind::Look(B), Said::Found(Y)),
+            (Kind::Evict(1), Said::Done),
+            (Kind::Look(B), Said::NotFound),
+        ],
+    )
 }

@@ -1,27 +1,43 @@
 //! Calls of memoized functions, and their expected results.
 ghost use Rattle.comemo.specs.Function.{WritesNone};
 
-use comemo::{CacheData, Fault, How, Reply, Run, Track, memoized};
+use comemo::{CacheData, Fault, Function, How, Reply, Run, Track, memoized};
 use std::alloc::Global;
 
-/// Calls a function that needs nothing, outside of any run.
-pub(crate) fn call<F: Run<T, ()>, T: Track>(
+/// Whether a call of a function that needs nothing, outside of any run, has this output, and came about like this.
+pub(crate) fn comes_to<O, F, T>(
     alloc: Global,
     cache: &mut CacheData<F>,
     key: F::Key,
     of: &T,
-) -> Result<Reply<F::Out>, Fault>
+    output: O,
+    how: How,
+) -> bool
+where
+    O: Copy + PartialEq,
+    F: Run<T, ()> + Function<Out = O>,
+    T: Track,
     requires { WritesNone F.writes }
 {
-    memoized(alloc, cache, key, of)
+    gives(memoized(alloc, cache, key, of), output, how)
 }
 
-/// Whether a reply has this output, and came about like this.
-pub(crate) fn gives<O: Copy + PartialEq>(reply: Reply<O>, output: O, how: How) -> bool {
-    reply.output == output && reply.how == how
+/// Whether a call succeeded, has this output, and came about like this.
+pub(crate) fn gives<O: Copy + PartialEq>(
+    reply: Result<Reply<O>, Fault>,
+    output: O,
+    how: How,
+) -> bool {
+    match reply {
+        Ok(reply) => reply.output == output && reply.how == how,
+        Err(_) => false,
+    }
 }
 
-/// Whether a reply has this text, and came about like this.
-pub(crate) fn gives_text(reply: Reply<String>, text: &str, how: How) -> bool {
-    reply.output.as_str() == text && reply.how == how
+/// Whether a call succeeded, has this text, and came about like this.
+pub(crate) fn gives_text(reply: Result<Reply<String>, Fault>, text: &str, how: How) -> bool {
+    match reply {
+        Ok(reply) => reply.output.as_str() == text && reply.how == how,
+        Err(_) => false,
+    }
 }

@@ -1,7 +1,7 @@
 //! The row of chains, which borrow one another.
 
-use crate::broken::Broken;
-use comemo::{CacheData, How, memoized};
+use crate::calls::comes_to;
+use comemo::{CacheData, How};
 use comemo_examples::chains::{Chain, IsInChain};
 use std::alloc::Global;
 
@@ -14,14 +14,11 @@ fn says(
     output: bool,
     how: How,
 ) -> bool {
-    match memoized(alloc, cache, number, chain) {
-        Ok(reply) => reply.output == output && reply.how == how,
-        Err(_) => false,
-    }
+    comes_to(alloc, cache, number, chain, output, how)
 }
 
 /// Whether chains with equal answers share entries.
-pub(crate) fn chains_share_what_is_kept(alloc: Global) -> Result<bool, Broken> {
+pub(crate) fn chains_share_what_is_kept(alloc: Global) -> bool {
     let mut cache: CacheData<IsInChain> = CacheData::new(alloc);
     let one = Chain::new(1);
     let three = Chain::new(3);
@@ -37,5 +34,5 @@ pub(crate) fn chains_share_what_is_kept(alloc: Global) -> Result<bool, Broken> {
     let by_five = says(alloc, &mut cache, &to_five, 2, true, How::Hit);
     let lacks_two = says(alloc, &mut cache, &one, 2, false, How::Stored);
     let by_three = says(alloc, &mut cache, &three, 2, false, How::Hit);
-    Ok(lacks && has && has_two && by_four && by_two && by_five && lacks_two && by_three)
+    lacks && has && has_two && by_four && by_two && by_five && lacks_two && by_three
 }

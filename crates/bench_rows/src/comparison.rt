@@ -40,6 +40,14 @@ fn is_same(reply: &StepReply<Anything>, wanted: &StepReply<Anything>) -> bool {
     }
 }
 
+/// Whether the only reply is this.
+fn is_answered(replies: &[StepReply<Anything>], wanted: &StepReply<Anything>) -> bool {
+    match replies {
+        [reply] => is_same(reply, wanted),
+        _ => false,
+    }
+}
+
 /// A cache, and a machine with which it is compared.
 #[derive(Drop)]
 struct Pair<M: Machine> {
@@ -49,34 +57,44 @@ struct Pair<M: Machine> {
 }
 
 impl<M: Machine> Pair<M> {
-    /// Whether both reply the same to a step.
-    fn agree(&mut self, step: Step<Anything>) -> Result<bool, AllocError>
+    /// Whether both reply the same to a step. Running out of memory counts as a difference.
+    fn agree(&mut self, step: Step<Anything>) -> bool
         requires { IsStep ⟦<Anything as Meant>⟧.meaning step }
     {
-        let wanted = self.machine.take(self.alloc, &step)?;
-        let steps = vec![in self.alloc; step]?;
-        let replies = self.cache.replay(self.alloc, steps)?;
-        match replies.as_slice() {
-            [reply] => Ok(is_same(reply, &wanted)),
-            _ => Ok(false),
+        let Ok(wanted) = self.machine.take(self.alloc, &step) else {
+            return false;
+        };
+        let Ok(steps) = vec![in self.alloc; step] else {
+            return false;
+        };
+        match self.cache.replay(self.alloc, steps) {
+            Ok(replies) => is_answered(replies.as_slice(), &wanted),
+            Err(_) => false,
+        }
+    }
+
+    /// Whether both reply the same to a look-up with one read, and one answer to all others.
+    fn agree_on_look(&mut self, key: u8, number: u8, answer: u8, other: u8) -> bool {
+        match look(self.alloc, key, &[(number, answer)], other) {
+            Ok(look) => self.agree(look),
+            Err(_) => false,
         }
     }
 
     /// Whether both reply the same to each look-up with at most one read, and one answer to all others.
-    fn agree_on_looks(&mut self) -> Result<bool, AllocError> {
+    fn agree_on_looks(&mut self) -> bool {
         for key in 0..4 {
             for number in 0..8 {
                 for answer in 0..4 {
                     for other in 0..4 {
-                        let look = look(self.alloc, key, &[(number, answer)], other)?;
-                        if !self.agree(look)? {
-                            return Ok(false);
+                        if !self.agree_on_look(key, number, answer, other) {
+                            return false;
                         }
                     }
                 }
             }
         }
-        Ok(true)
+        true
     }
 }
 
@@ -99,10 +117,9 @@ pub fn compare<M: Machine>(alloc: Global, machine: M, seed: u64, steps: u32) -> 
     for before in 0..steps {
         let step = before + 1;
         let is_last = step == steps || step % PERIOD == 0;
-        if let Ok(true) = take_next(&mut pair, &mut numbers, step, is_last) {
-            continue;
+        if !take_next(&mut pair, &mut numbers, step, is_last) {
+            return Some(step);
         }
-        return Some(step);
     }
     None
 }
@@ -113,9 +130,11 @@ fn take_next<M: Machine>(
     numbers: &mut Numbers,
     output: u32,
     is_last: bool,
-) -> Result<bool, AllocError> {
-    let step = numbers.step(pair.alloc, output)?;
-    Ok(pair.agree(step)? && (!is_last || pair.agree_on_looks()?))
+) -> bool {
+    let Ok(step) = numbers.step(pair.alloc, output) else {
+        return false;
+    };
+    pair.agree(step) && (!is_last || pair.agree_on_looks())
 }
 
 /// The first of these random steps to which a cache and a plain list reply differently.

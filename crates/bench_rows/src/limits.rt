@@ -1,6 +1,5 @@
 //! The row of a script under changing limits.
 
-use crate::broken::Broken;
 use calc_core::evaluation::{Eval, EvalFault, evaluate};
 use calc_core::files::Files;
 use calc_core::scripts::Outcome;
@@ -33,10 +32,10 @@ fn is_one(came_to: Result<Reply<Outcome>, EvalFault>, how: How) -> bool {
 }
 
 /// Whether a script that is too deep for a call's limit is reported even if it is cached, and stays cached.
-pub(crate) fn a_limit_holds_for_a_hit(alloc: Global) -> Result<bool, Broken> {
+pub(crate) fn a_limit_holds_for_a_hit(alloc: Global) -> bool {
     let mut cache: CacheData<Eval> = CacheData::new(alloc);
     let first = is_one(one_under(alloc, &mut cache, 1), How::Stored);
     let is_too_deep = matches!(one_under(alloc, &mut cache, 0), Err(EvalFault::TooDeep));
     let third = is_one(one_under(alloc, &mut cache, 1), How::Hit);
-    Ok(first && is_too_deep && third)
+    first && is_too_deep && third
 }

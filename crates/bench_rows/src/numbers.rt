@@ -1,7 +1,6 @@
 //! The row of functions of numbers.
 
-use crate::broken::Broken;
-use crate::calls::{call, gives};
+use crate::calls::{comes_to, gives};
 use crate::fibonacci::{Fibonacci, numbered};
 use comemo::{CacheData, Constraint, How, Top, memoized_with};
 use comemo_examples::double::Double;
@@ -9,74 +8,84 @@ use comemo_examples::numbers::{Identity, Sum};
 use std::alloc::Global;
 
 /// Whether a number is doubled once.
-fn doubles(alloc: Global) -> Result<bool, Broken> {
+fn doubles(alloc: Global) -> bool {
     let mut cache: CacheData<Double> = CacheData::new(alloc);
-    for (number, output, how) in [(2, 4, How::Stored), (4, 8, How::Stored), (2, 4, How::Hit)] {
-        if !gives(call(alloc, &mut cache, number, &())?, output, how) {
-            return Ok(false);
+    let calls: &[(u32, u32, How)] = &[(2, 4, How::Stored), (4, 8, How::Stored), (2, 4, How::Hit)];
+    for (number, output, how) in calls {
+        if !comes_to(alloc, &mut cache, *number, &(), *output, *how) {
+            return false;
         }
     }
-    Ok(true)
+    true
 }
 
 /// Whether the order of the arguments matters for the cache of a sum.
-fn sums(alloc: Global) -> Result<bool, Broken> {
+fn sums(alloc: Global) -> bool {
     let mut cache: CacheData<Sum> = CacheData::new(alloc);
-    for (numbers, output, how) in [
+    let calls: &[((u32, u32), u32, How)] = &[
         ((2, 4), 6, How::Stored),
         ((2, 3), 5, How::Stored),
         ((2, 3), 5, How::Hit),
         ((4, 2), 6, How::Stored),
-    ] {
-        if !gives(call(alloc, &mut cache, numbers, &())?, output, how) {
-            return Ok(false);
+    ];
+    for (numbers, output, how) in calls {
+        if !comes_to(alloc, &mut cache, *numbers, &(), *output, *how) {
+            return false;
         }
     }
-    Ok(true)
+    true
+}
+
+/// Whether the Fibonacci number at a place is this, and came about like this.
+fn is_at(
+    alloc: Global,
+    cache: &mut CacheData<Fibonacci>,
+    place: u64,
+    output: u64,
+    how: How,
+) -> bool {
+    let mut sink = Constraint::new(alloc);
+    gives(numbered(alloc, cache, place, &mut sink), output, how)
 }
 
 /// Whether Fibonacci numbers are cached on the way to others.
-fn numbers_of_fibonacci(alloc: Global) -> Result<bool, Broken> {
+fn numbers_of_fibonacci(alloc: Global) -> bool {
     let mut cache: CacheData<Fibonacci> = CacheData::new(alloc);
-    for (place, output, how) in [
+    let calls: &[(u64, u64, How)] = &[
         (5, 5, How::Stored),
         (3, 2, How::Hit),
         (8, 21, How::Stored),
         (7, 13, How::Hit),
-    ] {
-        let mut sink = Constraint::new(alloc);
-        if !gives(numbered(alloc, &mut cache, place, &mut sink)?, output, how) {
-            return Ok(false);
+    ];
+    for (place, output, how) in calls {
+        if !is_at(alloc, &mut cache, *place, *output, *how) {
+            return false;
         }
     }
-    Ok(true)
+    true
 }
 
 /// Whether only large numbers are cached.
-fn keeps_large_numbers(alloc: Global) -> Result<bool, Broken> {
+fn keeps_large_numbers(alloc: Global) -> bool {
     let mut cache: CacheData<Identity> = CacheData::new(alloc);
-    for (number, how) in [
+    let calls: &[(u64, How)] = &[
         (0, How::Disabled),
         (0, How::Disabled),
         (2000, How::Stored),
         (2000, How::Hit),
-    ] {
-        let enabled = number >= 1000;
+    ];
+    for (number, how) in calls {
+        let is_kept = *number >= 1000;
         let sink = &mut Top::new();
-        let reply = memoized_with(alloc, &mut cache, &mut (), number, &(), sink, enabled)?;
-        if !gives(reply, number, how) {
-            return Ok(false);
+        let reply = memoized_with(alloc, &mut cache, &mut (), *number, &(), sink, is_kept);
+        if !gives(reply, *number, *how) {
+            return false;
         }
     }
-    Ok(true)
+    true
 }
 
 /// Whether functions of numbers are cached under them.
-pub(crate) fn numbers_are_kept(alloc: Global) -> Result<bool, Broken> {
-    Ok(
-        doubles(alloc)?
-            && sums(alloc)?
-            && numbers_of_fibonacci(alloc)?
-            && keeps_large_numbers(alloc)?,
-    )
+pub(crate) fn numbers_are_kept(alloc: Global) -> bool {
+    doubles(alloc) && sums(alloc) && numbers_of_fibonacci(alloc) && keeps_large_numbers(alloc)
 }

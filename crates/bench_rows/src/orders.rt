@@ -1,29 +1,10 @@
 //! The row of runs that ask the same in another order, or something else.
-ghost use Rattle.std.proofs.Common.{rules};
 
-use crate::broken::Broken;
+use crate::calls::gives_text;
 use crate::place::{Place, PlaceAnswer, PlaceCall};
-use comemo::{Begun, CacheData, Constraint, Fault, Function, How, Reply, Top, Track, begin};
+use crate::places::{AnySaid, end};
+use comemo::{Begun, CacheData, Constraint, Fault, How, Reply, Top, Track, begin};
 use std::alloc::{AllocError, Global};
-
-/// A function of a place for which every text is right, so that its runs may ask anything.
-struct AnyText;
-
-impl Function for AnyText {
-    type Call = PlaceCall;
-
-    type Key = ();
-
-    type Answer = PlaceAnswer;
-
-    type Out = String;
-
-    ghost means = { λ _ _ _. Unit {0} };
-
-    ghost writes = { λ _ _ _ _. Unit {0} };
-
-    ghost laws = { Prim.search rules };
-}
 
 /// The text for a place after these reads, in order: where it is, if that was asked, and then how it is set.
 fn said_after(
@@ -47,25 +28,21 @@ fn said_after(
     }
 }
 
-/// Calls the function at a location; a run asks these reads.
+/// Calls the function of a place; a run asks these reads.
 fn text_at(
     alloc: Global,
-    cache: &mut CacheData<AnyText>,
-    location: u64,
+    cache: &mut CacheData<AnySaid>,
+    place: &Place,
     reads: &[PlaceCall],
 ) -> Result<Reply<String>, Fault> {
-    let place = Place::at(alloc, location)?;
     match begin(alloc, cache, &mut place.view(alloc), &mut Top::new(), true)? {
         Begun::Hit(output) => Ok(Reply {
             output,
             how: How::Hit,
         }),
         Begun::Run(mut pending) => {
-            let Ok(text) = said_after(alloc, &place, reads, pending.recording()) else {
-                pending.give_up(&mut Top::new());
-                return Err(Fault::Memory);
-            };
-            pending.finish(cache, &mut Top::new(), text)
+            let text = said_after(alloc, place, reads, pending.recording());
+            end(pending, cache, &mut Top::new(), text)
         }
     }
 }
@@ -74,21 +51,28 @@ fn text_at(
 /// afterwards.
 type Call<'a> = (u64, &'a [PlaceCall], &'a str, How, usize);
 
+/// Whether a call has these results.
+fn holds(alloc: Global, cache: &mut CacheData<AnySaid>, call: &Call<'_>) -> bool {
+    let (location, reads, text, how, kept) = *call;
+    let Ok(place) = Place::at(alloc, location) else {
+        return false;
+    };
+    gives_text(text_at(alloc, cache, &place, reads), text, how) && cache.len() == kept
+}
+
 /// Whether calls in a new cache have these results.
-fn hold(alloc: Global, calls: &[Call<'_>]) -> Result<bool, Fault> {
+fn hold(alloc: Global, calls: &[Call<'_>]) -> bool {
     let mut cache = CacheData::new(alloc);
-    for (location, reads, text, how, kept) in calls {
-        let reply = text_at(alloc, &mut cache, *location, *reads)?;
-        let is_given = reply.output.as_str() == *text && reply.how == *how;
-        if !is_given || cache.len() != *kept {
-            return Ok(false);
+    for call in calls {
+        if !holds(alloc, &mut cache, call) {
+            return false;
         }
     }
-    Ok(true)
+    true
 }
 
 /// Whether a run that lacks a stored read is not stored, and one that asks in another order takes the same path.
-pub(crate) fn runs_in_another_order(alloc: Global) -> Result<bool, Broken> {
+pub(crate) fn runs_in_another_order(alloc: Global) -> bool {
     let in_order: &[PlaceCall] = &[PlaceCall::Location, PlaceCall::Styles];
     let turned: &[PlaceCall] = &[PlaceCall::Styles, PlaceCall::Location];
     let lacking: &[Call<'_>] = &[
@@ -101,5 +85,5 @@ pub(crate) fn runs_in_another_order(alloc: Global) -> Result<bool, Broken> {
         (1, turned, "Some(1) styles", How::Stored, 2),
         (1, turned, "Some(1) styles", How::Hit, 2),
     ];
-    Ok(hold(alloc, lacking)? && hold(alloc, ordered)?)
+    hold(alloc, lacking) && hold(alloc, ordered)
 }

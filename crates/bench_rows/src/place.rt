@@ -8,7 +8,7 @@ use std::cell::Cell;
 use std::hash::Hash;
 
 /// A read of a place.
-#[derive(Clone, Copy, Drop, Debug, PartialEq, Eq, Hash)]
+#[derive(Clone, Copy, Drop, PartialEq, Eq, Hash)]
 pub(crate) enum PlaceCall {
     /// Where it is.
     Location,
@@ -33,7 +33,7 @@ impl Call for PlaceCall {
 }
 
 /// The answer of a place.
-#[derive(Clone, Drop, Debug, PartialEq, Eq, PartialOrd, Ord)]
+#[derive(Clone, Drop, PartialEq, Eq, PartialOrd, Ord)]
 pub(crate) enum PlaceAnswer {
     /// To where it is.
     At(u64),
@@ -45,12 +45,13 @@ impl Answer for PlaceAnswer {
     ghost clones = { λ x y h. Prim.search rules };
 }
 
-/// A place that counts how often it is asked.
+/// A place that counts how often each of its two reads is asked.
 #[derive(Drop)]
 pub(crate) struct Place {
     location: u64,
     styles: String,
-    asked: Cell<u64>,
+    asked_where: Cell<u64>,
+    asked_how: Cell<u64>,
 }
 
 impl Place {
@@ -59,13 +60,19 @@ impl Place {
         Ok(Place {
             location,
             styles: String::from_str(alloc, "styles")?,
-            asked: Cell::new(0),
+            asked_where: Cell::new(0),
+            asked_how: Cell::new(0),
         })
     }
 
     /// How often it was asked.
     pub(crate) fn asked(&self) -> u64 {
-        self.asked.get()
+        self.asked_where.get().wrapping_add(self.asked_how.get())
+    }
+
+    /// How often it was asked where it is, and how it is set.
+    pub(crate) fn asked_each(&self) -> (u64, u64) {
+        (self.asked_where.get(), self.asked_how.get())
     }
 }
 
@@ -81,10 +88,15 @@ impl Track for Place {
     ghost alike = { λ s x y h. Prim.search rules };
 
     fn ask(&self, call: &PlaceCall) -> Result<PlaceAnswer, AllocError> {
-        self.asked.set(self.asked.get().wrapping_add(1));
         match call {
-            PlaceCall::Location => Ok(PlaceAnswer::At(self.location)),
-            PlaceCall::Styles => Ok(PlaceAnswer::Set(self.styles.clone()?)),
+            PlaceCall::Location => {
+                self.asked_where.set(self.asked_where.get().wrapping_add(1));
+                Ok(PlaceAnswer::At(self.location))
+            }
+            PlaceCall::Styles => {
+                self.asked_how.set(self.asked_how.get().wrapping_add(1));
+                Ok(PlaceAnswer::Set(self.styles.clone()?))
+            }
         }
     }
 }

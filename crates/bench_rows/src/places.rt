@@ -1,10 +1,11 @@
 //! The row of a function at many places, under one key.
 ghost use Rattle.std.proofs.Common.{rules};
 
-use crate::ages::aged;
+use crate::ages::age_all;
 use crate::broken::Broken;
 use crate::place::{Place, PlaceAnswer, PlaceCall};
 use crate::tally::Tally;
+use comemo::internal::Pending;
 use comemo::{Begun, CacheData, Constraint, Fault, Function, How, Reply, Sink, Top, Track, begin};
 use std::alloc::{AllocError, Global};
 
@@ -46,6 +47,22 @@ fn said_of(
     format!(in alloc; "Twenty has {styles}")
 }
 
+/// Ends a run with its text, or gives it up if that found no memory.
+pub(crate) fn end<S: Sink<Call = PlaceCall, Answer = PlaceAnswer>>(
+    pending: Pending<AnySaid>,
+    cache: &mut CacheData<AnySaid>,
+    sink: &mut S,
+    text: Result<String, AllocError>,
+) -> Result<Reply<String>, Fault> {
+    match text {
+        Ok(text) => pending.finish(cache, sink, text),
+        Err(_) => {
+            pending.give_up(sink);
+            Err(Fault::Memory)
+        }
+    }
+}
+
 /// Calls the function of a place, and returns how many calls its look-up asked.
 pub(crate) fn contextual<S: Sink<Call = PlaceCall, Answer = PlaceAnswer>>(
     alloc: Global,
@@ -62,12 +79,11 @@ pub(crate) fn contextual<S: Sink<Call = PlaceCall, Answer = PlaceAnswer>>(
             Ok((Reply { output, how }, asked))
         }
         Begun::Run(mut pending) => {
-            let Ok(text) = said_of(alloc, place, pending.recording()) else {
-                pending.give_up(sink);
-                return Err(Fault::Memory);
-            };
-            let reply = pending.finish(cache, sink, text)?;
-            Ok((reply, asked))
+            let text = said_of(alloc, place, pending.recording());
+            match end(pending, cache, sink, text) {
+                Ok(reply) => Ok((reply, asked)),
+                Err(fault) => Err(fault),
+            }
         }
     }
 }
@@ -116,14 +132,14 @@ struct Places {
 }
 
 impl Places {
-    /// Calls the function at a location, checks the result but for its sink, and returns it. A failing call doesn't
-    /// change any entry's age.
-    fn visit<S: Sink<Call = PlaceCall, Answer = PlaceAnswer>>(
+    /// Calls the function at a location, checks its text and how many calls its look-up asked, and returns how it came
+    /// about.
+    fn call_at<S: Sink<Call = PlaceCall, Answer = PlaceAnswer>>(
         &mut self,
         alloc: Global,
         location: u64,
         sink: &mut S,
-        is_told: bool,
+        asks: u64,
     ) -> Option<Result<How, Fault>> {
         let Ok(place) = Place::at(alloc, location) else {
             self.tally.refuse();
@@ -133,19 +149,30 @@ impl Places {
             self.tally.refuse();
             return None;
         };
+        match contextual(alloc, &mut self.cache, &place, sink) {
+            Ok((reply, asked)) => {
+                self.tally.hold(reply.output == expected && asked == asks);
+                Some(Ok(reply.how))
+            }
+            Err(fault) => Some(Err(fault)),
+        }
+    }
+
+    /// Calls the function at a location, checks the result but for its sink, and returns it. A failing call doesn't
+    /// change any entry's age.
+    fn visit<S: Sink<Call = PlaceCall, Answer = PlaceAnswer>>(
+        &mut self,
+        alloc: Global,
+        location: u64,
+        sink: &mut S,
+        is_told: bool,
+    ) -> Option<Result<How, Fault>> {
         let kept = match self.ages.get(location as usize) {
             Some(age) => *age,
             None => return None,
         };
-        let went = match contextual(alloc, &mut self.cache, &place, sink) {
-            Ok((reply, asked)) => {
-                self.tally.hold(reply.output == expected);
-                let asks = self.asks(kept, location, is_told);
-                self.tally.hold(asked == asks);
-                Ok(reply.how)
-            }
-            Err(fault) => Err(fault),
-        };
+        let asks = self.asks(kept, location, is_told);
+        let went = self.call_at(alloc, location, sink, asks)?;
         let is_kept = self.tally.call(kept.is_some(), went, went.is_ok());
         if is_kept && kept.is_none() {
             self.count = self.count.saturating_add(1);
@@ -202,15 +229,8 @@ impl Places {
     /// Evicts with a bound.
     fn evict(&mut self, max_age: usize) {
         self.cache.evict(max_age);
-        let mut count: usize = 0;
-        for age in self.ages.iter_mut() {
-            *age = aged(*age, max_age);
-            if age.is_some() {
-                count = count.saturating_add(1);
-            }
-        }
-        self.count = count;
-        self.tally.hold(self.cache.len() == count);
+        self.count = age_all(self.ages.as_mut_slice(), max_age);
+        self.tally.hold(self.cache.len() == self.count);
     }
 }
 

@@ -3,6 +3,7 @@
 use crate::broken::Broken;
 use crate::steps::{Numbered, read, write};
 use crate::tally::Tally;
+use comemo::internal::CallSequence;
 use comemo::{Constraint, Sink, Track};
 use comemo_examples::{Context, ContextCall};
 use std::alloc::Global;
@@ -40,6 +41,40 @@ fn record(
     }
 }
 
+/// Has a recording absorb another, and returns whether it did. Without memory it is incomplete.
+fn absorb(
+    recording: &mut Constraint<Numbered, u64>,
+    tally: &mut Tally,
+    other: Constraint<Numbered, u64>,
+) -> bool {
+    let is_absorbed = recording.absorb(other).is_ok();
+    if !is_absorbed {
+        tally.refuse();
+    }
+    tally.hold(recording.is_whole() == is_absorbed);
+    is_absorbed
+}
+
+/// Whether reads are those of these that are held, in order, with their answers.
+fn are_read(mut reads: CallSequence<Numbered, u64>, pairs: &[(bool, u8, u64)]) -> bool {
+    for (is_held, letter, answer) in pairs {
+        if *is_held && reads.next() != Some((read(*letter), *answer)) {
+            return false;
+        }
+    }
+    reads.next().is_none()
+}
+
+/// Whether writes are the own one and then the other one, of those that were written.
+fn are_written(writes: &[Numbered], own: bool, other: bool) -> bool {
+    match (own, other) {
+        (true, true) => writes == [write(b'1'), write(b'2')].as_slice(),
+        (true, false) => writes == [write(b'1')].as_slice(),
+        (false, true) => writes == [write(b'2')].as_slice(),
+        (false, false) => writes.is_empty(),
+    }
+}
+
 /// Checks that a recording that absorbs another keeps its own answers, and has the other's writes after its own. A
 /// failing call isn't recorded; a failing absorption leaves the recording incomplete, and else unchanged.
 fn what_is_absorbed_comes_after(alloc: Global, tally: &mut Tally, own_write: Option<u8>) {
@@ -47,32 +82,17 @@ fn what_is_absorbed_comes_after(alloc: Global, tally: &mut Tally, own_write: Opt
     let own = record(&mut left, tally, (b'a', 1), (b'b', 2), own_write);
     let mut right = Constraint::new(alloc);
     let other = record(&mut right, tally, (b'b', 9), (b'c', 3), Some(b'2'));
-    let is_absorbed = left.absorb(right).is_ok();
-    if !is_absorbed {
-        tally.refuse();
-    }
-    tally.hold(left.is_whole() == is_absorbed);
-    let (mut reads, writes) = left.into_parts();
+    let is_absorbed = absorb(&mut left, tally, right);
+    let (reads, writes) = left.into_parts();
     let pairs: &[(bool, u8, u64)] = &[
         (own.first, b'a', 1),
         (own.second, b'b', 2),
         (is_absorbed && other.first && !own.second, b'b', 9),
         (is_absorbed && other.second, b'c', 3),
     ];
-    for (is_held, letter, answer) in pairs {
-        if *is_held {
-            tally.hold(reads.next() == Some((read(*letter), *answer)));
-        }
-    }
-    tally.hold(reads.next().is_none());
-    let mut rest = writes.iter();
-    if own.written {
-        tally.hold(rest.next() == Some(&write(b'1')));
-    }
-    if is_absorbed && other.written {
-        tally.hold(rest.next() == Some(&write(b'2')));
-    }
-    tally.hold(rest.next().is_none());
+    tally.hold(are_read(reads, pairs));
+    let is_other = is_absorbed && other.written;
+    tally.hold(are_written(writes.as_slice(), own.written, is_other));
 }
 
 /// Records reads with these numbers. Returns how many the recording took.
@@ -99,11 +119,7 @@ fn what_is_absorbed_finds_room(alloc: Global, tally: &mut Tally) {
     let own = record_reads(&mut left, tally, b"abcdefgh");
     let mut right = Constraint::new(alloc);
     let other = record_reads(&mut right, tally, b"ijklmnop");
-    let is_absorbed = left.absorb(right).is_ok();
-    if !is_absorbed {
-        tally.refuse();
-    }
-    tally.hold(left.is_whole() == is_absorbed);
+    let is_absorbed = absorb(&mut left, tally, right);
     let (reads, _) = left.into_parts();
     let held = if is_absorbed { other } else { 0 };
     tally.hold(reads.slots().len() == own.saturating_add(held));
@@ -111,10 +127,14 @@ fn what_is_absorbed_finds_room(alloc: Global, tally: &mut Tally) {
 
 /// Checks that a recording of a location is valid only there, and an empty one everywhere.
 fn recordings_hold_where_answers_are_the_same(alloc: Global, tally: &mut Tally) {
-    let [here, there] = [0, 1].map(|location| Context {
-        location,
+    let here = Context {
+        location: 0,
         styles: 5,
-    });
+    };
+    let there = Context {
+        location: 1,
+        styles: 5,
+    };
     let mut location = Constraint::new(alloc);
     let asked = here.track(alloc).ask(ContextCall::Location, &mut location);
     if asked.is_err() {

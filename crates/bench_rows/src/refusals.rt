@@ -100,11 +100,16 @@ impl RunMut<Book, ()> for NotesThree {
 /// The length of a recording that is a prefix of the notes 1, 2 and 3; `None` if it isn't, or has reads.
 fn sent(sink: Constraint<NotebookCall, u64>) -> Option<usize> {
     let (mut reads, writes) = sink.into_parts();
-    let notes = [1, 2, 3].map(|number| NotebookCall::Note(number));
-    if reads.next().is_none() && notes.as_slice().starts_with(writes.as_slice()) {
-        return Some(writes.len());
+    let notes: &[NotebookCall] = &[
+        NotebookCall::Note(1),
+        NotebookCall::Note(2),
+        NotebookCall::Note(3),
+    ];
+    if reads.next().is_none() && notes.starts_with(writes.as_slice()) {
+        Some(writes.len())
+    } else {
+        None
     }
-    None
 }
 
 /// Notes three lines in a book. Returns how the call came about, whether its sink is complete, and how many writes it

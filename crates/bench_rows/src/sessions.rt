@@ -1,18 +1,17 @@
 //! Rows of the program `calc`: lines in, lines out.
 
-use crate::broken::Broken;
 use calc_core::sessions::{run, start};
 use std::alloc::{AllocError, Global};
 
 /// Whether a new session prints this for these lines.
-fn prints(alloc: Global, lines: &str, wanted: &str) -> Result<bool, Broken> {
+fn prints(alloc: Global, lines: &str, wanted: &str) -> bool {
     let mut printed: Vec<u8> = Vec::new(alloc);
-    run(alloc, &mut lines.as_bytes(), &mut printed)?;
-    Ok(printed.as_slice() == wanted.as_bytes())
+    let is_ended = run(alloc, &mut lines.as_bytes(), &mut printed).is_ok();
+    is_ended && printed.as_slice() == wanted.as_bytes()
 }
 
 /// Whether a script's value is cached until a file that it read changes.
-pub(crate) fn a_value_is_kept_until_its_files_change(alloc: Global) -> Result<bool, Broken> {
+pub(crate) fn a_value_is_kept_until_its_files_change(alloc: Global) -> bool {
     let lines = "write alpha.calc 2 + eval beta.calc\n\
         write beta.calc 2 + 3\n\
         write gamma.calc 8 + 3\n\
@@ -40,8 +39,8 @@ fn files_in_a_row(alloc: Global) -> Result<String, AllocError> {
     Ok(lines)
 }
 
-/// Whether a script that is too high is reported whatever is cached, and its run is given up.
-pub(crate) fn a_script_too_high_is_told_so(alloc: Global) -> Result<bool, Broken> {
+/// These files, and then calls of scripts that are too high or just not.
+fn scripts_too_high(alloc: Global) -> Result<String, AllocError> {
     let mut lines = files_in_a_row(alloc)?;
     lines.push_str(
         "eval eval f126\n\
@@ -53,12 +52,20 @@ pub(crate) fn a_script_too_high_is_told_so(alloc: Global) -> Result<bool, Broken
         write loop eval loop\n\
         eval eval loop\n",
     )?;
+    Ok(lines)
+}
+
+/// Whether a script that is too high is reported whatever is cached, and its run is given up.
+pub(crate) fn a_script_too_high_is_told_so(alloc: Global) -> bool {
     let wanted = "miss 1\ntoo deep\nhit 1\ntoo deep\nmiss 1\ntoo deep\n";
-    prints(alloc, lines.as_str(), wanted)
+    match scripts_too_high(alloc) {
+        Ok(lines) => prints(alloc, lines.as_str(), wanted),
+        Err(_) => false,
+    }
 }
 
 /// Whether a script without a number says why, and a line that is no command is reported.
-pub(crate) fn a_script_without_a_number_says_why(alloc: Global) -> Result<bool, Broken> {
+pub(crate) fn a_script_without_a_number_says_why(alloc: Global) -> bool {
     let sessions: &[(&str, &str)] = &[
         (
             "eval 2147483647 + 1\neval 2147483647 + 1",
@@ -79,16 +86,16 @@ pub(crate) fn a_script_without_a_number_says_why(alloc: Global) -> Result<bool, 
         ("help", "bad command\n"),
     ];
     for (lines, wanted) in sessions {
-        if !prints(alloc, *lines, *wanted)? {
-            return Ok(false);
+        if !prints(alloc, *lines, *wanted) {
+            return false;
         }
     }
-    Ok(true)
+    true
 }
 
 /// Whether scripts that call each other in a circle, fail on the way, or never end are reported, and the last again
 /// after it was mended.
-pub(crate) fn scripts_that_misbehave_are_told_so(alloc: Global) -> Result<bool, Broken> {
+pub(crate) fn scripts_that_misbehave_are_told_so(alloc: Global) -> bool {
     let lines = "write p 1 + eval q\n\
         write q eval p\n\
         eval eval p\n\
@@ -104,14 +111,19 @@ pub(crate) fn scripts_that_misbehave_are_told_so(alloc: Global) -> Result<bool, 
     prints(alloc, lines, wanted)
 }
 
-/// Whether the bytes of files are counted, and empty input has no output.
-pub(crate) fn the_bytes_of_files_are_counted(alloc: Global) -> Result<bool, Broken> {
-    let lines =
-        "write a hello\nsize a\nsize a\nwrite b x\nsize a\nwrite a hello!\nsize a\nsize none\n";
-    let counted = prints(alloc, lines, "miss 5\nhit 5\nhit 5\nmiss 6\nmiss 0\n")?;
-    let ended = prints(alloc, "write a hi\r\n\nsize a", "miss 2\n")?;
+/// Whether the program prints nothing for empty input, and ends well.
+fn prints_nothing(alloc: Global) -> bool {
     let mut printed: Vec<u8> = Vec::new(alloc);
     let mut errors: Vec<u8> = Vec::new(alloc);
     let status = start(alloc, &[], &mut "".as_bytes(), &mut printed, &mut errors);
-    Ok(counted && ended && status == 0 && printed.is_empty() && errors.is_empty())
+    status == 0 && printed.is_empty() && errors.is_empty()
+}
+
+/// Whether the bytes of files are counted, and empty input has no output.
+pub(crate) fn the_bytes_of_files_are_counted(alloc: Global) -> bool {
+    let lines =
+        "write a hello\nsize a\nsize a\nwrite b x\nsize a\nwrite a hello!\nsize a\nsize none\n";
+    let counted = prints(alloc, lines, "miss 5\nhit 5\nhit 5\nmiss 6\nmiss 0\n");
+    let ended = prints(alloc, "write a hi\r\n\nsize a", "miss 2\n");
+    counted && ended && prints_nothing(alloc)
 }

@@ -1,9 +1,7 @@
 //! Rows of caches that threads share.
 
-use crate::broken::Broken;
 use crate::workers::{
     Null, branches_are_absorbed_in_order, evictions_reach_a_cache, two_runs_of_one_key,
-    two_runs_that_ask_in_turned_order, two_runs_that_ask_other_questions, workers_beside_evictions,
 };
 use comemo::internal::Evict;
 use comemo::{Cache, Function};
@@ -17,35 +15,10 @@ use std::thread::Threads;
 pub(crate) fn a_shared_cache_stores_one_of_two<R: Threads + Wait + Clock + Sync>(
     rt: &R,
     alloc: Global,
-) -> Result<bool, Broken> {
+) -> bool {
     let cache: Cache<Double> = Cache::new(alloc);
     let (left, right) = (cache.hold(rt), cache.hold(rt));
-    Ok(two_runs_of_one_key(rt, alloc, left, right)?)
-}
-
-/// Whether of two simultaneous runs that ask different questions one is stored.
-pub(crate) fn other_questions<R: Threads + Wait + Clock + Sync>(
-    rt: &R,
-    alloc: Global,
-) -> Result<bool, Broken> {
-    Ok(two_runs_that_ask_other_questions(rt, alloc)?)
-}
-
-/// Whether of two simultaneous runs that ask the same in different orders one is stored, and the other gets
-/// `AlreadyExists`.
-pub(crate) fn turned_orders<R: Threads + Wait + Clock + Sync>(
-    rt: &R,
-    alloc: Global,
-) -> Result<bool, Broken> {
-    Ok(two_runs_that_ask_in_turned_order(rt, alloc)?)
-}
-
-/// Whether sixteen workers get right outputs while another thread evicts their cache.
-pub(crate) fn evictions_beside_workers<R: Threads + Wait + Sync>(
-    rt: &R,
-    alloc: Global,
-) -> Result<bool, Broken> {
-    Ok(workers_beside_evictions(rt, alloc, &Cache::new(alloc))?)
+    two_runs_of_one_key(rt, alloc, left, right) == Ok(true)
 }
 
 /// Evicts a borrowed cache.
@@ -61,15 +34,17 @@ impl<M: Function, R: Wait> Evict for OfCache<'_, M, R> {
     }
 }
 
+/// Whether an eviction reaches a shared cache.
+fn evictions_reach_a_shared_cache<R: Wait>(rt: &R, alloc: Global) -> bool {
+    let cache: Cache<Null> = Cache::new(alloc);
+    let evictor = OfCache { cache: &cache, rt };
+    evictions_reach_a_cache(alloc, &mut cache.hold(rt), &evictor) == Ok(true)
+}
+
 /// Whether a run's branches are absorbed in order, and an eviction reaches a shared cache.
 pub(crate) fn branches_and_evictions<R: Threads + Wait + Clock + Sync>(
     rt: &R,
     alloc: Global,
-) -> Result<bool, Broken> {
-    if !branches_are_absorbed_in_order(rt, alloc)? {
-        return Ok(false);
-    }
-    let cache: Cache<Null> = Cache::new(alloc);
-    let evictor = OfCache { cache: &cache, rt };
-    Ok(evictions_reach_a_cache(alloc, &mut cache.hold(rt), &evictor)?)
+) -> bool {
+    branches_are_absorbed_in_order(rt, alloc) && evictions_reach_a_shared_cache(rt, alloc)
 }

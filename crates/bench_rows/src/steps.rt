@@ -10,7 +10,7 @@ use std::alloc::{AllocError, Global};
 use std::hash::Hash;
 
 /// A read or a write, by its number.
-#[derive(Clone, Copy, Drop, Debug, PartialEq, Eq, Hash)]
+#[derive(Clone, Copy, Drop, PartialEq, Eq, Hash)]
 pub struct Numbered {
     number: u8,
     writes: bool,

@@ -20,10 +20,7 @@ use crate::sessions::{
     the_bytes_of_files_are_counted,
 };
 use crate::settled::no_run_is_lost;
-use crate::sharing::{
-    a_shared_cache_stores_one_of_two, branches_and_evictions, evictions_beside_workers,
-    other_questions, turned_orders,
-};
+use crate::sharing::{a_shared_cache_stores_one_of_two, branches_and_evictions};
 use crate::streams::what_was_answered_was_written;
 use crate::texts::{functions_are_kept, two_kinds_of_questions};
 use crate::trees::{
@@ -32,6 +29,9 @@ use crate::trees::{
     what_is_kept_is_found_alone, what_is_stored_stays,
 };
 use crate::views::a_view_asks_once;
+use crate::workers::{
+    two_runs_that_ask_in_turned_order, two_runs_that_ask_other_questions, workers_beside_evictions,
+};
 use crate::writes::hits_write_again;
 use std::alloc::Global;
 use std::rt::Clock;
@@ -45,43 +45,43 @@ pub fn run_rows<R: Threads + Wait + Clock + Sync>(rt: &R, alloc: Global) -> Outc
     ensures { IfSome result (Contains row_numbers) }
 {
     let mut rows = Outcome::new();
-    rows.row("1", paths_that_part(alloc));
-    rows.row("2", a_path_follows_the_stored_ones(alloc));
-    rows.row("3", what_is_kept_is_found_alone(alloc));
-    rows.row("4", what_is_stored_stays(alloc));
-    rows.row("5", an_empty_path_is_found_unasked(alloc));
-    rows.row("6", calls_are_asked_in_order(alloc));
-    rows.row("7", a_call_that_was_taken_out_stays_seen(alloc));
-    rows.row("8", two_kinds_of_questions(alloc));
-    rows.row("9", a_value_is_kept_until_its_files_change(alloc));
-    rows.row("10", a_script_too_high_is_told_so(alloc));
-    rows.row("11", a_script_without_a_number_says_why(alloc));
+    rows.row("1", Ok(paths_that_part(alloc)));
+    rows.row("2", Ok(a_path_follows_the_stored_ones(alloc)));
+    rows.row("3", Ok(what_is_kept_is_found_alone(alloc)));
+    rows.row("4", Ok(what_is_stored_stays(alloc)));
+    rows.row("5", Ok(an_empty_path_is_found_unasked(alloc)));
+    rows.row("6", Ok(calls_are_asked_in_order(alloc)));
+    rows.row("7", Ok(a_call_that_was_taken_out_stays_seen(alloc)));
+    rows.row("8", Ok(two_kinds_of_questions(alloc)));
+    rows.row("9", Ok(a_value_is_kept_until_its_files_change(alloc)));
+    rows.row("10", Ok(a_script_too_high_is_told_so(alloc)));
+    rows.row("11", Ok(a_script_without_a_number_says_why(alloc)));
     rows.row("12", hits_stay_young(alloc));
     rows.row("13", hits_write_again(alloc));
     rows.row("14", places_are_kept(alloc, 1000));
-    rows.row("15", a_shared_cache_stores_one_of_two(rt, alloc));
-    rows.row("16", runs_in_another_order(alloc));
-    rows.row("17", numbers_are_kept(alloc));
-    rows.row("18", chains_share_what_is_kept(alloc));
+    rows.row("15", Ok(a_shared_cache_stores_one_of_two(rt, alloc)));
+    rows.row("16", Ok(runs_in_another_order(alloc)));
+    rows.row("17", Ok(numbers_are_kept(alloc)));
+    rows.row("18", Ok(chains_share_what_is_kept(alloc)));
     rows.row("19", recordings_absorb_and_hold(alloc));
     rows.row("21", touches_stay_young(alloc));
-    rows.row("22", two_pieces_hash_as_the_whole(alloc));
-    rows.row("23", a_kept_hash_follows_its_item(alloc));
-    rows.row("24", the_bytes_of_files_are_counted(alloc));
-    rows.row("25", functions_are_kept(alloc));
-    rows.row("R8", branches_and_evictions(rt, alloc));
-    rows.row("R10", no_run_is_lost(alloc));
-    rows.row("R11", a_view_asks_once(alloc));
+    rows.row("22", Ok(two_pieces_hash_as_the_whole(alloc)));
+    rows.row("23", Ok(a_kept_hash_follows_its_item(alloc)));
+    rows.row("24", Ok(the_bytes_of_files_are_counted(alloc)));
+    rows.row("25", Ok(functions_are_kept(alloc)));
+    rows.row("R8", Ok(branches_and_evictions(rt, alloc)));
+    rows.row("R10", Ok(no_run_is_lost(alloc)));
+    rows.row("R11", Ok(a_view_asks_once(alloc)));
     rows.row("R12", what_was_answered_was_written(alloc));
-    rows.row("R13", other_questions(rt, alloc));
-    rows.row("R13", touches_go_by_answers(alloc));
-    rows.row("R13", scripts_that_misbehave_are_told_so(alloc));
-    rows.row("R13", a_limit_holds_for_a_hit(alloc));
-    rows.row("R13", evictions_beside_workers(rt, alloc));
-    rows.row("R14", keys_of_one_hash_are_kept_apart(alloc));
-    rows.row("R14", what_is_said_to_be_kept_is_found(alloc));
-    rows.row("R14", turned_orders(rt, alloc));
-    rows.row("R15", late_runs(rt, alloc));
+    rows.row("R13", Ok(two_runs_that_ask_other_questions(rt, alloc)));
+    rows.row("R13", Ok(touches_go_by_answers(alloc)));
+    rows.row("R13", Ok(scripts_that_misbehave_are_told_so(alloc)));
+    rows.row("R13", Ok(a_limit_holds_for_a_hit(alloc)));
+    rows.row("R13", Ok(workers_beside_evictions(rt, alloc)));
+    rows.row("R14", Ok(keys_of_one_hash_are_kept_apart(alloc)));
+    rows.row("R14", Ok(what_is_said_to_be_kept_is_found(alloc)));
+    rows.row("R14", Ok(two_runs_that_ask_in_turned_order(rt, alloc)));
+    rows.row("R15", Ok(late_runs(rt, alloc)));
     rows
 }
 

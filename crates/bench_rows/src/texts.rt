@@ -1,8 +1,7 @@
 //! Rows of functions that ask texts, and of functions of texts.
 
-use crate::broken::Broken;
-use crate::calls::{call, gives, gives_text};
-use comemo::{CacheData, How, Top, memoized_with};
+use crate::calls::{comes_to, gives_text};
+use comemo::{CacheData, How, Top, memoized, memoized_with};
 use comemo_examples::greetings::{Greeting, SaysHello, World};
 use comemo_examples::kinds::{LongOrShort, Selfie, Text};
 use comemo_examples::loader::{Contents, Library, Loader};
@@ -15,10 +14,7 @@ fn says_itself(alloc: Global, cache: &mut CacheData<Selfie>, text: &str, how: Ho
     let Ok(own) = String::from_str(alloc, text) else {
         return false;
     };
-    match call(alloc, cache, (), &Text { text: own }) {
-        Ok(reply) => gives_text(reply, text, how),
-        Err(_) => false,
-    }
+    gives_text(memoized(alloc, cache, (), &Text { text: own }), text, how)
 }
 
 /// Whether a text's call returns this word for its length, and came about like this.
@@ -35,14 +31,12 @@ fn is_called(
     let text = Text { text: own };
     let mut needs = alloc;
     let sink = &mut Top::new();
-    match memoized_with(alloc, cache, &mut needs, (), &text, sink, true) {
-        Ok(reply) => gives_text(reply, word, how),
-        Err(_) => false,
-    }
+    let reply = memoized_with(alloc, cache, &mut needs, (), &text, sink, true);
+    gives_text(reply, word, how)
 }
 
 /// Whether a text answers two kinds of questions, each for its own function.
-pub(crate) fn two_kinds_of_questions(alloc: Global) -> Result<bool, Broken> {
+pub(crate) fn two_kinds_of_questions(alloc: Global) -> bool {
     let mut selfies: CacheData<Selfie> = CacheData::new(alloc);
     let mut lengths: CacheData<LongOrShort> = CacheData::new(alloc);
     let first = says_itself(alloc, &mut selfies, "Hi", How::Stored);
@@ -52,29 +46,29 @@ pub(crate) fn two_kinds_of_questions(alloc: Global) -> Result<bool, Broken> {
     let other = says_itself(alloc, &mut selfies, "Hi!", How::Stored);
     let short = is_called(alloc, &mut lengths, "Hi!", "Short", How::Stored);
     let long = is_called(alloc, &mut lengths, "Hi! Let's go.", "Long", How::Stored);
-    Ok(first && stored && hit && again && other && short && long)
+    first && stored && hit && again && other && short && long
 }
 
 /// Whether the output of a function of nothing is cached.
-fn the_world_is_big(alloc: Global) -> Result<bool, Broken> {
+fn the_world_is_big(alloc: Global) -> bool {
     let mut cache: CacheData<World> = CacheData::new(alloc);
     let mut needs = alloc;
-    for how in [How::Stored, How::Hit, How::Hit] {
+    let hows: &[How] = &[How::Stored, How::Hit, How::Hit];
+    for how in hows {
         let sink = &mut Top::new();
-        let reply = memoized_with(alloc, &mut cache, &mut needs, (), &(), sink, true)?;
-        if !gives_text(reply, "The world is big", how) {
-            return Ok(false);
+        let reply = memoized_with(alloc, &mut cache, &mut needs, (), &(), sink, true);
+        if !gives_text(reply, "The world is big", *how) {
+            return false;
         }
     }
-    Ok(true)
+    true
 }
 
 /// Whether a sum is cached under its number.
-fn a_sum_is_kept(alloc: Global) -> Result<bool, Broken> {
+fn a_sum_is_kept(alloc: Global) -> bool {
     let mut cache: CacheData<SumBelow> = CacheData::new(alloc);
-    let first = gives(call(alloc, &mut cache, 1000, &())?, 499500, How::Stored);
-    let second = gives(call(alloc, &mut cache, 1000, &())?, 499500, How::Hit);
-    Ok(first && second)
+    let first = comes_to(alloc, &mut cache, 1000, &(), 499500, How::Stored);
+    first && comes_to(alloc, &mut cache, 1000, &(), 499500, How::Hit)
 }
 
 /// Whether a call with this text returns it, and came about like this.
@@ -82,10 +76,7 @@ fn keeps(alloc: Global, cache: &mut CacheData<Same>, text: &str, how: How) -> bo
     let Ok(own) = String::from_str(alloc, text) else {
         return false;
     };
-    match call(alloc, cache, own, &()) {
-        Ok(reply) => gives_text(reply, text, how),
-        Err(_) => false,
-    }
+    gives_text(memoized(alloc, cache, own, &()), text, how)
 }
 
 /// Whether two functions of texts each have their own cache.
@@ -99,23 +90,35 @@ fn each_function_has_its_cache(alloc: Global) -> bool {
     first && second && third && fourth
 }
 
+/// Whether a text is `hello` or not, and the call that asks it came about like this.
+fn says_hello(
+    alloc: Global,
+    cache: &mut CacheData<SaysHello>,
+    text: &str,
+    output: bool,
+    how: How,
+) -> bool {
+    let Ok(text) = String::from_str(alloc, text) else {
+        return false;
+    };
+    comes_to(alloc, cache, (), &Greeting { text }, output, how)
+}
+
 /// Whether a text is asked if it is `hello`, and nothing else.
-fn hello_is_asked_for(alloc: Global) -> Result<bool, Broken> {
+fn hello_is_asked_for(alloc: Global) -> bool {
     let mut cache: CacheData<SaysHello> = CacheData::new(alloc);
-    for (text, output, how) in [
+    let calls: &[(&str, bool, How)] = &[
         ("hey", false, How::Stored),
         ("hey", false, How::Hit),
         ("hello", true, How::Stored),
         ("hello", true, How::Hit),
-    ] {
-        let greeting = Greeting {
-            text: String::from_str(alloc, text)?,
-        };
-        if !gives(call(alloc, &mut cache, (), &greeting)?, output, how) {
-            return Ok(false);
+    ];
+    for (text, output, how) in calls {
+        if !says_hello(alloc, &mut cache, *text, *output, *how) {
+            return false;
         }
     }
-    Ok(true)
+    true
 }
 
 /// A loader that returns the same bytes for every path.
@@ -139,31 +142,40 @@ fn library(alloc: Global) -> Result<Library<OneFile>, AllocError> {
     Ok(Library { loader })
 }
 
-/// Whether each path is loaded once.
-fn each_path_is_loaded_once(alloc: Global) -> Result<bool, Broken> {
-    let mut cache: CacheData<Contents<OneFile>> = CacheData::new(alloc);
-    let library = library(alloc)?;
-    for (path, how) in [
-        ("hi.rs", How::Stored),
-        ("hi.rs", How::Hit),
-        ("bye.rs", How::Stored),
-    ] {
-        let path = String::from_str(alloc, path)?;
-        let reply = call(alloc, &mut cache, path, &library)?;
-        if reply.output.as_slice() != [1, 2, 3].as_slice() || reply.how != how {
-            return Ok(false);
-        }
+/// Whether a path's call returns the file's bytes, and came about like this.
+fn loads(
+    alloc: Global,
+    cache: &mut CacheData<Contents<OneFile>>,
+    library: &Library<OneFile>,
+    path: &str,
+    how: How,
+) -> bool {
+    let Ok(path) = String::from_str(alloc, path) else {
+        return false;
+    };
+    match memoized(alloc, cache, path, library) {
+        Ok(reply) => reply.output.as_slice() == [1, 2, 3].as_slice() && reply.how == how,
+        Err(_) => false,
     }
-    Ok(true)
+}
+
+/// Whether each path is loaded once.
+fn each_path_is_loaded_once(alloc: Global) -> bool {
+    let mut cache: CacheData<Contents<OneFile>> = CacheData::new(alloc);
+    let Ok(library) = library(alloc) else {
+        return false;
+    };
+    let first = loads(alloc, &mut cache, &library, "hi.rs", How::Stored);
+    let again = loads(alloc, &mut cache, &library, "hi.rs", How::Hit);
+    let other = loads(alloc, &mut cache, &library, "bye.rs", How::Stored);
+    first && again && other
 }
 
 /// Whether functions of nothing, of numbers, of texts and of a loader are cached.
-pub(crate) fn functions_are_kept(alloc: Global) -> Result<bool, Broken> {
-    Ok(
-        the_world_is_big(alloc)?
-            && a_sum_is_kept(alloc)?
-            && each_function_has_its_cache(alloc)
-            && hello_is_asked_for(alloc)?
-            && each_path_is_loaded_once(alloc)?,
-    )
+pub(crate) fn functions_are_kept(alloc: Global) -> bool {
+    the_world_is_big(alloc)
+        && a_sum_is_kept(alloc)
+        && each_function_has_its_cache(alloc)
+        && hello_is_asked_for(alloc)
+        && each_path_is_loaded_once(alloc)
 }

@@ -1,6 +1,5 @@
 //! Rows of the call tree and of its sequences: calls are letters, answers numbers.
 
-use crate::broken::Broken;
 use comemo::internal::{CallSequence, CallTree, InsertError};
 use std::alloc::{AllocError, Global};
 
@@ -44,7 +43,7 @@ fn finds(
     table: &[(u8, u128)],
     value: Option<char>,
     calls: &[u8],
-) -> Result<bool, AllocError> {
+) -> bool {
     let mut asked = Vec::new(alloc);
     let found = tree.get(
         &key,
@@ -52,8 +51,12 @@ fn finds(
             asked.push(*call)?;
             answer_in(table, *call)
         },
-    )?;
-    Ok(found.copied() == value && asked.as_slice() == calls)
+    );
+    let is_found = match found {
+        Ok(found) => found.copied() == value,
+        Err(_) => false,
+    };
+    is_found && asked.as_slice() == calls
 }
 
 /// The pairs of a path.
@@ -77,27 +80,40 @@ fn finds_all(
     tree: &Tree,
     shape: (usize, usize, usize, usize),
     looks: &[Look],
-) -> Result<bool, AllocError> {
+) -> bool {
     for (table, value, calls) in looks {
-        if !finds(alloc, tree, 0, *table, *value, *calls)? {
-            return Ok(false);
+        if !finds(alloc, tree, 0, *table, *value, *calls) {
+            return false;
         }
     }
-    Ok(tree.shape() == shape)
+    tree.shape() == shape
+}
+
+/// Whether a new tree with these paths has this shape, and these look-ups.
+fn is_found_in(
+    alloc: Global,
+    paths: &[(Pairs, char)],
+    shape: (usize, usize, usize, usize),
+    looks: &[Look],
+) -> bool {
+    match tree_of(alloc, paths) {
+        Ok(tree) => finds_all(alloc, &tree, shape, looks),
+        Err(_) => false,
+    }
 }
 
 /// Whether diverging paths are each found by their own answers.
-pub(crate) fn paths_that_part(alloc: Global) -> Result<bool, Broken> {
+pub(crate) fn paths_that_part(alloc: Global) -> bool {
     let first: Pairs = &[(b'a', 10), (b'b', 15)];
     let second: Pairs = &[(b'a', 10), (b'b', 20)];
     let third: Pairs = &[(b'a', 15), (b'c', 15)];
-    let tree = tree_of(alloc, &[(first, 'f'), (second, 's'), (third, 't')])?;
+    let paths: &[(Pairs, char)] = &[(first, 'f'), (second, 's'), (third, 't')];
     let looks: &[Look] = &[
         (first, Some('f'), b"ab"),
         (second, Some('s'), b"ab"),
         (third, Some('t'), b"ac"),
     ];
-    Ok(finds_all(alloc, &tree, (3, 3, 5, 1), looks)?)
+    is_found_in(alloc, paths, (3, 3, 5, 1), looks)
 }
 
 const FIRST: Pairs = &[(b'a', 10), (b'b', 15)];
@@ -110,41 +126,46 @@ const THIRD: Pairs = &[(b'a', 15), (b'b', 30), (b'c', 15)];
 const THREE: &[(Pairs, char)] = &[(FIRST, 'f'), (SECOND, 's'), (THIRD, 't')];
 
 /// Whether the answers of the second path find this path, with its value.
-fn leads_to(tree: &Tree, path: Pairs, value: char) -> Result<bool, AllocError> {
-    let found = tree.find(&0, &mut |call: &u8| answer_in(SECOND, *call))?;
-    Ok(match found {
-        Some((pairs, known)) => pairs.as_slice() == path && *known == value,
-        None => false,
-    })
+fn leads_to(tree: &Tree, path: Pairs, value: char) -> bool {
+    match tree.find(&0, &mut |call: &u8| answer_in(SECOND, *call)) {
+        Ok(Some((pairs, known))) => pairs.as_slice() == path && *known == value,
+        _ => false,
+    }
 }
 
 /// Whether a path follows the stored ones, and then its sequence.
-pub(crate) fn a_path_follows_the_stored_ones(alloc: Global) -> Result<bool, Broken> {
-    let tree = tree_of(alloc, THREE)?;
+pub(crate) fn a_path_follows_the_stored_ones(alloc: Global) -> bool {
     let looks: &[Look] = &[
         (FIRST, Some('f'), b"ab"),
         (SECOND, Some('s'), b"abc"),
         (THIRD, Some('t'), b"abc"),
     ];
-    let follows = leads_to(&tree, &[(b'a', 10), (b'b', 20), (b'c', 15)], 's')?;
-    Ok(follows && finds_all(alloc, &tree, (5, 3, 7, 1), looks)?)
+    let Ok(tree) = tree_of(alloc, THREE) else {
+        return false;
+    };
+    let follows = leads_to(&tree, &[(b'a', 10), (b'b', 20), (b'c', 15)], 's');
+    follows && finds_all(alloc, &tree, (5, 3, 7, 1), looks)
 }
 
 /// Whether of three paths only the retained one is found.
-pub(crate) fn what_is_kept_is_found_alone(alloc: Global) -> Result<bool, Broken> {
-    let mut tree = tree_of(alloc, THREE)?;
-    tree.retain(|value: &mut char| *value == 's');
+pub(crate) fn what_is_kept_is_found_alone(alloc: Global) -> bool {
     let looks: &[Look] = &[
         (SECOND, Some('s'), b"abc"),
         (FIRST, None, b"ab"),
         (THIRD, None, b"a"),
     ];
-    Ok(finds_all(alloc, &tree, (3, 1, 3, 1), looks)?)
+    let Ok(mut tree) = tree_of(alloc, THREE) else {
+        return false;
+    };
+    tree.retain(|value: &mut char| *value == 's');
+    finds_all(alloc, &tree, (3, 1, 3, 1), looks)
 }
 
 /// Whether a path that is stored already isn't stored again, and one that lacks a stored call isn't stored.
-pub(crate) fn what_is_stored_stays(alloc: Global) -> Result<bool, Broken> {
-    let mut tree = tree_of(alloc, &[(&[(b'a', 1)], 'x')])?;
+pub(crate) fn what_is_stored_stays(alloc: Global) -> bool {
+    let Ok(mut tree) = tree_of(alloc, &[(&[(b'a', 1)], 'x')]) else {
+        return false;
+    };
     let longer = insert(alloc, &mut tree, &[(b'a', 1), (b'b', 2)], 'y');
     let empty = insert(alloc, &mut tree, &[], 'z');
     let stays = finds_all(
@@ -153,14 +174,16 @@ pub(crate) fn what_is_stored_stays(alloc: Global) -> Result<bool, Broken> {
         (1, 1, 1, 1),
         &[(&[(b'a', 1)], Some('x'), b"a")],
     );
-    let are_refused = longer == Err(InsertError::AlreadyExists)
-        && empty == Err(InsertError::MissingCall);
-    Ok(stays? && are_refused)
+    let is_there = longer == Err(InsertError::AlreadyExists);
+    let is_missing = empty == Err(InsertError::MissingCall);
+    stays && is_there && is_missing
 }
 
 /// Whether an empty path is found without asking.
-pub(crate) fn an_empty_path_is_found_unasked(alloc: Global) -> Result<bool, Broken> {
-    let mut tree = tree_of(alloc, &[(&[], 'x')])?;
+pub(crate) fn an_empty_path_is_found_unasked(alloc: Global) -> bool {
+    let Ok(mut tree) = tree_of(alloc, &[(&[], 'x')]) else {
+        return false;
+    };
     let longer = insert(alloc, &mut tree, &[(b'a', 1)], 'y');
     let found = finds_all(
         alloc,
@@ -169,38 +192,32 @@ pub(crate) fn an_empty_path_is_found_unasked(alloc: Global) -> Result<bool, Brok
         &[(&[(b'a', 1)], Some('x'), b"")],
     );
     let other = finds(alloc, &tree, 1, &[(b'a', 1)], None, b"");
-    Ok(found? && other? && longer == Err(InsertError::AlreadyExists))
+    found && other && longer == Err(InsertError::AlreadyExists)
 }
 
 /// Whether calls are asked in the tree's order, and none after an answer that no path has.
-pub(crate) fn calls_are_asked_in_order(alloc: Global) -> Result<bool, Broken> {
+pub(crate) fn calls_are_asked_in_order(alloc: Global) -> bool {
     let paths: &[(Pairs, char)] = &[
         (&[(b'a', 1), (b'b', 2)], 'x'),
         (&[(b'b', 3), (b'a', 1)], 'y'),
     ];
-    let tree = tree_of(alloc, paths)?;
     let looks: &[Look] = &[
         (&[(b'a', 1), (b'b', 3)], Some('y'), b"ab"),
         (&[(b'a', 2), (b'b', 3)], None, b"a"),
     ];
-    Ok(finds_all(alloc, &tree, (2, 2, 3, 1), looks)?)
+    is_found_in(alloc, paths, (2, 2, 3, 1), looks)
 }
 
 /// Whether a call taken out of a sequence stays seen.
-pub(crate) fn a_call_that_was_taken_out_stays_seen(alloc: Global) -> Result<bool, Broken> {
-    let mut sequence = sequence_of(alloc, &[(b'a', 1), (b'b', 2)])?;
-    let first = sequence.extract(&b'b');
-    let second = sequence.extract(&b'b');
-    let again = sequence.insert(b'b', 9)?;
-    let next = sequence.next();
-    let none = sequence.next();
-    let after = sequence.insert(b'a', 1)?;
-    Ok(
-        first == Some(2)
-            && second.is_none()
-            && !again
-            && next == Some((b'a', 1))
-            && none.is_none()
-            && !after,
-    )
+pub(crate) fn a_call_that_was_taken_out_stays_seen(alloc: Global) -> bool {
+    let Ok(mut sequence) = sequence_of(alloc, &[(b'a', 1), (b'b', 2)]) else {
+        return false;
+    };
+    let first = sequence.extract(&b'b') == Some(2);
+    let second = sequence.extract(&b'b').is_none();
+    let again = sequence.insert(b'b', 9) == Ok(false);
+    let next = sequence.next() == Some((b'a', 1));
+    let none = sequence.next().is_none();
+    let after = sequence.insert(b'a', 1) == Ok(false);
+    first && second && again && next && none && after
 }

@@ -1,71 +1,15 @@
 //! The row of a `Tracked`, which keeps answers.
-ghost use Rattle.std.proofs.Common.{rules};
 
-use crate::broken::Broken;
-use crate::place::{PlaceAnswer, PlaceCall};
-use crate::places::AnySaid;
+use crate::calls::gives_text;
+use crate::place::{Place, PlaceAnswer, PlaceCall};
+use crate::places::{AnySaid, end};
 use comemo::{Begun, CacheData, Constraint, Fault, How, Reply, Top, Track, Tracked, begin};
 use std::alloc::{AllocError, Global};
-use std::sync::atomic::{AtomicU64, Ordering};
-
-/// A place that counts how often each of its two calls is asked.
-#[derive(Drop)]
-struct Watched {
-    location: u64,
-    styles: String,
-    asked_where: AtomicU64,
-    asked_how: AtomicU64,
-}
-
-impl Watched {
-    /// The place at a location, with the styles `styles`, not asked yet.
-    fn at(alloc: Global, location: u64) -> Result<Watched, AllocError> {
-        Ok(Watched {
-            location,
-            styles: String::from_str(alloc, "styles")?,
-            asked_where: AtomicU64::new(0),
-            asked_how: AtomicU64::new(0),
-        })
-    }
-
-    /// How often it was asked where it is, and how it is set.
-    fn asked(&self) -> (u64, u64) {
-        (
-            self.asked_where.load(Ordering::SeqCst),
-            self.asked_how.load(Ordering::SeqCst),
-        )
-    }
-}
-
-impl Track for Watched {
-    type Call = PlaceCall;
-
-    type Answer = PlaceAnswer;
-
-    ghost use Rattle.bench_rows.specs.PlaceAnswers.{place_answer};
-
-    ghost answers = { λ s call. place_answer s.location s.styles call };
-
-    ghost alike = { λ s x y h. Prim.search rules };
-
-    fn ask(&self, call: &PlaceCall) -> Result<PlaceAnswer, AllocError> {
-        match call {
-            PlaceCall::Location => {
-                self.asked_where.fetch_add(1, Ordering::SeqCst);
-                Ok(PlaceAnswer::At(self.location))
-            }
-            PlaceCall::Styles => {
-                self.asked_how.fetch_add(1, Ordering::SeqCst);
-                Ok(PlaceAnswer::Set(self.styles.clone()?))
-            }
-        }
-    }
-}
 
 /// The text for a place: where it is and, for the fifth only, how it is set.
 fn said_of(
     alloc: Global,
-    view: &mut Tracked<'_, Watched>,
+    view: &mut Tracked<'_, Place>,
     recording: &mut Constraint<PlaceCall, PlaceAnswer>,
 ) -> Result<String, AllocError> {
     let PlaceAnswer::At(location) = view.ask(PlaceCall::Location, recording)? else {
@@ -84,7 +28,7 @@ fn said_of(
 fn contextual(
     alloc: Global,
     cache: &mut CacheData<AnySaid>,
-    view: &mut Tracked<'_, Watched>,
+    view: &mut Tracked<'_, Place>,
 ) -> Result<Reply<String>, Fault> {
     match begin(alloc, cache, view, &mut Top::new(), true)? {
         Begun::Hit(output) => Ok(Reply {
@@ -92,25 +36,31 @@ fn contextual(
             how: How::Hit,
         }),
         Begun::Run(mut pending) => {
-            let Ok(text) = said_of(alloc, view, pending.recording()) else {
-                pending.give_up(&mut Top::new());
-                return Err(Fault::Memory);
-            };
-            pending.finish(cache, &mut Top::new(), text)
+            let text = said_of(alloc, view, pending.recording());
+            end(pending, cache, &mut Top::new(), text)
         }
     }
 }
 
+/// Whether a call at the fifth place returns its text, and came about like this.
+fn says(
+    alloc: Global,
+    cache: &mut CacheData<AnySaid>,
+    view: &mut Tracked<'_, Place>,
+    how: How,
+) -> bool {
+    gives_text(contextual(alloc, cache, view), "Twenty has styles", how)
+}
+
 /// Whether three calls through one view ask the value each call once, and return the same.
-pub(crate) fn a_view_asks_once(alloc: Global) -> Result<bool, Broken> {
-    let place = Watched::at(alloc, 5)?;
+pub(crate) fn a_view_asks_once(alloc: Global) -> bool {
+    let Ok(place) = Place::at(alloc, 5) else {
+        return false;
+    };
     let mut cache = CacheData::new(alloc);
     let mut view = place.track(alloc);
-    for how in [How::Stored, How::Hit, How::Hit] {
-        let reply = contextual(alloc, &mut cache, &mut view)?;
-        if reply.output.as_str() != "Twenty has styles" || reply.how != how {
-            return Ok(false);
-        }
-    }
-    Ok(place.asked() == (1, 1))
+    let first = says(alloc, &mut cache, &mut view, How::Stored);
+    let second = says(alloc, &mut cache, &mut view, How::Hit);
+    let third = says(alloc, &mut cache, &mut view, How::Hit);
+    first && second && third && place.asked_each() == (1, 1)
 }

@@ -3,7 +3,7 @@ ghost use Rattle.std.specs.Prelude.{◌≡◌, [], ◌∷◌, ⊤};
 ghost use Rattle.std.proofs.Common.{rules};
 ghost use Rattle.comemo.specs.MeaningLaws.{exact_laws, writing_laws};
 
-use crate::ages::aged;
+use crate::ages::age_all;
 use crate::broken::Broken;
 use crate::tally::Tally;
 use comemo::{CacheData, Constraint, Fault, Function, How, RecorderMut, RunMut, memoized_mut_with};
@@ -149,23 +149,16 @@ impl Emitting {
     }
 }
 
-/// Evicts with a bound, checks the number of entries, and returns their ages.
+/// Evicts with a bound, and checks the number of entries, whose ages it raises.
 fn evict(
     cache: &mut CacheData<Dump>,
     tally: &mut Tally,
-    kept: [Option<usize>; 3],
+    ages: &mut [Option<usize>],
     max_age: usize,
-) -> [Option<usize>; 3] {
+) {
     cache.evict(max_age);
-    let kept = kept.map(|age| aged(age, max_age));
-    let mut count: usize = 0;
-    for age in &kept {
-        if age.is_some() {
-            count = count.saturating_add(1);
-        }
-    }
+    let count = age_all(ages, max_age);
     tally.hold(cache.len() == count);
-    kept
 }
 
 /// Whether a hit emits again what its run emitted.
@@ -175,7 +168,7 @@ fn a_hit_emits_again(alloc: Global) -> Result<bool, Broken> {
         emitter: Emitter::new(alloc),
         tally: Tally::new(),
     };
-    let mut kept = [None, None, None];
+    let mut ages = [None, None, None];
     // Which of the three texts, the text, and what is emitted.
     let calls: &[(usize, &str, &str)] = &[
         (0, "a", "a1"),
@@ -185,13 +178,13 @@ fn a_hit_emits_again(alloc: Global) -> Result<bool, Broken> {
         (1, "b", "b1"),
     ];
     for (place, name, parts) in calls {
-        kept = evict(&mut emitting.cache, &mut emitting.tally, kept, 9);
+        evict(&mut emitting.cache, &mut emitting.tally, &mut ages, 9);
         if *place < 3 {
-            kept[*place] = emitting.emit(alloc, *name, parts.as_bytes(), kept[*place]);
+            ages[*place] = emitting.emit(alloc, *name, parts.as_bytes(), ages[*place]);
         }
     }
     // Of the first two, the entry that no hit has touched since its run is dropped now.
-    let _ = evict(&mut emitting.cache, &mut emitting.tally, kept, 3);
+    evict(&mut emitting.cache, &mut emitting.tally, &mut ages, 3);
     let is_so = emitting.emitter.text() == "a1b1c1a1b1";
     emitting.tally.hold_if_ample(is_so);
     emitting.tally.came_to()

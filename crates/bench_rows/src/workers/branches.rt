@@ -1,20 +1,18 @@
 //! Branches of one run, each in a thread with its own recording and view.
 
 use crate::workers::gate::{Gate, InTurn, TURNS};
-use comemo::{Constraint, Fault, Track, Tracked};
+use comemo::{Constraint, Track, Tracked};
 use comemo_examples::{Cells, Get};
 use std::alloc::{AllocError, Global};
 use std::rt::Clock;
 use std::sync::atomic::AtomicUsize;
 use std::thread::{Threads, join};
 
+/// The recording of a branch, if there was memory for it, and the gate before its end opened.
+type Branch = Result<Option<Constraint<Get, u64>>, AllocError>;
+
 /// The recording of a branch that asks for two places; `None` if the gate before its end didn't open.
-fn branch<G: Gate>(
-    alloc: Global,
-    of: &Tracked<'_, Cells>,
-    places: [u32; 2],
-    gate: &G,
-) -> Result<Option<Constraint<Get, u64>>, AllocError> {
+fn branch<G: Gate>(alloc: Global, of: &Tracked<'_, Cells>, places: [u32; 2], gate: &G) -> Branch {
     let mut fork = of.fork(alloc);
     let mut recording = Constraint::new(alloc);
     for place in places {
@@ -40,34 +38,43 @@ fn has_each_place_once(recording: Constraint<Get, u64>) -> bool {
     pairs.next().is_none()
 }
 
-/// Whether a run's recording has its left branch's questions first, and each once, both if its left branch ends first
-/// and if its right one does.
-pub fn branches_are_absorbed_in_order<R: Threads + Clock + Sync>(
+/// Whether a run that absorbs its branches, the left one first, has each place once and in order.
+fn is_absorbed(left: Branch, right: Branch) -> bool {
+    let (Ok(Some(mut run)), Ok(Some(right))) = (left, right) else {
+        return false;
+    };
+    run.absorb(right).is_ok() && has_each_place_once(run)
+}
+
+/// Whether a run's branches are absorbed in order, where so many branches end before the left one, and before the right
+/// one.
+fn is_in_order<R: Threads + Clock + Sync>(
     rt: &R,
     alloc: Global,
-) -> Result<bool, Fault> {
-    let mut cells = Cells::new(alloc, 3)?;
+    of: &Tracked<'_, Cells>,
+    before_left: usize,
+    before_right: usize,
+) -> bool {
+    let ended = AtomicUsize::new(0);
+    let left_gate = InTurn::new(rt, before_left, TURNS, &ended);
+    let right_gate = InTurn::new(rt, before_right, TURNS, &ended);
+    let (left, right) = join(
+        rt,
+        || branch(alloc, of, [0, 1], &left_gate),
+        || branch(alloc, of, [1, 2], &right_gate),
+    );
+    is_absorbed(left, right)
+}
+
+/// Whether a run's recording has its left branch's questions first, and each once, both if its left branch ends first
+/// and if its right one does.
+pub fn branches_are_absorbed_in_order<R: Threads + Clock + Sync>(rt: &R, alloc: Global) -> bool {
+    let Ok(mut cells) = Cells::new(alloc, 3) else {
+        return false;
+    };
     for place in 0..3 {
         cells.set(place, place as u64 + 1);
     }
     let of = cells.track(alloc);
-    // How many branches end before the left one, and before the right one.
-    for (before_left, before_right) in [(0, 1), (1, 0)] {
-        let ended = AtomicUsize::new(0);
-        let left_gate = InTurn::new(rt, before_left, TURNS, &ended);
-        let right_gate = InTurn::new(rt, before_right, TURNS, &ended);
-        let (left, right) = join(
-            rt,
-            || branch(alloc, &of, [0, 1], &left_gate),
-            || branch(alloc, &of, [1, 2], &right_gate),
-        );
-        let (Some(mut run), Some(right)) = (left?, right?) else {
-            return Ok(false);
-        };
-        run.absorb(right)?;
-        if !has_each_place_once(run) {
-            return Ok(false);
-        }
-    }
-    Ok(true)
+    is_in_order(rt, alloc, &of, 0, 1) && is_in_order(rt, alloc, &of, 1, 0)
 }

@@ -32,20 +32,17 @@ pub fn threads<R: Threads + Wait + Sync>(
     Ok(worked.iter().all(|right| *right))
 }
 
-/// Whether sixteen workers get right outputs while another thread evicts their cache. Fails if starting them does.
-pub fn workers_beside_evictions<R: Threads + Wait + Sync>(
-    rt: &R,
-    alloc: Global,
-    cache: &Cache<Double>,
-) -> Result<bool, AllocError> {
+/// Whether sixteen workers get right outputs while another thread evicts their cache.
+pub fn workers_beside_evictions<R: Threads + Wait + Sync>(rt: &R, alloc: Global) -> bool {
+    let cache = Cache::new(alloc);
     let (worked, ()) = join(
         rt,
-        || threads(rt, alloc, cache, 16, 2000),
+        || threads(rt, alloc, &cache, 16, 2000),
         || {
             for _ in 0..100 {
                 cache.evict(rt, 1);
             }
         },
     );
-    worked
+    worked == Ok(true)
 }

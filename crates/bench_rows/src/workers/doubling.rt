@@ -31,12 +31,9 @@ pub fn doubled<H: Hold<Double>, G: Gate>(
             how: How::Hit,
         })),
         Begun::Run(pending) => {
-            if !gate.reach(1) {
-                pending.give_up(&mut sink);
-                return Ok(None);
-            }
+            let is_begun = gate.reach(1);
             let output = number.wrapping_add(number);
-            if !gate.reach(2) {
+            if !is_begun || !gate.reach(2) {
                 pending.give_up(&mut sink);
                 return Ok(None);
             }

@@ -32,13 +32,16 @@ impl Function for Empty {
     ghost laws = { Prim.search rules };
 }
 
+/// What a run came to; `None` if a gate didn't open.
+type Ran = Result<Option<Reply<String>>, Fault>;
+
 /// The empty text, from a run that asks one question; `None` if a gate didn't open.
 fn empty_by<H: Hold<Empty>, G: Gate>(
     alloc: Global,
     cache: &mut H,
     question: ContextCall,
     gate: &G,
-) -> Result<Option<Reply<String>>, Fault> {
+) -> Ran {
     let context = Context {
         location: 3,
         styles: 40,
@@ -65,12 +68,25 @@ fn empty_by<H: Hold<Empty>, G: Gate>(
     }
 }
 
+/// Whether of two runs one was stored, the other got `MissingCall`, and both returned the empty text.
+fn is_one_stored(left: Ran, right: Ran) -> bool {
+    let (Ok(Some(left)), Ok(Some(right))) = (left, right) else {
+        return false;
+    };
+    let hows = match left.how {
+        How::Stored => right.how == How::MissingCall,
+        How::MissingCall => right.how == How::Stored,
+        _ => false,
+    };
+    hows && left.output.is_empty() && right.output.is_empty()
+}
+
 /// Whether of two simultaneous runs that begin with different questions one is stored, and the other gets
 /// `MissingCall`.
 pub fn two_runs_that_ask_other_questions<R: Threads + Wait + Clock + Sync>(
     rt: &R,
     alloc: Global,
-) -> Result<bool, Fault> {
+) -> bool {
     let cache: Cache<Empty> = Cache::new(alloc);
     let gate = Meeting::new(rt, 2, TURNS);
     let (left, right) = join(
@@ -78,13 +94,5 @@ pub fn two_runs_that_ask_other_questions<R: Threads + Wait + Clock + Sync>(
         || empty_by(alloc, &mut cache.hold(rt), ContextCall::Location, &gate),
         || empty_by(alloc, &mut cache.hold(rt), ContextCall::Styles, &gate),
     );
-    let (Some(left), Some(right)) = (left?, right?) else {
-        return Ok(false);
-    };
-    let hows = match left.how {
-        How::Stored => right.how == How::MissingCall,
-        How::MissingCall => right.how == How::Stored,
-        _ => false,
-    };
-    Ok(hows && left.output.is_empty() && right.output.is_empty())
+    is_one_stored(left, right)
 }

@@ -37,19 +37,19 @@ pub fn evictions_reach_a_cache<H: Hold<Null>, E: Evict>(
     evictor: &E,
 ) -> Result<bool, Fault> {
     // How many evictions with bound 1 precede a call, and the call's result.
-    let calls = [
+    let calls: &[(u32, How)] = &[
         (0, How::Stored),
         (1, How::Hit),
         (1, How::Hit),
         (2, How::Stored),
     ];
     for (times, how) in calls {
-        for _ in 0..times {
+        for _ in 0..*times {
             evictor.evict(1);
         }
         let nothing = ();
         let reply = memoized(alloc, cache, (), &nothing)?;
-        if reply.output != 0 || reply.how != how {
+        if reply.output != 0 || reply.how != *how {
             return Ok(false);
         }
     }

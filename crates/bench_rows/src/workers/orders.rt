@@ -77,7 +77,7 @@ fn whole_by<H: Hold<Whole>, G: Gate>(
 pub fn two_runs_that_ask_in_turned_order<R: Threads + Wait + Clock + Sync>(
     rt: &R,
     alloc: Global,
-) -> Result<bool, Fault> {
+) -> bool {
     let cache: Cache<Whole> = Cache::new(alloc);
     let gate = Meeting::new(rt, 2, TURNS);
     let (left, right) = join(
@@ -97,12 +97,12 @@ pub fn two_runs_that_ask_in_turned_order<R: Threads + Wait + Clock + Sync>(
             &gate,
         ),
     );
-    let (Some(left), Some(right)) = (left?, right?) else {
-        return Ok(false);
+    let (Ok(Some(left)), Ok(Some(right))) = (left, right) else {
+        return false;
     };
-    Ok(match left.how {
+    match left.how {
         How::Stored => right.how == How::AlreadyExists,
         How::AlreadyExists => right.how == How::Stored,
         _ => false,
-    })
+    }
 }
