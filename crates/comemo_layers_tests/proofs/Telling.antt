@@ -1,5 +1,5 @@
 -- What was told tells what follows from it.
-use Rattle.std.proofs.Common.{List, Result, Ok, Err}
+use Rattle.std.proofs.Common.{Result, Ok, Err}
 use Rattle.comemo.specs.Recording.{Recording}
 use Rattle.comemo.specs.Function.{Recorded}
 use Rattle.comemo.specs.Recursive.{TellsOwn}

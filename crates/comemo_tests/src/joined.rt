@@ -1,13 +1,13 @@
 //! Memoized functions of several arguments, joined into one input.
 ghost use Rattle.std.proofs.Common.{rules};
 
-use comemo::internal::{Hashed, Input, Multi, Pending};
+use comemo::internal::{Hashed, Input, Multi};
 use comemo::{
-    Begun, CacheData, Constraint, Fault, First, Function, How, MultiAnswer, MultiCall, Reply,
-    Second, Top, Track, View, begin,
+    Begun, CacheData, Fault, First, Function, How, MultiAnswer, MultiCall, Reply, Second, Top,
+    Track, View, begin,
 };
 use comemo_examples::{Context, ContextCall};
-use std::alloc::{AllocError, Global};
+use std::alloc::Global;
 
 /// Whether a context holds a number. Any output is right; `size` of `calc_core` is a function of joined inputs whose
 /// outputs are proved.
@@ -29,38 +29,8 @@ impl Function for ContainsNumber {
     ghost laws = { Prim.search rules };
 }
 
-/// Whether a context holds a number. Asks for the second of its numbers only if the first is another one.
-fn search(
-    number: u64,
-    view: &mut View<'_, Context>,
-    recording: &mut Constraint<MultiCall<(), ContextCall>, MultiAnswer<(), u64>>,
-) -> Result<bool, AllocError> {
-    let at = view.ask_through(ContextCall::Location, Second::new(), recording)?;
-    if at == number {
-        return Ok(true);
-    }
-    let by = view.ask_through(ContextCall::Styles, Second::new(), recording)?;
-    Ok(by == number)
-}
-
-/// A run of the function, by the view that its look-up had.
-fn run_search(
-    cache: &mut CacheData<ContainsNumber>,
-    number: u64,
-    view: &mut View<'_, Context>,
-    mut pending: Pending<ContainsNumber>,
-) -> Result<Reply<bool>, Fault> {
-    let sink = &mut Top::new();
-    match search(number, view, pending.recording()) {
-        Ok(is_in) => pending.finish(cache, sink, is_in),
-        Err(_) => {
-            pending.give_up(sink);
-            Err(Fault::Memory)
-        }
-    }
-}
-
-/// Whether a context holds a number, through a cache.
+/// Whether a context holds a number, through a cache. Asks for the second of its numbers only if the first is another
+/// one.
 pub fn contains(
     alloc: Global,
     cache: &mut CacheData<ContainsNumber>,
@@ -74,9 +44,22 @@ pub fn contains(
             output,
             how: How::Hit,
         }),
-        Ok(Begun::Run(pending)) => {
+        Ok(Begun::Run(mut pending)) => {
             let Multi((_, mut view)) = input;
-            run_search(cache, number, &mut view, pending)
+            let Ok(at) = view.ask_through(ContextCall::Location, Second::new(), pending.recording())
+            else {
+                pending.give_up(&mut Top::new());
+                return Err(Fault::Memory);
+            };
+            if at == number {
+                return pending.finish(cache, &mut Top::new(), true);
+            }
+            let Ok(by) = view.ask_through(ContextCall::Styles, Second::new(), pending.recording())
+            else {
+                pending.give_up(&mut Top::new());
+                return Err(Fault::Memory);
+            };
+            pending.finish(cache, &mut Top::new(), by == number)
         }
     }
 }
@@ -136,32 +119,6 @@ impl Function for AnythingOfTwo {
     ghost laws = { Prim.search rules };
 }
 
-/// The sum of the locations that two views tell, sent to a recording.
-fn add_locations(
-    left: &mut View<'_, Context>,
-    right: &mut View<'_, Context>,
-    recording: &mut Constraint<MultiCall<ContextCall, ContextCall>, MultiAnswer<u64, u64>>,
-) -> u64 {
-    let read = ContextCall::Location;
-    let at = left.ask_through(read, First::new(), recording);
-    let by = right.ask_through(read, Second::new(), recording);
-    at.unwrap_or(0).wrapping_add(by.unwrap_or(0))
-}
-
-/// A run of the function, by the views that its look-up had, and how it ended.
-fn run_sum(
-    cache: &mut CacheData<AnythingOfTwo>,
-    left: &mut View<'_, Context>,
-    right: &mut View<'_, Context>,
-    mut pending: Pending<AnythingOfTwo>,
-) -> Result<(u64, How), Fault> {
-    let sum = add_locations(left, right, pending.recording());
-    match pending.finish(cache, &mut Top::new(), sum) {
-        Ok(reply) => Ok((reply.output, reply.how)),
-        Err(fault) => Err(fault),
-    }
-}
-
 /// The sum of the locations of two contexts, each asked once, and how the call ended.
 fn sum(
     alloc: Global,
@@ -173,9 +130,16 @@ fn sum(
     match begin(alloc, cache, &mut input, &mut Top::new(), true) {
         Err(fault) => Err(fault),
         Ok(Begun::Hit(sum)) => Ok((sum, How::Hit)),
-        Ok(Begun::Run(pending)) => {
+        Ok(Begun::Run(mut pending)) => {
             let Multi((mut left, mut right)) = input;
-            run_sum(cache, &mut left, &mut right, pending)
+            let read = ContextCall::Location;
+            let at = left.ask_through(read, First::new(), pending.recording());
+            let by = right.ask_through(read, Second::new(), pending.recording());
+            let sum = at.unwrap_or(0).wrapping_add(by.unwrap_or(0));
+            match pending.finish(cache, &mut Top::new(), sum) {
+                Ok(reply) => Ok((reply.output, reply.how)),
+                Err(fault) => Err(fault),
+            }
         }
     }
 }

@@ -89,26 +89,6 @@ fn views_of_views_are_of_the_same_value(rt: HostRuntime) {
     assert!(rt; is_so);
 }
 
-/// A recording of calls of a town and a counter.
-type Recording = Constraint<MultiCall<TownCall, CounterCall>, MultiAnswer<u64, u64>>;
-
-/// Whether a view of a town of 21 degrees and a counter tells the degrees, and adds 4.
-fn reads_and_adds(
-    view: &mut TrackedMut<'_, BothMut<'_, Town, Counter>>,
-    recording: &mut Recording,
-) -> bool {
-    let degrees = view.ask(MultiCall::A(TownCall::Degrees), recording);
-    let is_read = degrees == Ok(MultiAnswer::A(21));
-    let add = MultiCall::B(CounterCall::Add(4));
-    is_read && view.write(add, recording).is_ok()
-}
-
-/// Whether a recording has one write.
-fn has_one_write(recording: Recording) -> bool {
-    let (_, writes) = recording.into_parts();
-    writes.len() == 1
-}
-
 /// Whether a write of two values is done on its own and recorded, and a read is answered by the other.
 fn changes_its_own(alloc: Global, town: &mut Town, counter: &mut Counter) -> bool {
     let mut both = BothMut {
@@ -117,9 +97,13 @@ fn changes_its_own(alloc: Global, town: &mut Town, counter: &mut Counter) -> boo
     };
     let mut recording = Constraint::new(alloc);
     let mut view = both.track_mut(alloc);
-    let is_done = reads_and_adds(&mut view, &mut recording);
+    let degrees = view.ask(MultiCall::A(TownCall::Degrees), &mut recording);
+    let is_read = degrees == Ok(MultiAnswer::A(21));
+    let add = MultiCall::B(CounterCall::Add(4));
+    let is_written = view.write(add, &mut recording).is_ok();
     drop(view);
-    is_done && has_one_write(recording)
+    let (_, writes) = recording.into_parts();
+    is_read && is_written && writes.len() == 1
 }
 
 #[test]
