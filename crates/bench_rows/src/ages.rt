@@ -88,27 +88,26 @@ pub(crate) fn hits_stay_young(alloc: Global) -> Result<bool, Broken> {
 }
 
 /// A short form of a step's result.
-#[derive(Clone, Copy, Drop, PartialEq, Eq)]
+#[derive(Clone, Copy, Drop)]
 enum Said {
     Found(u32),
     NotFound,
     Stored,
     AlreadyExists,
     MissingCall,
-    Memory,
     Done,
 }
 
-/// The short form of a reply; for an entry, its output.
-fn said_by(reply: &StepReply<Anything>) -> Said {
-    match reply {
-        StepReply::Found(found) => Said::Found(found.output),
-        StepReply::NotFound => Said::NotFound,
-        StepReply::Stored => Said::Stored,
-        StepReply::AlreadyExists => Said::AlreadyExists,
-        StepReply::MissingCall => Said::MissingCall,
-        StepReply::Memory => Said::Memory,
-        StepReply::Done => Said::Done,
+/// Whether a reply has this short form; for an entry, this output.
+fn says(reply: &StepReply<Anything>, said: Said) -> bool {
+    match (reply, said) {
+        (StepReply::Found(found), Said::Found(output)) => found.output == output,
+        (StepReply::NotFound, Said::NotFound) => true,
+        (StepReply::Stored, Said::Stored) => true,
+        (StepReply::AlreadyExists, Said::AlreadyExists) => true,
+        (StepReply::MissingCall, Said::MissingCall) => true,
+        (StepReply::Done, Said::Done) => true,
+        _ => false,
     }
 }
 
@@ -159,6 +158,16 @@ fn steps_of(alloc: Global, kinds: &[(Kind, Said)]) -> Result<Vec<Step<Anything>>
     Ok(steps)
 }
 
+/// The replies of a cache to steps of these kinds.
+fn replies_to(
+    alloc: Global,
+    cache: &mut CacheData<Anything>,
+    kinds: &[(Kind, Said)],
+) -> Result<Vec<StepReply<Anything>>, AllocError> {
+    let steps = steps_of(alloc, kinds)?;
+    cache.replay(alloc, steps)
+}
+
 /// Checks the reply to a step with one path, given the entry's output and age before, and returns them afterwards. A
 /// failing step changes nothing.
 fn after(
@@ -203,7 +212,7 @@ fn after_all(tally: &mut Tally, wanted: &[(Kind, Said)], replies: &[StepReply<An
     let mut kept = None;
     for (reply, (kind, said)) in replies.iter().zip(wanted) {
         kept = after(tally, kept, *kind, reply);
-        tally.hold_if_ample(said_by(reply) == *said);
+        tally.hold_if_ample(says(reply, *said));
     }
     kept.is_some()
 }
@@ -224,8 +233,7 @@ pub(crate) fn touches_stay_young(alloc: Global) -> Result<bool, Broken> {
     ];
     let mut cache: CacheData<Anything> = CacheData::new(alloc);
     let mut tally = Tally::new();
-    let steps = steps_of(alloc, wanted)?;
-    let is_kept = match cache.replay(alloc, steps) {
+    let is_kept = match replies_to(alloc, &mut cache, wanted) {
         Ok(replies) => after_all(&mut tally, wanted, replies.as_slice()),
         Err(_) => {
             tally.refuse();
@@ -238,8 +246,8 @@ pub(crate) fn touches_stay_young(alloc: Global) -> Result<bool, Broken> {
 
 /// Whether these are the replies.
 fn are_said(replies: &[StepReply<Anything>], wanted: &[(Kind, Said)]) -> bool {
-    for (reply, want) in replies.iter().zip(wanted) {
-        if said_by(reply) != want.1 {
+    for (reply, (_, said)) in replies.iter().zip(wanted) {
+        if !says(reply, *said) {
             return false;
         }
     }
@@ -249,10 +257,7 @@ fn are_said(replies: &[StepReply<Anything>], wanted: &[(Kind, Said)]) -> bool {
 /// Whether a new cache answers the steps like this.
 fn are_answered(alloc: Global, wanted: &[(Kind, Said)]) -> bool {
     let mut cache: CacheData<Anything> = CacheData::new(alloc);
-    let Ok(steps) = steps_of(alloc, wanted) else {
-        return false;
-    };
-    match cache.replay(alloc, steps) {
+    match replies_to(alloc, &mut cache, wanted) {
         Ok(replies) => are_said(replies.as_slice(), wanted),
         Err(_) => false,
     }

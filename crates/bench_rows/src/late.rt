@@ -71,58 +71,76 @@ fn adding_is_kept(alloc: Global) -> bool {
     adds_and_gets(alloc, &mut cache) && cache.len() == 1
 }
 
-/// Whether `Bump` is stored, and `Twice` is not, in caches of one owner.
-fn twice_is_not_kept(alloc: Global) -> bool {
-    let mut bumps = Bumps {
+/// What `Twice` needs, with an empty cache of `Bump`.
+fn new_bumps(alloc: Global) -> Bumps<CacheData<Bump>> {
+    Bumps {
         cache: CacheData::new(alloc),
         runs: 0,
-    };
-    let mut twice = CacheData::new(alloc);
-    let are_kept = bumps_are_kept(alloc, &mut bumps.cache);
-    let is_late = bumps_twice(alloc, &mut twice, &mut bumps);
-    are_kept && is_late && bumps.cache.len() == 2 && twice.len() == 0
+    }
 }
 
-/// Whether `Bump` and `AddsAndGets` are stored and `Readback` is late through shares of caches.
-fn come_to_that_through_shares<'x, W: Wait>(
-    rt: &'x W,
+/// Whether `Twice` is late, in a cache of one owner, which stays empty.
+fn twice_is_not_kept(alloc: Global, bumps: &mut Bumps<CacheData<Bump>>) -> bool {
+    let mut twice = CacheData::new(alloc);
+    bumps_twice(alloc, &mut twice, bumps) && twice.len() == 0
+}
+
+/// Whether `Bump` is stored, and `Twice` is not, in caches of one owner.
+fn bump_alone_is_kept(alloc: Global) -> bool {
+    let mut bumps = new_bumps(alloc);
+    let are_kept = bumps_are_kept(alloc, &mut bumps.cache);
+    let is_late = twice_is_not_kept(alloc, &mut bumps);
+    are_kept && is_late && bumps.cache.len() == 2
+}
+
+/// Whether calls of `Bump` have the right results through a share of a cache.
+fn bumps_through_a_share<W: Wait>(rt: &W, alloc: Global) -> bool {
+    let cache = Cache::new(alloc);
+    bumps_are_kept(alloc, &mut cache.hold(rt))
+}
+
+/// Whether `Readback` is late each time through a share of a cache.
+fn reads_back_through_a_share<W: Wait>(rt: &W, alloc: Global) -> bool {
+    let cache = Cache::new(alloc);
+    let held = &mut cache.hold(rt);
+    let first = reads_back(alloc, held);
+    let again = reads_back(alloc, held);
+    first && again
+}
+
+/// Whether `AddsAndGets` is stored through a share of a cache.
+fn adds_through_a_share<W: Wait>(rt: &W, alloc: Global) -> bool {
+    let cache = Cache::new(alloc);
+    adds_and_gets(alloc, &mut cache.hold(rt))
+}
+
+/// Whether a call of `Twice` is late through a share of its cache.
+fn is_late_through_a_share<W: Wait>(
+    rt: &W,
     alloc: Global,
-    bump: &'x Cache<Bump>,
-    readback: &'x Cache<Readback>,
-    adding: &'x Cache<AddsAndGets>,
+    bumps: &mut Bumps<CacheData<Bump>>,
 ) -> bool {
-    let are_kept = bumps_are_kept(alloc, &mut bump.hold(rt));
-    let readback = &mut readback.hold(rt);
-    let first = reads_back(alloc, readback);
-    let again = reads_back(alloc, readback);
-    let is_added = adds_and_gets(alloc, &mut adding.hold(rt));
-    are_kept && first && again && is_added
+    let cache = Cache::new(alloc);
+    bumps_twice(alloc, &mut cache.hold(rt), bumps)
 }
 
 /// Whether a call of `Twice` is late through a share of its cache, with both of its calls of `Bump` cached.
-fn bumps_twice_through_a_share<'x, W: Wait>(
-    rt: &'x W,
-    alloc: Global,
-    twice: &'x Cache<Twice<CacheData<Bump>>>,
-) -> bool {
-    let mut needs = Bumps {
-        cache: CacheData::new(alloc),
-        runs: 0,
-    };
+fn bumps_twice_through_a_share<W: Wait>(rt: &W, alloc: Global) -> bool {
+    let mut needs = new_bumps(alloc);
     let mut counter = Counter { number: 0 };
     let first = bumps(alloc, &mut needs.cache, &mut counter, How::Stored);
     let second = bumps(alloc, &mut needs.cache, &mut counter, How::Stored);
-    let is_late = bumps_twice(alloc, &mut twice.hold(rt), &mut needs);
+    let is_late = is_late_through_a_share(rt, alloc, &mut needs);
     first && second && is_late
 }
 
 /// Whether runs that read what they wrote are late, in caches of both kinds.
 pub(crate) fn late_runs<W: Wait>(rt: &W, alloc: Global) -> bool {
-    let bump = Cache::new(alloc);
-    let readback = Cache::new(alloc);
-    let adding = Cache::new(alloc);
-    let twice = Cache::new(alloc);
-    let of_one = readback_is_not_kept(alloc) && adding_is_kept(alloc) && twice_is_not_kept(alloc);
-    let shared = come_to_that_through_shares(rt, alloc, &bump, &readback, &adding);
-    of_one && shared && bumps_twice_through_a_share(rt, alloc, &twice)
+    readback_is_not_kept(alloc)
+        && adding_is_kept(alloc)
+        && bump_alone_is_kept(alloc)
+        && bumps_through_a_share(rt, alloc)
+        && reads_back_through_a_share(rt, alloc)
+        && adds_through_a_share(rt, alloc)
+        && bumps_twice_through_a_share(rt, alloc)
 }

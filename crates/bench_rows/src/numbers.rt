@@ -65,24 +65,22 @@ fn numbers_of_fibonacci(alloc: Global) -> bool {
     true
 }
 
+/// Whether the call of a number returns it, and came about like this. Only large numbers are cached.
+fn is_itself(alloc: Global, cache: &mut CacheData<Identity>, number: u64, how: How) -> bool {
+    let is_kept = number >= 1000;
+    let sink = &mut Top::new();
+    let reply = memoized_with(alloc, cache, &mut (), number, &(), sink, is_kept);
+    gives(reply, number, how)
+}
+
 /// Whether only large numbers are cached.
 fn keeps_large_numbers(alloc: Global) -> bool {
     let mut cache: CacheData<Identity> = CacheData::new(alloc);
-    let calls: &[(u64, How)] = &[
-        (0, How::Disabled),
-        (0, How::Disabled),
-        (2000, How::Stored),
-        (2000, How::Hit),
-    ];
-    for (number, how) in calls {
-        let is_kept = *number >= 1000;
-        let sink = &mut Top::new();
-        let reply = memoized_with(alloc, &mut cache, &mut (), *number, &(), sink, is_kept);
-        if !gives(reply, *number, *how) {
-            return false;
-        }
-    }
-    true
+    let small = is_itself(alloc, &mut cache, 0, How::Disabled);
+    let again = is_itself(alloc, &mut cache, 0, How::Disabled);
+    let large = is_itself(alloc, &mut cache, 2000, How::Stored);
+    let hit = is_itself(alloc, &mut cache, 2000, How::Hit);
+    small && again && large && hit
 }
 
 /// Whether functions of numbers are cached under them.

@@ -246,9 +246,10 @@ fn no_ages(alloc: Global, count: u64) -> Result<Vec<Option<usize>>, AllocError> 
 /// Whether each of many places is cached, and with how many calls, outside of runs and within one. Before the last pass
 /// an eviction leaves what the pass before touched.
 pub(crate) fn places_are_kept(alloc: Global, count: u64) -> Result<bool, Broken> {
+    let ages = no_ages(alloc, count)?;
     let mut places = Places {
         cache: CacheData::new(alloc),
-        ages: no_ages(alloc, count)?,
+        ages,
         count: 0,
         tally: Tally::new(),
     };

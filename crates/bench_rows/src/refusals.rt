@@ -218,6 +218,27 @@ fn call_within(
     }
 }
 
+/// Checks the text that a call returned, and how many reads its sink was told, and returns how it came about. A failing
+/// call tells a prefix.
+fn note_reply(
+    tally: &mut Tally,
+    reply: Result<Reply<String>, Fault>,
+    expected: &str,
+    told: Option<u64>,
+    all: u64,
+) -> Result<How, Fault> {
+    match reply {
+        Ok(reply) => {
+            tally.hold(reply.output.as_str() == expected && told == Some(all));
+            Ok(reply.how)
+        }
+        Err(fault) => {
+            tally.hold(told.is_some());
+            Err(fault)
+        }
+    }
+}
+
 /// Checks such a call at a location. Given whether there was an entry of the outer call, it returns whether there is
 /// one afterwards.
 fn is_told_of_a_loss(
@@ -235,17 +256,7 @@ fn is_told_of_a_loss(
     let is_whole = sink.is_whole();
     let told = recorded(sink, location);
     let all = if location == 5 { 2 } else { 1 };
-    let went = match reply {
-        Ok(reply) => {
-            tally.hold(reply.output == expected);
-            tally.hold(told == Some(all));
-            Ok(reply.how)
-        }
-        Err(fault) => {
-            tally.hold(told.is_some());
-            Err(fault)
-        }
-    };
+    let went = note_reply(tally, reply, expected.as_str(), told, all);
     if is_lost {
         tally.refuse();
         tally.hold(went == Err(Fault::Incomplete) && !is_whole && told == Some(0));

@@ -25,22 +25,45 @@ pub fn doubled<H: Hold<Double>, G: Gate>(
         view: nothing.view(alloc),
     };
     let mut sink = Top::new();
-    match begin(alloc, cache, &mut input, &mut sink, true)? {
-        Begun::Hit(output) => Ok(Some(Reply {
+    match begin(alloc, cache, &mut input, &mut sink, true) {
+        Ok(Begun::Hit(output)) => Ok(Some(Reply {
             output,
             how: How::Hit,
         })),
-        Begun::Run(pending) => {
+        Ok(Begun::Run(pending)) => {
             let is_begun = gate.reach(1);
             let output = number.wrapping_add(number);
             if !is_begun || !gate.reach(2) {
                 pending.give_up(&mut sink);
                 return Ok(None);
             }
-            let reply = pending.finish(cache, &mut sink, output)?;
-            Ok(Some(reply))
+            match pending.finish(cache, &mut sink, output) {
+                Ok(reply) => Ok(Some(reply)),
+                Err(fault) => Err(fault),
+            }
         }
+        Err(fault) => Err(fault),
     }
+}
+
+/// What a call came to; `None` if a gate of its run didn't open.
+type Ran = Result<Option<Reply<u32>>, Fault>;
+
+/// Whether of two runs of 21 one was stored, the other got `AlreadyExists`, and a third call hit, all with its double.
+fn is_one_stored(first: Ran, second: Ran, third: Ran) -> Result<bool, Fault> {
+    let (Some(first), Some(second)) = (first?, second?) else {
+        return Ok(false);
+    };
+    let Some(third) = third? else {
+        return Ok(false);
+    };
+    let hows = match first.how {
+        How::Stored => second.how == How::AlreadyExists,
+        How::AlreadyExists => second.how == How::Stored,
+        _ => false,
+    };
+    let are_double = first.output == 42 && second.output == 42 && third.output == 42;
+    Ok(hows && third.how == How::Hit && are_double)
 }
 
 /// Runs the same key on two threads at once. True if one run is stored, the other gets `AlreadyExists`, and a third
@@ -57,19 +80,8 @@ pub fn two_runs_of_one_key<R: Threads + Clock + Sync, H: Hold<Double> + Send + D
         || doubled(alloc, &mut left, 21, &gate),
         || doubled(alloc, &mut right, 21, &gate),
     );
-    let (Some(first), Some(second)) = (first?, second?) else {
-        return Ok(false);
-    };
-    let Some(third) = doubled(alloc, &mut left, 21, &gate)? else {
-        return Ok(false);
-    };
-    let hows = match first.how {
-        How::Stored => second.how == How::AlreadyExists,
-        How::AlreadyExists => second.how == How::Stored,
-        _ => false,
-    };
-    let outputs = [first.output, second.output, third.output];
-    Ok(hows && third.how == How::Hit && outputs == [42, 42, 42])
+    let third = doubled(alloc, &mut left, 21, &gate);
+    is_one_stored(first, second, third)
 }
 
 /// How many numbers are doubled in a round.
