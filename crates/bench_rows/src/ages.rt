@@ -4,6 +4,7 @@ ghost use Rattle.std.specs.List.{All};
 ghost use Rattle.comemo.specs.Steps.{IsStep};
 
 use crate::broken::Broken;
+use crate::calls::how_of;
 use crate::steps::{Anything, evict, look, store, touch};
 use crate::tally::Tally;
 use crate::workers::Null;
@@ -43,13 +44,7 @@ fn call_null(
     let nothing = ();
     let mut sink = Constraint::new(alloc);
     let reply = memoized_with(alloc, cache, &mut (), (), &nothing, &mut sink, true);
-    let went = match reply {
-        Ok(reply) => {
-            tally.hold(reply.output == 0);
-            Ok(reply.how)
-        }
-        Err(fault) => Err(fault),
-    };
+    let went = how_of(tally, reply, 0);
     let is_kept = tally.call(kept.is_some(), went, sink.is_whole());
     tally.hold_if_ample(went == Ok(how));
     tally.hold(cache.len() == usize::from(is_kept));
@@ -217,20 +212,8 @@ fn after_all(tally: &mut Tally, wanted: &[(Kind, Said)], replies: &[StepReply<An
     kept.is_some()
 }
 
-/// Whether a touch refreshes an entry, a look-up doesn't, and a failing step changes nothing.
-pub(crate) fn touches_stay_young(alloc: Global) -> Result<bool, Broken> {
-    let wanted: &[(Kind, Said)] = &[
-        (Kind::Store(A, X), Said::Stored),
-        (Kind::Look(A), Said::Found(X)),
-        (Kind::Evict(0), Said::Done),
-        (Kind::Store(A, Y), Said::Stored),
-        (Kind::Evict(1), Said::Done),
-        (Kind::Touch, Said::Done),
-        (Kind::Evict(1), Said::Done),
-        (Kind::Look(A), Said::Found(Y)),
-        (Kind::Evict(1), Said::Done),
-        (Kind::Look(A), Said::NotFound),
-    ];
+/// Checks the replies of a new cache to steps with one path.
+fn are_kept_right(alloc: Global, wanted: &[(Kind, Said)]) -> Result<bool, Broken> {
     let mut cache: CacheData<Anything> = CacheData::new(alloc);
     let mut tally = Tally::new();
     let is_kept = match replies_to(alloc, &mut cache, wanted) {
@@ -242,6 +225,25 @@ pub(crate) fn touches_stay_young(alloc: Global) -> Result<bool, Broken> {
     };
     tally.hold(cache.len() == usize::from(is_kept));
     tally.came_to()
+}
+
+/// Whether a touch refreshes an entry, a look-up doesn't, and a failing step changes nothing.
+pub(crate) fn touches_stay_young(alloc: Global) -> Result<bool, Broken> {
+    are_kept_right(
+        alloc,
+        &[
+            (Kind::Store(A, X), Said::Stored),
+            (Kind::Look(A), Said::Found(X)),
+            (Kind::Evict(0), Said::Done),
+            (Kind::Store(A, Y), Said::Stored),
+            (Kind::Evict(1), Said::Done),
+            (Kind::Touch, Said::Done),
+            (Kind::Evict(1), Said::Done),
+            (Kind::Look(A), Said::Found(Y)),
+            (Kind::Evict(1), Said::Done),
+            (Kind::Look(A), Said::NotFound),
+        ],
+    )
 }
 
 /// Whether these are the replies.

@@ -1,6 +1,7 @@
 //! Calls of memoized functions, and their expected results.
 ghost use Rattle.comemo.specs.Function.{WritesNone};
 
+use crate::tally::Tally;
 use comemo::{CacheData, Fault, Function, How, Reply, Run, Track, memoized};
 use std::alloc::Global;
 
@@ -39,5 +40,20 @@ pub(crate) fn gives_text(reply: Result<Reply<String>, Fault>, text: &str, how: H
     match reply {
         Ok(reply) => reply.output.as_str() == text && reply.how == how,
         Err(_) => false,
+    }
+}
+
+/// How a call came about, or why it failed. Checks its output.
+pub(crate) fn how_of<O: Copy + PartialEq>(
+    tally: &mut Tally,
+    reply: Result<Reply<O>, Fault>,
+    output: O,
+) -> Result<How, Fault> {
+    match reply {
+        Ok(reply) => {
+            tally.hold(reply.output == output);
+            Ok(reply.how)
+        }
+        Err(fault) => Err(fault),
     }
 }

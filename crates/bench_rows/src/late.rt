@@ -1,7 +1,9 @@
 //! The row of runs that read before or after they wrote.
 
 use crate::calls::gives;
-use comemo::{BothMut, Cache, CacheData, Hold, How, Top, memoized_mut, memoized_mut_with};
+use comemo::{
+    BothMut, Cache, CacheData, Function, Hold, How, Top, memoized_mut, memoized_mut_with,
+};
 use comemo_examples::Counter;
 use comemo_examples::late::{AddsAndGets, Bump, Bumps, Readback, Twice};
 use std::alloc::Global;
@@ -48,27 +50,63 @@ fn adds_and_gets<H: Hold<AddsAndGets>>(alloc: Global, cache: &mut H) -> bool {
     gives(reply, 0, How::Stored) && first.number == 1 && second.number == 0
 }
 
-/// Whether calls of `Bump` have the right results through a cache: two on a new counter, and one on another.
-fn bumps_are_kept<B: Hold<Bump>>(alloc: Global, bump: &mut B) -> bool {
-    let mut counter = Counter { number: 0 };
-    let mut other = Counter { number: 0 };
-    bumps(alloc, bump, &mut counter, How::Stored)
-        && bumps(alloc, bump, &mut counter, How::Stored)
-        && bumps(alloc, bump, &mut other, How::Hit)
+/// A function of which some calls are made, alike through any holder of its cache.
+trait Called: Function + Sized {
+    /// Whether the calls have the right results.
+    fn is_right<H: Hold<Self>>(alloc: Global, cache: &mut H) -> bool;
 }
 
-/// Whether `Readback` is late each time, in a cache of one owner, which stays empty.
-fn readback_is_not_kept(alloc: Global) -> bool {
-    let mut cache = CacheData::new(alloc);
-    let first = reads_back(alloc, &mut cache);
-    let again = reads_back(alloc, &mut cache);
-    first && again && cache.len() == 0
+impl Called for Bump {
+    // Two calls on a new counter, and one on another.
+    fn is_right<H: Hold<Bump>>(alloc: Global, cache: &mut H) -> bool {
+        let mut counter = Counter { number: 0 };
+        let mut other = Counter { number: 0 };
+        bumps(alloc, cache, &mut counter, How::Stored)
+            && bumps(alloc, cache, &mut counter, How::Stored)
+            && bumps(alloc, cache, &mut other, How::Hit)
+    }
 }
 
-/// Whether `AddsAndGets` is stored, in a cache of one owner.
-fn adding_is_kept(alloc: Global) -> bool {
-    let mut cache = CacheData::new(alloc);
-    adds_and_gets(alloc, &mut cache) && cache.len() == 1
+impl Called for Readback {
+    fn is_right<H: Hold<Readback>>(alloc: Global, cache: &mut H) -> bool {
+        let first = reads_back(alloc, cache);
+        let again = reads_back(alloc, cache);
+        first && again
+    }
+}
+
+impl Called for AddsAndGets {
+    fn is_right<H: Hold<AddsAndGets>>(alloc: Global, cache: &mut H) -> bool {
+        adds_and_gets(alloc, cache)
+    }
+}
+
+/// Whether the calls of a function are right in a cache of one owner, which then has this many entries.
+fn is_right_in_a_cache<M: Called>(alloc: Global, len: usize) -> bool {
+    let mut cache: CacheData<M> = CacheData::new(alloc);
+    M::is_right(alloc, &mut cache) && cache.len() == len
+}
+
+/// Whether the calls of a function are right through a share of a cache.
+fn is_right_in_a_share<M: Called, W: Wait>(rt: &W, alloc: Global) -> bool {
+    let cache: Cache<M> = Cache::new(alloc);
+    M::is_right(alloc, &mut cache.hold(rt))
+}
+
+/// Whether `Twice` is late, in a cache of one owner, which stays empty.
+fn twice_is_not_kept<B: Hold<Bump>>(alloc: Global, bumps: &mut Bumps<B>) -> bool {
+    let mut twice: CacheData<Twice<B>> = CacheData::new(alloc);
+    bumps_twice(alloc, &mut twice, bumps) && twice.len() == 0
+}
+
+/// Whether `Twice` is late, through a share of its cache.
+fn twice_is_late_in_a_share<B: Hold<Bump>, W: Wait>(
+    rt: &W,
+    alloc: Global,
+    bumps: &mut Bumps<B>,
+) -> bool {
+    let twice: Cache<Twice<B>> = Cache::new(alloc);
+    bumps_twice(alloc, &mut twice.hold(rt), bumps)
 }
 
 /// What `Twice` needs, with an empty cache of `Bump`.
@@ -79,49 +117,12 @@ fn new_bumps(alloc: Global) -> Bumps<CacheData<Bump>> {
     }
 }
 
-/// Whether `Twice` is late, in a cache of one owner, which stays empty.
-fn twice_is_not_kept(alloc: Global, bumps: &mut Bumps<CacheData<Bump>>) -> bool {
-    let mut twice = CacheData::new(alloc);
-    bumps_twice(alloc, &mut twice, bumps) && twice.len() == 0
-}
-
 /// Whether `Bump` is stored, and `Twice` is not, in caches of one owner.
 fn bump_alone_is_kept(alloc: Global) -> bool {
     let mut bumps = new_bumps(alloc);
-    let are_kept = bumps_are_kept(alloc, &mut bumps.cache);
+    let are_kept = Bump::is_right(alloc, &mut bumps.cache);
     let is_late = twice_is_not_kept(alloc, &mut bumps);
     are_kept && is_late && bumps.cache.len() == 2
-}
-
-/// Whether calls of `Bump` have the right results through a share of a cache.
-fn bumps_through_a_share<W: Wait>(rt: &W, alloc: Global) -> bool {
-    let cache = Cache::new(alloc);
-    bumps_are_kept(alloc, &mut cache.hold(rt))
-}
-
-/// Whether `Readback` is late each time through a share of a cache.
-fn reads_back_through_a_share<W: Wait>(rt: &W, alloc: Global) -> bool {
-    let cache = Cache::new(alloc);
-    let held = &mut cache.hold(rt);
-    let first = reads_back(alloc, held);
-    let again = reads_back(alloc, held);
-    first && again
-}
-
-/// Whether `AddsAndGets` is stored through a share of a cache.
-fn adds_through_a_share<W: Wait>(rt: &W, alloc: Global) -> bool {
-    let cache = Cache::new(alloc);
-    adds_and_gets(alloc, &mut cache.hold(rt))
-}
-
-/// Whether a call of `Twice` is late through a share of its cache.
-fn is_late_through_a_share<W: Wait>(
-    rt: &W,
-    alloc: Global,
-    bumps: &mut Bumps<CacheData<Bump>>,
-) -> bool {
-    let cache = Cache::new(alloc);
-    bumps_twice(alloc, &mut cache.hold(rt), bumps)
 }
 
 /// Whether a call of `Twice` is late through a share of its cache, with both of its calls of `Bump` cached.
@@ -130,17 +131,17 @@ fn bumps_twice_through_a_share<W: Wait>(rt: &W, alloc: Global) -> bool {
     let mut counter = Counter { number: 0 };
     let first = bumps(alloc, &mut needs.cache, &mut counter, How::Stored);
     let second = bumps(alloc, &mut needs.cache, &mut counter, How::Stored);
-    let is_late = is_late_through_a_share(rt, alloc, &mut needs);
+    let is_late = twice_is_late_in_a_share(rt, alloc, &mut needs);
     first && second && is_late
 }
 
 /// Whether runs that read what they wrote are late, in caches of both kinds.
 pub(crate) fn late_runs<W: Wait>(rt: &W, alloc: Global) -> bool {
-    readback_is_not_kept(alloc)
-        && adding_is_kept(alloc)
+    is_right_in_a_cache::<Readback>(alloc, 0)
+        && is_right_in_a_cache::<AddsAndGets>(alloc, 1)
         && bump_alone_is_kept(alloc)
-        && bumps_through_a_share(rt, alloc)
-        && reads_back_through_a_share(rt, alloc)
-        && adds_through_a_share(rt, alloc)
+        && is_right_in_a_share::<Bump, W>(rt, alloc)
+        && is_right_in_a_share::<Readback, W>(rt, alloc)
+        && is_right_in_a_share::<AddsAndGets, W>(rt, alloc)
         && bumps_twice_through_a_share(rt, alloc)
 }

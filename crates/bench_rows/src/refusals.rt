@@ -4,6 +4,7 @@ ghost use Rattle.std.proofs.Common.{rules};
 ghost use Rattle.comemo.specs.MeaningLaws.{exact_laws};
 
 use crate::broken::Broken;
+use crate::calls::how_of;
 use crate::place::{Place, PlaceAnswer, PlaceCall};
 use crate::places::{AnySaid, contextual, expected_at, recorded};
 use crate::tally::Tally;
@@ -123,13 +124,7 @@ fn note(
     let mut sink = Constraint::new(alloc);
     let reply = memoized_mut_with(alloc, cache, &mut (), 5, book, &mut sink, true);
     let is_whole = sink.is_whole();
-    match reply {
-        Ok(reply) => {
-            tally.hold(reply.output == 5);
-            (Ok(reply.how), is_whole, sent(sink))
-        }
-        Err(fault) => (Err(fault), is_whole, sent(sink)),
-    }
+    (how_of(tally, reply, 5), is_whole, sent(sink))
 }
 
 /// An empty book, with room for this many lines, one of which fails once.

@@ -5,6 +5,7 @@ ghost use Rattle.comemo.specs.MeaningLaws.{exact_laws, writing_laws};
 
 use crate::ages::age_all;
 use crate::broken::Broken;
+use crate::calls::how_of;
 use crate::tally::Tally;
 use comemo::{CacheData, Constraint, Fault, Function, How, RecorderMut, RunMut, memoized_mut_with};
 use comemo_examples::{Counter, CounterCall, Emitter, EmitterCall};
@@ -70,15 +71,45 @@ fn recorded(sink: Constraint<EmitterCall, ()>, parts: &[u8]) -> Option<usize> {
     Some(writes.len())
 }
 
-/// Emits texts, each followed by `1`, and checks the results.
+/// Emits three texts, each followed by `1`, and checks the results.
 #[derive(Drop)]
 struct Emitting {
     cache: CacheData<Dump>,
     emitter: Emitter,
+    // The age of each text's entry.
+    ages: [Option<usize>; 3],
     tally: Tally,
 }
 
 impl Emitting {
+    /// Nothing is emitted yet.
+    fn new(alloc: Global) -> Emitting {
+        Emitting {
+            cache: CacheData::new(alloc),
+            emitter: Emitter::new(alloc),
+            ages: [None, None, None],
+            tally: Tally::new(),
+        }
+    }
+
+    /// Evicts with a bound, and checks the number of entries.
+    fn evict(&mut self, max_age: usize) {
+        self.cache.evict(max_age);
+        let count = age_all(&mut self.ages, max_age);
+        self.tally.hold(self.cache.len() == count);
+    }
+
+    /// Emits texts, each after an eviction that drops none: which of the three, the text, and what is emitted.
+    fn emit_each(&mut self, alloc: Global, calls: &[(usize, &str, &str)]) {
+        for (place, name, parts) in calls {
+            self.evict(9);
+            if *place < 3 {
+                let kept = self.ages[*place];
+                self.ages[*place] = self.emit(alloc, *name, parts.as_bytes(), kept);
+            }
+        }
+    }
+
     /// Emits a text of one byte, and then `1`. Checks the result, given the entry's age, and returns the age
     /// afterwards.
     ///
@@ -110,10 +141,7 @@ impl Emitting {
         let is_whole = sink.is_whole();
         let sent = recorded(sink, parts);
         let grown = grown_by(self.emitter.text(), before, parts);
-        let went = match reply {
-            Ok(reply) => Ok(reply.how),
-            Err(fault) => Err(fault),
-        };
+        let went = how_of(&mut self.tally, reply, ());
         self.note(kept, went, is_whole, (grown, sent), parts.len())
     }
 
@@ -149,42 +177,21 @@ impl Emitting {
     }
 }
 
-/// Evicts with a bound, and checks the number of entries, whose ages it raises.
-fn evict(
-    cache: &mut CacheData<Dump>,
-    tally: &mut Tally,
-    ages: &mut [Option<usize>],
-    max_age: usize,
-) {
-    cache.evict(max_age);
-    let count = age_all(ages, max_age);
-    tally.hold(cache.len() == count);
-}
-
 /// Whether a hit emits again what its run emitted.
 fn a_hit_emits_again(alloc: Global) -> Result<bool, Broken> {
-    let mut emitting = Emitting {
-        cache: CacheData::new(alloc),
-        emitter: Emitter::new(alloc),
-        tally: Tally::new(),
-    };
-    let mut ages = [None, None, None];
-    // Which of the three texts, the text, and what is emitted.
-    let calls: &[(usize, &str, &str)] = &[
-        (0, "a", "a1"),
-        (1, "b", "b1"),
-        (2, "c", "c1"),
-        (0, "a", "a1"),
-        (1, "b", "b1"),
-    ];
-    for (place, name, parts) in calls {
-        evict(&mut emitting.cache, &mut emitting.tally, &mut ages, 9);
-        if *place < 3 {
-            ages[*place] = emitting.emit(alloc, *name, parts.as_bytes(), ages[*place]);
-        }
-    }
+    let mut emitting = Emitting::new(alloc);
+    emitting.emit_each(
+        alloc,
+        &[
+            (0, "a", "a1"),
+            (1, "b", "b1"),
+            (2, "c", "c1"),
+            (0, "a", "a1"),
+            (1, "b", "b1"),
+        ],
+    );
     // Of the first two, the entry that no hit has touched since its run is dropped now.
-    evict(&mut emitting.cache, &mut emitting.tally, &mut ages, 3);
+    emitting.evict(3);
     let is_so = emitting.emitter.text() == "a1b1c1a1b1";
     emitting.tally.hold_if_ample(is_so);
     emitting.tally.came_to()
@@ -272,10 +279,7 @@ fn add_by_another(
     let mut sink = Constraint::new(alloc);
     let reply = memoized_mut_with(alloc, cache, inner, number, &mut counter, &mut sink, true);
     let is_whole = sink.is_whole();
-    let went = match reply {
-        Ok(reply) => Ok(reply.how),
-        Err(fault) => Err(fault),
-    };
+    let went = how_of(tally, reply, ());
     // A failing run may have added already.
     let is_added = counter.number == 3;
     tally.hold(is_added || went.is_err() && counter.number == 0);

@@ -68,6 +68,17 @@ fn empty_by<H: Hold<Empty>, G: Gate>(
     }
 }
 
+/// The same through a share of a cache.
+fn empty_in<R: Wait, G: Gate>(
+    rt: &R,
+    alloc: Global,
+    cache: &Cache<Empty>,
+    question: ContextCall,
+    gate: &G,
+) -> Ran {
+    empty_by(alloc, &mut cache.hold(rt), question, gate)
+}
+
 /// Whether of two runs one was stored, the other got `MissingCall`, and both returned the empty text.
 fn is_one_stored(left: Ran, right: Ran) -> bool {
     let (Ok(Some(left)), Ok(Some(right))) = (left, right) else {
@@ -91,8 +102,8 @@ pub fn two_runs_that_ask_other_questions<R: Threads + Wait + Clock + Sync>(
     let gate = Meeting::new(rt, 2, TURNS);
     let (left, right) = join(
         rt,
-        || empty_by(alloc, &mut cache.hold(rt), ContextCall::Location, &gate),
-        || empty_by(alloc, &mut cache.hold(rt), ContextCall::Styles, &gate),
+        || empty_in(rt, alloc, &cache, ContextCall::Location, &gate),
+        || empty_in(rt, alloc, &cache, ContextCall::Styles, &gate),
     );
     is_one_stored(left, right)
 }

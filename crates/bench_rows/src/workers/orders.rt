@@ -72,6 +72,20 @@ fn whole_by<H: Hold<Whole>, G: Gate>(
     }
 }
 
+/// The same through a share of a cache.
+fn whole_in<R: Wait, G: Gate>(
+    rt: &R,
+    alloc: Global,
+    cache: &Cache<Whole>,
+    first: ContextCall,
+    second: ContextCall,
+    gate: &G,
+) -> Result<Option<Reply<()>>, Fault>
+    requires { first ≢ second }
+{
+    whole_by(alloc, &mut cache.hold(rt), first, second, gate)
+}
+
 /// Whether of two simultaneous runs that ask the same questions in different orders one is stored, and the other gets
 /// `AlreadyExists`.
 pub fn two_runs_that_ask_in_turned_order<R: Threads + Wait + Clock + Sync>(
@@ -82,27 +96,29 @@ pub fn two_runs_that_ask_in_turned_order<R: Threads + Wait + Clock + Sync>(
     let gate = Meeting::new(rt, 2, TURNS);
     let (left, right) = join(
         rt,
-        || whole_by(
+        || whole_in(
+            rt,
             alloc,
-            &mut cache.hold(rt),
+            &cache,
             ContextCall::Location,
             ContextCall::Styles,
             &gate,
         ),
-        || whole_by(
+        || whole_in(
+            rt,
             alloc,
-            &mut cache.hold(rt),
+            &cache,
             ContextCall::Styles,
             ContextCall::Location,
             &gate,
         ),
     );
-    let (Ok(Some(left)), Ok(Some(right))) = (left, right) else {
-        return false;
-    };
-    match left.how {
-        How::Stored => right.how == How::AlreadyExists,
-        How::AlreadyExists => right.how == How::Stored,
+    match (left, right) {
+        (Ok(Some(left)), Ok(Some(right))) => match left.how {
+            How::Stored => right.how == How::AlreadyExists,
+            How::AlreadyExists => right.how == How::Stored,
+            _ => false,
+        },
         _ => false,
     }
 }
