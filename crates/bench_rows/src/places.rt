@@ -97,28 +97,42 @@ pub(crate) fn expected_at(alloc: Global, location: u64) -> Result<String, AllocE
     }
 }
 
+/// Whether a pair is a location with this answer.
+fn is_location(pair: &(PlaceCall, PlaceAnswer), location: u64) -> bool {
+    match pair {
+        (PlaceCall::Location, PlaceAnswer::At(at)) => *at == location,
+        _ => false,
+    }
+}
+
+/// Whether a pair is the styles with their answer.
+fn are_styles(pair: &(PlaceCall, PlaceAnswer)) -> bool {
+    match pair {
+        (PlaceCall::Styles, PlaceAnswer::Set(styles)) => styles.as_str() == "styles",
+        _ => false,
+    }
+}
+
+/// The number of pairs that are a prefix of what a run at a location asks; `None` if they aren't.
+fn count_of(pairs: &[Option<(PlaceCall, PlaceAnswer)>], location: u64) -> Option<u64> {
+    match pairs {
+        [] => Some(0),
+        [Some(first)] if is_location(first, location) => Some(1),
+        [Some(first), Some(second)] => {
+            let is_run = location == 5 && is_location(first, location) && are_styles(second);
+            if is_run { Some(2) } else { None }
+        }
+        _ => None,
+    }
+}
+
 /// The length of a recording that is a prefix of what a run at a location asks; `None` if it isn't.
 pub(crate) fn recorded(sink: Constraint<PlaceCall, PlaceAnswer>, location: u64) -> Option<u64> {
-    let (mut reads, writes) = sink.into_parts();
-    if !writes.is_empty() {
-        return None;
-    }
-    match reads.next() {
-        None => return Some(0),
-        Some((PlaceCall::Location, PlaceAnswer::At(at))) if at == location => {}
-        Some(_) => return None,
-    }
-    match reads.next() {
-        None => Some(1),
-        Some((PlaceCall::Styles, PlaceAnswer::Set(styles))) => {
-            let is_whole = styles.as_str() == "styles" && reads.next().is_none();
-            if is_whole && location == 5 {
-                Some(2)
-            } else {
-                None
-            }
-        }
-        Some(_) => None,
+    let (reads, writes) = sink.into_parts();
+    if writes.is_empty() {
+        count_of(reads.slots(), location)
+    } else {
+        None
     }
 }
 

@@ -6,7 +6,7 @@ use crate::tally::Tally;
 use comemo::internal::CallSequence;
 use comemo::{Constraint, Sink, Track};
 use comemo_examples::{Context, ContextCall};
-use std::alloc::Global;
+use std::alloc::{AllocError, Global};
 
 /// Which of two reads and a write a recording took.
 #[derive(Clone, Copy, Drop)]
@@ -125,26 +125,38 @@ fn what_is_absorbed_finds_room(alloc: Global, tally: &mut Tally) {
     tally.hold(reads.slots().len() == own.saturating_add(held));
 }
 
-/// Checks that a recording of a location is valid only there, and an empty one everywhere.
-fn recordings_hold_where_answers_are_the_same(alloc: Global, tally: &mut Tally) {
+/// Whether a recording is valid at a location.
+fn is_valid_at(
+    recording: &Constraint<ContextCall, u64>,
+    location: u64,
+) -> Result<bool, AllocError> {
+    recording.validate(&Context {
+        location,
+        styles: 5,
+    })
+}
+
+/// Records the location 0, and returns whether the recording took it.
+fn record_location(alloc: Global, recording: &mut Constraint<ContextCall, u64>) -> bool {
     let here = Context {
         location: 0,
         styles: 5,
     };
-    let there = Context {
-        location: 1,
-        styles: 5,
-    };
-    let mut location = Constraint::new(alloc);
-    let asked = here.track(alloc).ask(ContextCall::Location, &mut location);
-    if asked.is_err() {
+    let mut view = here.track(alloc);
+    view.ask(ContextCall::Location, recording).is_ok()
+}
+
+/// Checks that a recording of a location is valid only there, and an empty one everywhere.
+fn recordings_hold_where_answers_are_the_same(alloc: Global, tally: &mut Tally) {
+    let mut recording = Constraint::new(alloc);
+    tally.hold(is_valid_at(&recording, 0) == Ok(true));
+    tally.hold(is_valid_at(&recording, 1) == Ok(true));
+    let is_recorded = record_location(alloc, &mut recording);
+    if !is_recorded {
         tally.refuse();
     }
-    tally.hold(location.validate(&here) == Ok(true));
-    tally.hold(location.validate(&there) == Ok(asked.is_err()));
-    let nothing: Constraint<ContextCall, u64> = Constraint::new(alloc);
-    tally.hold(nothing.validate(&here) == Ok(true));
-    tally.hold(nothing.validate(&there) == Ok(true));
+    tally.hold(is_valid_at(&recording, 0) == Ok(true));
+    tally.hold(is_valid_at(&recording, 1) == Ok(!is_recorded));
 }
 
 /// Whether recordings absorb others in order, and are valid where the answers are the same.

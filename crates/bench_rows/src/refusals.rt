@@ -137,6 +137,21 @@ fn book_of(alloc: Global, room: usize, refuses_after: Option<usize>) -> Result<B
     })
 }
 
+/// Checks a call that hits after another hit did the first write and failed at the second.
+fn goes_on(alloc: Global, cache: &mut CacheData<NotesThree>, tally: &mut Tally, book: &mut Book) {
+    let (went, is_whole, sent) = note(alloc, cache, tally, book);
+    let is_kept = tally.call(true, went, is_whole);
+    cache.evict(1);
+    let lines = book.lines.as_slice();
+    if went.is_ok() {
+        tally.hold(lines == [1, 1, 2, 3].as_slice() && sent == Some(3));
+        tally.hold(is_kept && cache.len() == 1);
+    } else {
+        tally.hold(lines == [1].as_slice() && sent == Some(0));
+        tally.hold(cache.len() == 0);
+    }
+}
+
 /// Checks a hit whose second write fails, and then the same call again. Before, the entry has age 1.
 fn is_stopped_and_goes_on(
     alloc: Global,
@@ -145,27 +160,17 @@ fn is_stopped_and_goes_on(
     book: &mut Book,
 ) {
     let (went, is_whole, sent) = note(alloc, cache, tally, book);
-    if went != Err(Fault::Write) {
-        let is_kept = tally.call(true, went, is_whole);
-        tally.hold(is_kept && went.is_err() && book.lines.is_empty() && sent == Some(0));
-        cache.evict(1);
-        tally.hold(cache.len() == 0);
+    cache.evict(1);
+    if went == Err(Fault::Write) {
+        tally.hold(!is_whole && sent == Some(1));
+        tally.hold(book.lines.as_slice() == [1].as_slice());
+        tally.hold(cache.len() == 1);
+        goes_on(alloc, cache, tally, book);
         return;
     }
-    tally.hold(!is_whole && sent == Some(1));
-    tally.hold(book.lines.as_slice() == [1].as_slice());
-    cache.evict(1);
-    tally.hold(cache.len() == 1);
-    let (went, is_whole, sent) = note(alloc, cache, tally, book);
     let is_kept = tally.call(true, went, is_whole);
-    cache.evict(1);
-    if went.is_ok() {
-        tally.hold(book.lines.as_slice() == [1, 1, 2, 3].as_slice() && sent == Some(3));
-        tally.hold(is_kept && cache.len() == 1);
-    } else {
-        tally.hold(book.lines.as_slice() == [1].as_slice() && sent == Some(0));
-        tally.hold(cache.len() == 0);
-    }
+    tally.hold(is_kept && went.is_err() && book.lines.is_empty() && sent == Some(0));
+    tally.hold(cache.len() == 0);
 }
 
 /// Whether a hit with a failing write reports it, does the writes before it, and resets the age; and whether the same

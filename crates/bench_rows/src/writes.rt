@@ -56,19 +56,26 @@ fn grown_by(text: &str, before: usize, parts: &[u8]) -> Option<usize> {
     None
 }
 
-/// The length of a recording that is a prefix of these parts, one byte each; `None` if it isn't, or has reads.
-fn recorded(sink: Constraint<EmitterCall, ()>, parts: &[u8]) -> Option<usize> {
-    let (mut reads, writes) = sink.into_parts();
-    if reads.next().is_some() || writes.len() > parts.len() {
-        return None;
-    }
+/// Whether writes emit a prefix of these parts, one byte each.
+fn are_emitted(writes: &[EmitterCall], parts: &[u8]) -> bool {
     for (write, part) in writes.iter().zip(parts) {
         let EmitterCall::Emit(text) = write;
         if text.as_bytes() != [*part].as_slice() {
-            return None;
+            return false;
         }
     }
-    Some(writes.len())
+    writes.len() <= parts.len()
+}
+
+/// The length of a recording that is a prefix of these parts, one byte each; `None` if it isn't, or has reads.
+fn recorded(sink: Constraint<EmitterCall, ()>, parts: &[u8]) -> Option<usize> {
+    let (mut reads, writes) = sink.into_parts();
+    let is_prefix = are_emitted(writes.as_slice(), parts);
+    if reads.next().is_none() && is_prefix {
+        Some(writes.len())
+    } else {
+        None
+    }
 }
 
 /// Emits three texts, each followed by `1`, and checks the results.
