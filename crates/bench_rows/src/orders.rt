@@ -47,43 +47,70 @@ fn text_at(
     }
 }
 
-/// A call of the function: the location, the reads of a run, the text, how it came about, and the number of entries
-/// afterwards.
-type Call<'a> = (u64, &'a [PlaceCall], &'a str, How, usize);
-
-/// Whether a call has these results.
-fn holds(alloc: Global, cache: &mut CacheData<AnySaid>, call: &Call<'_>) -> bool {
-    let (location, reads, text, how, kept) = *call;
+/// Whether the call at a location, whose run asks these reads, returns this text, came about like this, and leaves this
+/// many entries.
+fn says(
+    alloc: Global,
+    cache: &mut CacheData<AnySaid>,
+    location: u64,
+    reads: &[PlaceCall],
+    text: &str,
+    how: How,
+    kept: usize,
+) -> bool {
     let Ok(place) = Place::at(alloc, location) else {
         return false;
     };
     gives_text(text_at(alloc, cache, &place, reads), text, how) && cache.len() == kept
 }
 
-/// Whether calls in a new cache have these results.
-fn hold(alloc: Global, calls: &[Call<'_>]) -> bool {
+/// Whether a run that lacks a stored read is not stored.
+fn a_run_that_lacks_a_read(alloc: Global) -> bool {
+    let location: &[PlaceCall] = &[PlaceCall::Location];
+    let styles: &[PlaceCall] = &[PlaceCall::Styles];
     let mut cache = CacheData::new(alloc);
-    for call in calls {
-        if !holds(alloc, &mut cache, call) {
-            return false;
-        }
-    }
-    true
+    let first = says(alloc, &mut cache, 0, location, "Some(0)", How::Stored, 1);
+    let other = says(
+        alloc,
+        &mut cache,
+        1,
+        styles,
+        "None styles",
+        How::MissingCall,
+        1,
+    );
+    first && other
+}
+
+/// Whether a run that asks in another order takes the same path.
+fn a_run_that_turns_the_order(alloc: Global) -> bool {
+    let in_order: &[PlaceCall] = &[PlaceCall::Location, PlaceCall::Styles];
+    let turned: &[PlaceCall] = &[PlaceCall::Styles, PlaceCall::Location];
+    let mut cache = CacheData::new(alloc);
+    let first = says(
+        alloc,
+        &mut cache,
+        0,
+        in_order,
+        "Some(0) styles",
+        How::Stored,
+        1,
+    );
+    let again = says(alloc, &mut cache, 0, turned, "Some(0) styles", How::Hit, 1);
+    let other = says(
+        alloc,
+        &mut cache,
+        1,
+        turned,
+        "Some(1) styles",
+        How::Stored,
+        2,
+    );
+    let hit = says(alloc, &mut cache, 1, turned, "Some(1) styles", How::Hit, 2);
+    first && again && other && hit
 }
 
 /// Whether a run that lacks a stored read is not stored, and one that asks in another order takes the same path.
 pub(crate) fn runs_in_another_order(alloc: Global) -> bool {
-    let in_order: &[PlaceCall] = &[PlaceCall::Location, PlaceCall::Styles];
-    let turned: &[PlaceCall] = &[PlaceCall::Styles, PlaceCall::Location];
-    let lacking: &[Call<'_>] = &[
-        (0, &[PlaceCall::Location], "Some(0)", How::Stored, 1),
-        (1, &[PlaceCall::Styles], "None styles", How::MissingCall, 1),
-    ];
-    let ordered: &[Call<'_>] = &[
-        (0, in_order, "Some(0) styles", How::Stored, 1),
-        (0, turned, "Some(0) styles", How::Hit, 1),
-        (1, turned, "Some(1) styles", How::Stored, 2),
-        (1, turned, "Some(1) styles", How::Hit, 2),
-    ];
-    hold(alloc, lacking) && hold(alloc, ordered)
+    a_run_that_lacks_a_read(alloc) && a_run_that_turns_the_order(alloc)
 }
