@@ -87,10 +87,15 @@ fn is_right_in_a_cache<M: Called>(alloc: Global, len: usize) -> bool {
     M::is_right(alloc, &mut cache) && cache.len() == len
 }
 
-/// Whether the calls of a function are right through a share of a cache.
+/// Whether the calls of a function are right through a share of this cache.
+fn is_right_through<'x, M: Called, W: Wait>(rt: &'x W, alloc: Global, cache: &'x Cache<M>) -> bool {
+    M::is_right(alloc, &mut cache.hold(rt))
+}
+
+/// Whether the calls of a function are right through a share of a new cache.
 fn is_right_in_a_share<M: Called, W: Wait>(rt: &W, alloc: Global) -> bool {
     let cache: Cache<M> = Cache::new(alloc);
-    M::is_right(alloc, &mut cache.hold(rt))
+    is_right_through(rt, alloc, &cache)
 }
 
 /// Whether `Twice` is late, in a cache of one owner, which stays empty.
