@@ -1,5 +1,5 @@
-//! Consecutive calls: what a stored call implies for the next one, proved from the contract of `memoized_with` alone. For
-//! a value that changed between the calls `call_evict_call` of `comemo_theorems` proves it.
+//! Consecutive calls: what a stored call implies for the next one, proved from the contract of `memoized_with` alone.
+//! `comemo_theorems` has what holds of a value that changed between the calls.
 ghost use Rattle.std.specs.Prelude.{◌≡◌, IfOk};
 ghost use Rattle.std.proofs.Common.{rules};
 ghost use Rattle.comemo.specs.Function.{WritesNone};
