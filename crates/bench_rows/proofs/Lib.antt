@@ -1,2 +1,1 @@
-pub mod Before
 pub mod Absorbing

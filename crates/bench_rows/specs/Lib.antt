@@ -1,4 +1,3 @@
-pub mod Fibonacci
 pub mod Started
 pub mod PlaceAnswers
 pub mod Emitting

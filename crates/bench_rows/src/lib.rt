@@ -27,7 +27,6 @@ mod calls;
 mod chains;
 mod comparison;
 mod exact;
-mod fibonacci;
 mod hashes;
 mod late;
 mod limits;

@@ -1,10 +1,10 @@
 //! The row of functions of numbers.
 
 use crate::calls::{comes_to, gives};
-use crate::fibonacci::{Fibonacci, numbered};
 use comemo::{CacheData, Constraint, How, Top, memoized_with};
 use comemo_examples::double::Double;
 use comemo_examples::numbers::{Identity, Sum};
+use comemo_theorems::fibonacci::{Fibonacci, numbered};
 use std::alloc::Global;
 
 /// Whether a number is doubled once.

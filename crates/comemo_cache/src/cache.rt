@@ -396,8 +396,9 @@ impl<M: Function> CacheData<M> {
         self.tree.reveal_tree();
     }
 
-    /// Makes the tree's invariant known to a proof.
-    pub(crate) fn reveal_tree(&self)
+    /// Makes known to a proof that two paths under one key part, so that at most one entry agrees. Does nothing at run
+    /// time.
+    pub fn reveal_tree(&self)
         ensures { IsTree M.Call.eq M.Answer.eq M.Key.eq self.now }
     {
         // For the proof: at most one stored path agrees.

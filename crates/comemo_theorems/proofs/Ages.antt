@@ -1,26 +1,29 @@
 -- At most one entry agrees with given answers, so a hit touches the entry that a run was stored in.
-use Rattle.std.proofs.Common.{◌≡◌, ◌+◌, ◌≤◌, ◌<◌, ℕ, Bool, true, false, cond, List, [], ◌∷◌, IsTrue, get_or, map, refl, sym, subst, inl, inr, arith}
-use Rattle.std.proofs.lemmas.Bool.{cases_Bool, lt-ltb}
+use Rattle.std.proofs.Common.{◌≡◌, ◌+◌, ◌≤◌, ℕ, Bool, true, false, cond, List, [], ◌∷◌, IsTrue, get_or, map, refl, sym, subst, inl, inr, arith, ◌≢◌, ◌⊎◌, suc, length, ◌<◌}
+use Rattle.std.proofs.lemmas.Bool.{cases_Bool}
 use Rattle.std.proofs.lemmas.List.Sums.{sum_by-cons}
 use Rattle.std.proofs.lemmas.List.Elements.{All-head, All-tail}
 use Rattle.std.proofs.lemmas.List.Sorted.{IsPermutation-sym, sum_by-IsPermutation}
 use Rattle.std.specs.Prelude.{nat_lt}
 use Rattle.std.specs.List.{All, Any, filter, sum_by}
 use Rattle.comemo_base.specs.Answers.{Respects, Agrees}
-use Rattle.comemo_base.specs.Tree.{Stored, stored}
+use Rattle.comemo_base.specs.Tree.{Stored, stored, Parts, IsTree}
 use Rattle.comemo_base.specs.Lookup.{under}
+use Rattle.comemo_base.proofs.Runs.{Parts-agreeing}
 use Rattle.comemo_base.proofs.Paths.{joined, turned}
-use Rattle.comemo_base.proofs.Under.{Any-here, Any-later, Any-split, Any-weaker, Any-filter}
+use Rattle.comemo_base.proofs.Under.{Any-here, Any-split, Any-weaker}
 use Rattle.comemo_cache.specs.Meaning.{Meaning, Invocation, Run}
-use Rattle.comemo_cache.specs.Cache.{Kept, Entries, Evicts, young, older, aged}
+use Rattle.comemo_cache.specs.Cache.{Kept, Entries, young, older, aged}
 use Rattle.comemo_cache.specs.Storing.{Stores}
 use Rattle.comemo.specs.Finish.{Ends}
 use Rattle.comemo.specs.declared.pending.How.{How}
 use Rattle.comemo.specs.declared.pending.How.TheVariants as how
-use Rattle.comemo_theorems.specs.History.{Step, found, touched, missed, ended, evicted, Does, History, Answers, Fair, Survives, IsLawful}
+use Rattle.comemo_theorems.specs.History.{Step, found, touched, missed, ended, evicted, Does, History, Answers, Honest, Outlives}
 use Rattle.comemo_theorems.specs.Statements.{HitsUntilOld}
-use Rattle.comemo_theorems.proofs.Plain.{any_permutation, any_map, agrees_stored, agrees_back}
-use Rattle.comemo_theorems.proofs.Theorems.{others_part, not_none}
+use Rattle.comemo_theorems.proofs.Lawful.{IsLawful}
+use Rattle.comemo_theorems.proofs.Plain.{any_permutation, agrees_stored, agrees_back}
+use Rattle.comemo_theorems.proofs.Steps.{Own, Aged, aged_same, aged_young, aged_ended, aged_touched, aged_evicted}
+use Rattle.comemo_theorems.proofs.Again.{OfEntry, others_part, not_none}
 
 module _ {X : Type 0} (t : X → Bool) where
   one : X → ℕ
@@ -135,105 +138,89 @@ module _ {K C R O : Type 0} (M : Meaning K C R O) (laws : IsLawful M) where
   unfolding one matches
   one_older key m e = refl
 
-  unique_step : (s : Step K C R O) (es es' : Entries K C R O) → Fair M s → Does M s es es' → Unique es → Unique es'
-  unique_step (found call ran) es es' fair does u = unique_same es es' does.1 u
-  unique_step (touched call) es es' fair (inl t) u = λ key m respects.
+  unique_step : (s : Step K C R O) (es es' : Entries K C R O) → Honest M s → Does M s es es' → Unique es → Unique es'
+  unique_step (found call ran) es es' honest does u = unique_same es es' does.1 u
+  unique_step (touched call) es es' honest (inl t) u = λ key m respects.
       let f = one (matches key m) in
       omega (arith, u key m respects, sum_by-IsPermutation f (t.entry ∷ t.others) es t.before, sum_by-IsPermutation f (young t.entry ∷ t.others) es' t.after, sum_by-cons f t.entry t.others, sum_by-cons f (young t.entry) t.others, one_young key m t.entry)
-  unique_step (touched call) es es' fair (inr none) u = unique_same es es' none.1 u
-  unique_step (missed call) es es' fair does u = unique_same es es' does.1 u
-  unique_step (ended call ran h) es es' fair does u = unique_ended call ran h es es' fair does u
-  unique_step (evicted bound) es es' fair does u = λ key m respects.
+  unique_step (touched call) es es' honest (inr none) u = unique_same es es' none.1 u
+  unique_step (missed call) es es' honest does u = unique_same es es' does.1 u
+  unique_step (ended call ran h) es es' honest does u = unique_ended call ran h es es' honest does u
+  unique_step (evicted bound) es es' honest does u = λ key m respects.
       let t = matches key m in
       let test : Stored K C R (Kept O C) → Bool = λ e. nat_lt e.value.age bound in
       omega (arith, u key m respects, sum_by-IsPermutation (one t) (aged bound es) es' does, map_sum t older (one_older key m) (filter test es), filter_sum t test es)
 
-  unique_after : (h : List (Step K C R O)) (es es' : Entries K C R O) → All (Fair M) h → History M h es es' → Unique es → Unique es'
-  unique_after [] es es' fair is u = unique_same es es' is u
-  unique_after (s ∷ h) es es' fair (mid, does, rest) u = unique_after h mid es' (All-tail (Fair M) s h fair) rest (unique_step s es mid (All-head (Fair M) s h fair) does u)
+  unique_after : (h : List (Step K C R O)) (es es' : Entries K C R O) → All (Honest M) h → History M h es es' → Unique es → Unique es'
+  unique_after [] es es' honest is u = unique_same es es' is u
+  unique_after (s ∷ h) es es' honest (mid, does, rest) u = unique_after h mid es' (All-tail (Honest M) s h honest) rest (unique_step s es mid (All-head (Honest M) s h honest) does u)
 
   -- The entry that a run was stored in.
   module _ (ran : Run K C R O) where
-    abbrev Mine : Stored K C R (Kept O C) → Type 0
-    Mine e = IsTrue (M.same_key e.key ran.key) × ((m : C → R) → Respects M.same_call M.same_answer m → Agrees M.same_answer m ran.pairs → Agrees M.same_answer m e.path)
+    -- a key that the run's key equals, and a path that agrees with what the run's pairs agree with
+    abbrev Mine : K → List (C × R) → Type 0
+    Mine own path = IsTrue (M.same_key own ran.key) × ((m : C → R) → Respects M.same_call M.same_answer m → Agrees M.same_answer m ran.pairs → Agrees M.same_answer m path)
 
-    abbrev Aged : ℕ → Stored K C R (Kept O C) → Type 0
-    Aged age e = Mine e × (e.value.age ≤ age)
-
-    mine_of : (call : Invocation K C R) (e : Stored K C R (Kept O C)) → Answers M call ran → Mine e → IsTrue (M.same_key e.key call.key) × Agrees M.same_answer call.answers e.path
+    mine_of : (call : Invocation K C R) (e : Stored K C R (Kept O C)) → Answers M call ran → Own M Mine e → OfEntry M laws call.key call.answers e
     mine_of call e is mine = (joined laws.keys e.key ran.key call.key mine.0 (turned laws.keys call.key ran.key is.has_key), mine.1 call.answers is.alike is.agrees)
 
-    aged_same : (age : ℕ) (es es' : Entries K C R O) → es' ≡ es → Any (Aged age) es → Any (Aged age) es'
-    aged_same age es es' is some = subst (λ xs. Any (Aged age) xs) (sym is) some
-
-    aged_stored : (age : ℕ) (other : Run K C R O) (es es' : Entries K C R O) → Stores M es other es' → Any (Aged age) es → Any (Aged age) es'
-    aged_stored age other es es' stores some =
-        let x = stores.2 in
-        let e : Stored K C R (Kept O C) = stored x.adds.own x.adds.path x.kept in
-        any_permutation (Aged age) (e ∷ es) es' x.adds.entries (Any-later (Aged age) e es some)
-
-    aged_ended : (age : ℕ) (other : Run K C R O) (h : How) (es es' : Entries K C R O) → Ends M es other h es' → Any (Aged age) es → Any (Aged age) es'
-    aged_ended age other how.Hit es es' ends some = absurd ends
-    aged_ended age other how.Stored es es' ends some = aged_stored age other es es' ends some
-    aged_ended age other how.AlreadyExists es es' ends some = aged_same age es es' ends.1 some
-    aged_ended age other how.MissingCall es es' ends some = aged_same age es es' ends.2 some
-    aged_ended age other how.NotStored es es' ends some = aged_same age es es' ends some
-    aged_ended age other how.Disabled es es' ends some = aged_same age es es' ends some
-    aged_ended age other how.Late es es' ends some = aged_same age es es' ends some
-
-    aged_young : (age n : ℕ) (e : Stored K C R (Kept O C)) → Aged age e → Aged n (young e)
-    aged_young age n e a = (a.0, omega arith)
-
-    aged_touched : (age : ℕ) (call : Invocation K C R) (es es' : Entries K C R O) → Does M (touched call) es es' → Any (Aged age) es → Any (Aged age) es'
-    aged_touched age call es es' (inl t) some =
-        let P : Stored K C R (Kept O C) → Type 0 = Aged age in
-        let now = any_permutation P es (t.entry ∷ t.others) (IsPermutation-sym (t.entry ∷ t.others) es t.before) some in
-        let then : Any P (young t.entry ∷ t.others) = elim (Any-split P t.entry t.others now) [ inl here ↦ Any-here P (young t.entry) t.others (aged_young age age t.entry here) | inr later ↦ Any-later P (young t.entry) t.others later ] in
-        any_permutation P (young t.entry ∷ t.others) es' t.after then
-    aged_touched age call es es' (inr none) some = aged_same age es es' none.1 some
-
     -- a touch for a call that the run answers is of its entry
-    aged_reset : (age : ℕ) (call : Invocation K C R) (es es' : Entries K C R O) → Unique es → Answers M call ran → Does M (touched call) es es' → Any (Aged age) es → Any (Aged 0) es'
+    aged_reset : (age : ℕ) (call : Invocation K C R) (es es' : Entries K C R O) → Unique es → Answers M call ran → Does M (touched call) es es' → Any (Aged M Mine age) es → Any (Aged M Mine 0) es'
     aged_reset age call es es' u is (inl t) some =
-        let P : Stored K C R (Kept O C) → Type 0 = Aged age in
+        let P : Stored K C R (Kept O C) → Type 0 = Aged M Mine age in
         let test = matches call.key call.answers in
         let now = any_permutation P es (t.entry ∷ t.others) (IsPermutation-sym (t.entry ∷ t.others) es t.before) some in
         elim (Any-split P t.entry t.others now) [
-          | inl here ↦ any_permutation (Aged 0) (young t.entry ∷ t.others) es' t.after (Any-here (Aged 0) (young t.entry) t.others (aged_young age 0 t.entry here))
+          | inl here ↦ any_permutation (Aged M Mine 0) (young t.entry ∷ t.others) es' t.after (Any-here (Aged M Mine 0) (young t.entry) t.others (aged_young M Mine age 0 t.entry here))
           | inr later ↦
               let two = some_sum test t.others (Any-weaker P (λ e. test e ≡ true) (λ e a. let of = mine_of call e is a.0 in matches_of call.key call.answers e of.0 of.1) t.others later) in
               absurd (omega (arith, u call.key call.answers is.alike, sum_by-IsPermutation (one test) (t.entry ∷ t.others) es t.before, sum_by-cons (one test) t.entry t.others, one_yes test t.entry (matches_of call.key call.answers t.entry t.has_key t.agrees), two))
         ]
-    aged_reset age call es es' u is (inr none) some = absurd (not_none M laws es call (Any-weaker (Aged age) (λ e. IsTrue (M.same_key e.key call.key) × Agrees M.same_answer call.answers e.path) (λ e a. mine_of call e is a.0) es some) none.0)
+    aged_reset age call es es' u is (inr none) some = absurd (not_none M laws es call (Any-weaker (Aged M Mine age) (OfEntry M laws call.key call.answers) (λ e a. mine_of call e is a.0) es some) none.0)
 
-    aged_older : (age : ℕ) (e : Stored K C R (Kept O C)) → Aged age e → Aged (age + 1) (older e)
-    aged_older age e a = (a.0, omega (arith, a.1))
-
-    aged_evicted : (age bound : ℕ) (es es' : Entries K C R O) → age < bound → Evicts bound es es' → Any (Aged age) es → Any (Aged (age + 1)) es'
-    aged_evicted age bound es es' young_enough does some =
-        let test : Stored K C R (Kept O C) → Bool = λ e. nat_lt e.value.age bound in
-        let Q : Stored K C R (Kept O C) → Type 0 = λ e. Aged (age + 1) (older e) in
-        let stays : Any (λ e. IsTrue (test e) × Q e) es = Any-weaker (Aged age) (λ e. IsTrue (test e) × Q e) (λ e a. (lt-ltb e.value.age bound (omega (arith, a.1, young_enough)), aged_older age e a)) es some in
-        any_permutation (Aged (age + 1)) (aged bound es) es' does (any_map (Aged (age + 1)) older (filter test es) (Any-filter test Q es stays))
-
-    survives : (h : List (Step K C R O)) (es es' : Entries K C R O) (age : ℕ) → History M h es es' → All (Fair M) h → Survives M ran age h → Unique es → Any (Aged age) es → Any Mine es'
-    survives [] es es' age is fair lives u some = subst (λ xs. Any Mine xs) (sym is) (Any-weaker (Aged age) Mine (λ e a. a.0) es some)
-    survives (found call other ∷ h) es es' age (mid, does, rest) fair lives u some = survives h mid es' age rest (All-tail (Fair M) (found call other) h fair) lives (unique_same es mid does.1 u) (aged_same age es mid does.1 some)
-    survives (touched call ∷ h) es es' age (mid, does, rest) fair (inl lives) u some = survives h mid es' age rest (All-tail (Fair M) (touched call) h fair) lives (unique_step (touched call) es mid (All-head (Fair M) (touched call) h fair) does u) (aged_touched age call es mid does some)
-    survives (touched call ∷ h) es es' age (mid, does, rest) fair (inr reset) u some = survives h mid es' 0 rest (All-tail (Fair M) (touched call) h fair) reset.1 (unique_step (touched call) es mid (All-head (Fair M) (touched call) h fair) does u) (aged_reset age call es mid u reset.0 does some)
-    survives (missed call ∷ h) es es' age (mid, does, rest) fair lives u some = survives h mid es' age rest (All-tail (Fair M) (missed call) h fair) lives (unique_same es mid does.1 u) (aged_same age es mid does.1 some)
-    survives (ended call other end ∷ h) es es' age (mid, does, rest) fair lives u some = survives h mid es' age rest (All-tail (Fair M) (ended call other end) h fair) lives (unique_ended call other end es mid (All-head (Fair M) (ended call other end) h fair) does u) (aged_ended age other end es mid does some)
-    survives (evicted bound ∷ h) es es' age (mid, does, rest) fair lives u some = survives h mid es' (age + 1) rest (All-tail (Fair M) (evicted bound) h fair) lives.1 (unique_step (evicted bound) es mid tt does u) (aged_evicted age bound es mid lives.0 does some)
+    survives : (h : List (Step K C R O)) (es es' : Entries K C R O) (age : ℕ) → History M h es es' → All (Honest M) h → Outlives M (λ call. Answers M call ran) age h → Unique es → Any (Aged M Mine age) es → Any (Own M Mine) es'
+    survives [] es es' age is honest lives u some = subst (λ xs. Any (Own M Mine) xs) (sym is) (Any-weaker (Aged M Mine age) (Own M Mine) (λ e a. a.0) es some)
+    survives (found call other ∷ h) es es' age (mid, does, rest) honest lives u some = survives h mid es' age rest (All-tail (Honest M) (found call other) h honest) lives (unique_same es mid does.1 u) (aged_same M Mine age es mid does.1 some)
+    survives (touched call ∷ h) es es' age (mid, does, rest) honest (inl lives) u some = survives h mid es' age rest (All-tail (Honest M) (touched call) h honest) lives (unique_step (touched call) es mid (All-head (Honest M) (touched call) h honest) does u) (aged_touched M Mine age call es mid does some)
+    survives (touched call ∷ h) es es' age (mid, does, rest) honest (inr reset) u some = survives h mid es' 0 rest (All-tail (Honest M) (touched call) h honest) reset.1 (unique_step (touched call) es mid (All-head (Honest M) (touched call) h honest) does u) (aged_reset age call es mid u reset.0 does some)
+    survives (missed call ∷ h) es es' age (mid, does, rest) honest lives u some = survives h mid es' age rest (All-tail (Honest M) (missed call) h honest) lives (unique_same es mid does.1 u) (aged_same M Mine age es mid does.1 some)
+    survives (ended call other end ∷ h) es es' age (mid, does, rest) honest lives u some = survives h mid es' age rest (All-tail (Honest M) (ended call other end) h honest) lives (unique_ended call other end es mid (All-head (Honest M) (ended call other end) h honest) does u) (aged_ended M Mine age other end es mid does some)
+    survives (evicted bound ∷ h) es es' age (mid, does, rest) honest lives u some = survives h mid es' (age + 1) rest (All-tail (Honest M) (evicted bound) h honest) lives.1 (unique_step (evicted bound) es mid tt does u) (aged_evicted M Mine age bound es mid lives.0 does some)
 
   unique_none : Unique []
   unique_none = λ key m respects. let none = none_sum (matches key m) [] (λ k d l. absurd (omega arith)) in omega (arith, none)
 
+  -- In a tree at most one entry agrees, as two paths under one key part.
+  abbrev Parted : Entries K C R O → Type 0
+  Parted es = (i j : ℕ) (d : Stored K C R (Kept O C)) → i < length es → j < length es → i ≢ j → IsTrue (M.same_key (get_or es i d).key (get_or es j d).key) → Parts M.same_call M.same_answer (get_or es i d).path (get_or es j d).path
+
+  unique_parted : (es : Entries K C R O) → Parted es → Unique es
+  unique_parted [] parted = unique_none
+  unique_parted (e ∷ es) parted = λ key m respects.
+      let t = matches key m in
+      let later : Parted es = λ i j d l k n same. parted (suc i) (suc j) d (omega (arith, l)) (omega (arith, k)) (λ s. n (omega (arith, s))) same in
+      elim (cases_Bool (t e)) [
+        | inl a ↦
+            let of = of_matches key m e a in
+            let none = none_sum t es (λ k d l match.
+              let f : Stored K C R (Kept O C) = get_or es k d in
+              let o = of_matches key m f match in
+              let one_key = joined laws.keys e.key key f.key of.0 (turned laws.keys f.key key o.0) in
+              Parts-agreeing laws.calls laws.answers m respects e.path f.path (parted 0 (suc k) d (omega arith) (omega (arith, l)) (λ s. omega (arith, s)) one_key) of.1 o.1) in
+            omega (arith, sum_by-cons (one t) e es, one_yes t e a, none)
+        | inr a ↦ omega (arith, sum_by-cons (one t) e es, one_no t e a, unique_parted es later key m respects)
+      ]
+
+  unique_before : (before : Entries K C R O) → IsTree M.same_call M.same_answer M.same_key before ⊎ ((past : List (Step K C R O)) × History M past [] before × All (Honest M) past) → Unique before
+  unique_before before (inl tree) = unique_parted before tree.parted
+  unique_before before (inr past) = unique_after past.0 [] before past.2 past.1 unique_none
+
   pub hits_until_old : HitsUntilOld M
-  hits_until_old call later ran past h before es after was kept stores is goes fair lives again =
+  hits_until_old call later ran h before es after once stores is goes honest lives again =
       let x = stores.2 in
       let e : Stored K C R (Kept O C) = stored x.adds.own x.adds.path x.kept in
-      let mine : Mine ran e = (x.adds.is_key, λ m r a. agrees_stored laws.calls laws.answers m r (under M.same_key before ran.key) ran.pairs x.adds.path x.adds.is_new a) in
-      let some = any_permutation (Aged ran 0) (e ∷ before) es x.adds.entries (Any-here (Aged ran 0) e before (mine, omega (arith, x.is_new))) in
-      let u = unique_stored call ran before es is stores (unique_after past [] before kept was unique_none) in
-      let last = survives ran h es after 0 goes fair lives u some in
-      not_none M laws after later (Any-weaker (Mine ran) (λ e. IsTrue (M.same_key e.key later.key) × Agrees M.same_answer later.answers e.path) (λ e a. mine_of ran later e again a) after last)
+      let mine : Own M (Mine ran) e = (x.adds.is_key, λ m r a. agrees_stored laws.calls laws.answers m r (under M.same_key before ran.key) ran.pairs x.adds.path x.adds.is_new a) in
+      let some = any_permutation (Aged M (Mine ran) 0) (e ∷ before) es x.adds.entries (Any-here (Aged M (Mine ran) 0) e before (mine, omega (arith, x.is_new))) in
+      let u = unique_stored call ran before es is stores (unique_before before once) in
+      let last = survives ran h es after 0 goes honest lives u some in
+      not_none M laws after later (Any-weaker (Own M (Mine ran)) (OfEntry M laws later.key later.answers) (λ e a. mine_of ran later e again a) after last)

@@ -1,5 +1,10 @@
+pub mod Lawful
 pub mod Plain
-pub mod Theorems
+pub mod Steps
+pub mod Sound
+pub mod Again
 pub mod Ages
+pub mod Calls
 pub mod Answering
-pub mod Pasts
+pub mod Nested
+pub mod Before

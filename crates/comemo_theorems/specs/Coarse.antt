@@ -7,11 +7,11 @@ use Rattle.comemo_base.specs.Tree.{Stored}
 use Rattle.comemo_cache.specs.Meaning.{Meaning, Run, SameWrites}
 use Rattle.comemo_cache.specs.Cache.{Kept, Entries, Has, Touches, Evicts}
 use Rattle.comemo.specs.declared.pending.How.TheVariants as how
-use Rattle.comemo_theorems.specs.History.{Step, found, touched, missed, ended, evicted, History, Fair, Right}
+use Rattle.comemo_theorems.specs.History.{Step, found, touched, missed, ended, evicted, History, Honest, Right}
 
 module _ {K C R O : Type 0} (M : Meaning K C R O) where
-  -- one more entry: under an equal key, a clone of the output and equal writes, at a path that agrees only with what the run's
-  -- pairs agree with
+  -- one more entry: under an equal key, a clone of the output and equal writes, at a path that agrees only with what the
+  -- run's pairs agree with
   pub record OneMore (es : Entries K C R O) (ran : Run K C R O) (es' : Entries K C R O) : Type 0 where
     pub entry : Stored K C R (Kept O C)
     pub has_key : IsTrue (M.same_key entry.key ran.key)
@@ -31,10 +31,10 @@ module _ {K C R O : Type 0} (M : Meaning K C R O) where
   Past [] es es' = es' ≡ es
   Past (s ∷ h) es es' = (mid : Entries K C R O) × Leads s es mid × Past h mid es'
 
-  -- in every such history from an empty cache each output and its writes are right at the key and the answers of the call
+  -- Never stale at all. In every such history of honest runs from an empty cache, what each step returns is right.
   abbrev pub NeverStaleAtAll : Type 0
-  NeverStaleAtAll = (h : List (Step K C R O)) (es : Entries K C R O) → Past h [] es → All (Fair M) h → All (Right M) h
+  NeverStaleAtAll = (h : List (Step K C R O)) (es : Entries K C R O) → Past h [] es → All (Honest M) h → All (Right M) h
 
-  -- each history is such a one
+  -- Each history is such a one.
   abbrev pub IsPast : Type 0
-  IsPast = (h : List (Step K C R O)) (es es' : Entries K C R O) → History M h es es' → All (Fair M) h → Past h es es'
+  IsPast = (h : List (Step K C R O)) (es es' : Entries K C R O) → History M h es es' → All (Honest M) h → Past h es es'

@@ -1,87 +1,129 @@
 -- The theorems, for the meaning of any memoized function.
-use Rattle.std.specs.Prelude.{◌≡◌, ◌↔◌, ◌⊎◌, ◌++◌, ℕ, true, List, [], ◌∷◌, IsTrue}
+use Rattle.std.specs.Prelude.{◌≡◌, ◌↔◌, ◌⊎◌, ◌++◌, ℕ, Bool, true, List, [], ◌∷◌, Option}
 use Rattle.std.specs.List.{All}
-use Rattle.comemo_base.specs.Answers.{Respects, Agrees}
-use Rattle.comemo_cache.specs.Meaning.{Meaning, Invocation, Run, SameWrites, IsNamed}
+use Rattle.comemo_base.specs.Answers.{Respects}
+use Rattle.comemo_base.specs.Tree.{IsTree}
+use Rattle.comemo_track.specs.Recording.{Recording, Took, Spoiled}
+use Rattle.comemo_track.specs.Sending.{BreaksOff}
+use Rattle.comemo_cache.specs.Meaning.{Meaning, Invocation, Run, run, SameWrites, IsNamed}
 use Rattle.comemo_cache.specs.Cache.{Entries, HasNone, Has}
 use Rattle.comemo.specs.Begin.{PendingRun, IsRun, came_to}
-use Rattle.comemo.specs.Called.{IsReply}
-use Rattle.comemo.specs.Finish.{Finished}
+use Rattle.comemo.specs.Called.{IsDue, IsReply, IsReplyMut, HeldReply}
+use Rattle.comemo.specs.Finish.{Finished, Gives}
 use Rattle.comemo.specs.FunctionMut.{FailsBy}
 use Rattle.comemo.specs.declared.pending.Fault.{Fault}
 use Rattle.comemo.specs.declared.pending.Fault.TheVariants as fault
 use Rattle.comemo.specs.declared.pending.Reply.{Reply}
 use Rattle.comemo.specs.declared.pending.How.TheVariants as how
-use Rattle.comemo_theorems.specs.History.{Step, found, touched, missed, ended, Does, History, Answers, Fair, Right, Outlives, Survives}
+use Rattle.comemo_theorems.specs.History.{Step, found, touched, missed, ended, Does, History, Answers, Honest, Right, Outlives}
 
 module _ {K C R O : Type 0} (M : Meaning K C R O) where
-  -- in every history from an empty cache each output and its writes are right at the key and the answers of the call
+  -- Never stale. In every history of honest runs from an empty cache, what each step returns is right.
   abbrev pub NeverStale : Type 0
-  NeverStale = (h : List (Step K C R O)) (es : Entries K C R O) → History M h [] es → All (Fair M) h → All (Right M) h
+  NeverStale = (h : List (Step K C R O)) (es : Entries K C R O) → History M h [] es → All (Honest M) h → All (Right M) h
 
-  -- after a run was stored, a look-up for each call that it answers too finds an entry, until an eviction whose bound the
-  -- entry's age reaches; and what it finds are a clone of the clone that was stored, and equal writes
+  -- the second run has a clone of a clone of the first one's output, and equal writes
+  abbrev pub IsCopy : Run K C R O → Run K C R O → Type 0
+  IsCopy ran copy = (kept : O) × M.is_clone ran.output kept × M.is_clone kept copy.output × SameWrites M.same_call ran.writes copy.writes
+
+  -- Hits again. After a run was stored, each call that it answers finds an entry, and in it a copy of that run, until an
+  -- eviction whose bound the entry's age reaches.
   abbrev pub HitsAgain : Type 0
   HitsAgain =
       (call later : Invocation K C R) (ran : Run K C R O) (h : List (Step K C R O)) (before es after : Entries K C R O)
-      → Does M (ended call ran how.Stored) before es → History M h es after → All (Fair M) h → Outlives M 0 h → Answers M later ran
-      → (¬ HasNone M after later)
-      × ((again : Run K C R O) → Has M after later again → (kept : O) × M.is_clone ran.output kept × M.is_clone kept again.output × SameWrites M.same_call ran.writes again.writes)
+      → Does M (ended call ran how.Stored) before es
+      → History M h es after → All (Honest M) h → Outlives M (λ _. ⊥) 0 h
+      → Answers M later ran
+      → (¬ HasNone M after later) × ((again : Run K C R O) → Has M after later again → IsCopy ran again)
 
-  -- in a history from an empty cache the age that counts is that since the entry was stored or last hit
+  -- Hits until old. The age that counts is that since the run was stored or last hit, in a cache, whose paths part, and in
+  -- a history from an empty one.
   abbrev pub HitsUntilOld : Type 0
   HitsUntilOld =
-      (call later : Invocation K C R) (ran : Run K C R O) (past h : List (Step K C R O)) (before es after : Entries K C R O)
-      → History M past [] before → All (Fair M) past → Does M (ended call ran how.Stored) before es → Answers M call ran
-      → History M h es after → All (Fair M) h → Survives M ran 0 h → Answers M later ran → ¬ HasNone M after later
+      (call later : Invocation K C R) (ran : Run K C R O) (h : List (Step K C R O)) (before es after : Entries K C R O)
+      → IsTree M.same_call M.same_answer M.same_key before
+      ⊎ ((past : List (Step K C R O)) × History M past [] before × All (Honest M) past)
+      → Does M (ended call ran how.Stored) before es → Answers M call ran
+      → History M h es after → All (Honest M) h → Outlives M (λ hit. Answers M hit ran) 0 h
+      → Answers M later ran → ¬ HasNone M after later
 
-  -- so it is after a run that was not stored since an entry exists, whose age is then not known
+  -- Hits what exists. A run that was not stored since an entry exists hits again too, by the age of that entry, which no
+  -- reply tells.
   abbrev pub HitsExisting : Type 0
   HitsExisting =
-      (call : Invocation K C R) (ran : Run K C R O) (before es : Entries K C R O) → Does M (ended call ran how.AlreadyExists) before es
-      → (age : ℕ) × ((later : Invocation K C R) (h : List (Step K C R O)) (after : Entries K C R O) → History M h es after → Outlives M age h → Answers M later ran → ¬ HasNone M after later)
+      (call : Invocation K C R) (ran : Run K C R O) (before es : Entries K C R O)
+      → Does M (ended call ran how.AlreadyExists) before es
+      → (age : ℕ) × ((later : Invocation K C R) (h : List (Step K C R O)) (after : Entries K C R O)
+      → History M h es after → Outlives M (λ _. ⊥) age h → Answers M later ran → ¬ HasNone M after later)
 
-  -- a function that names its calls loses no run
+  -- Nothing lost. No run of a function that names its calls ends as `MissingCall`.
   abbrev pub NothingLost : Type 0
-  NothingLost = IsNamed M → (h : List (Step K C R O)) (es es' : Entries K C R O) → History M h es es' → All (λ s. (call : Invocation K C R) (ran : Run K C R O) → s ≡ ended call ran how.MissingCall → ⊥) h
+  NothingLost =
+      IsNamed M → (h : List (Step K C R O)) (es es' : Entries K C R O) → History M h es es'
+      → All (λ step. (call : Invocation K C R) (ran : Run K C R O) → step ≡ ended call ran how.MissingCall → ⊥) h
 
-  -- the steps of a call that had this reply, where inner are the steps of the calls in its run
-  abbrev pub IsCall : Invocation K C R → List (Step K C R O) → Reply O → List (Step K C R O) → Type 0
-  IsCall call inner reply steps =
-      (ran : Run K C R O) × (ran.output ≡ reply.output)
-      × (((reply.how ≡ how.Hit) × (steps ≡ found call ran ∷ touched call ∷ [])) ⊎ ((reply.how ≡ how.Hit → ⊥) × (reply.how ≡ how.Late → ⊥) × (steps ≡ missed call ∷ inner ++ ended call ran reply.how ∷ [])))
+  -- the steps of a call with this reply, by a hit of this run or by the run, where inner are the steps of the calls in it
+  abbrev pub IsCall : Invocation K C R → List (Step K C R O) → Reply O → Run K C R O → List (Step K C R O) → Type 0
+  IsCall call inner reply ran steps =
+      (ran.output ≡ reply.output)
+      × (((reply.how ≡ how.Hit) × (steps ≡ found call ran ∷ touched call ∷ []))
+      ⊎ ((reply.how ≡ how.Hit → ⊥) × (steps ≡ missed call ∷ inner ++ ended call ran reply.how ∷ [])))
 
-  -- the same of replies, where did says what writes do to a value: after a reply `Stored` each later call under an equal
-  -- key, at answers that agree with what the run recorded, is a hit; its output is a clone of a clone, and equal writes led
-  -- its value, in order and once
-  abbrev pub HitsReplay : {V : Type 0} → (V → V → List C → Type 0) → Type 0
-  HitsReplay {V} did =
-      (call later : Invocation K C R) (h : List (Step K C R O)) (es mid es1 es2 mid2 es3 : Entries K C R O) (first second : Reply O) (v w x y : V)
-      → (is : IsReply M call es mid (λ _ W. did v w W) first es1) → first.how ≡ how.Stored
-      → History M h es1 es2 → All (Fair M) h → Outlives M 0 h
-      → IsTrue (M.same_key later.key call.key) → Respects M.same_call M.same_answer later.answers → Agrees M.same_answer later.answers is.pairs → later.enabled ≡ true
-      → IsReply M later es2 mid2 (λ _ W. did x y W) second es3
-      → (second.how ≡ how.Hit)
-      × ((kept : O) × M.is_clone first.output kept × M.is_clone kept second.output)
-      × ((V W : List C) × did v w V × did x y W × SameWrites M.same_call V W)
-
-  -- what a call did, by its contract, are such steps; and it was a hit exactly if an entry had the key and agreed
-  abbrev pub AsPlainList : (List (C × R) → List C → Type 0) → Type 0
-  AsPlainList sent =
+  -- As a plain list. What a call did, by its contract, are such steps of honest runs, and it sent and did what their run
+  -- has. It was a hit exactly if an entry had the key and agreed.
+  abbrev pub AsPlainList : (C → C → Bool) → (Bool → List (C × R) → List C → Type 0) → Type 0
+  AsPlainList touches sent =
       (call : Invocation K C R) (inner : List (Step K C R O)) (es mid es' : Entries K C R O) (reply : Reply O)
-      → IsReply M call es mid sent reply es' → History M inner es mid → All (Fair M) inner → Respects M.same_call M.same_answer call.answers
-      → ((steps : List (Step K C R O)) × IsCall call inner reply steps × History M steps es es' × All (Fair M) steps)
+      → IsReplyMut M call touches es mid sent reply es' → Respects M.same_call M.same_answer call.answers
+      → History M inner es mid → All (Honest M) inner
+      → ((ran : Run K C R O) × (steps : List (Step K C R O)) × (late : Bool) × IsCall call inner reply ran steps
+      × ((reply.how ≡ how.Late) ↔ (late ≡ true)) × Gives M (sent late) ran.pairs ran.writes
+      × History M steps es es' × All (Honest M) steps)
       × (call.enabled ≡ true → (reply.how ≡ how.Hit) ↔ (¬ HasNone M es call))
 
-  -- so are a begin and a finish by hand, where inner are the steps of the calls in between
+  -- By hand. So are a begin and a finish, where inner are the steps of the calls in between.
   abbrev pub ByHand : (List (C × R) → List C → Type 0) → Type 0
   ByHand sent =
-      (call : Invocation K C R) (inner : List (Step K C R O)) (es mid es' : Entries K C R O) (begun pending : PendingRun K C R) (output : O) (reply : Reply O)
+      (call : Invocation K C R) (inner : List (Step K C R O)) (es mid es' : Entries K C R O)
+      (begun pending : PendingRun K C R) (output : O) (reply : Reply O)
       → IsRun M es call begun → History M inner es mid → Finished M mid pending sent output reply es'
       → History M (missed call ∷ inner ++ ended call (came_to pending output) reply.how ∷ []) es es'
 
-  -- a call that failed did nothing to the entries, or touched one, if a write was refused
+  -- Replays. After a reply `Stored`, a call that its run answers is a hit, while the entry isn't too old. Its output is a
+  -- clone of a clone, and it led its value by equal writes, in order and once, where did says what writes do.
+  abbrev pub HitsReplay : {V : Type 0} → (V → V → List C → Type 0) → Type 0
+  HitsReplay {V} did =
+      (call later : Invocation K C R) (h : List (Step K C R O)) (es mid es1 es2 mid2 es3 : Entries K C R O)
+      (first second : Reply O) (v w x y : V)
+      → (is : IsReply M call es mid (λ _ W. did v w W) first es1) → first.how ≡ how.Stored
+      → History M h es1 es2 → All (Honest M) h → Outlives M (λ _. ⊥) 0 h
+      → Answers M later (run call.key is.pairs first.output is.writes) → later.enabled ≡ true
+      → (next : IsReply M later es2 mid2 (λ _ W. did x y W) second es3)
+      → (second.how ≡ how.Hit) × did v w is.writes × did x y next.writes
+      × IsCopy (run call.key is.pairs first.output is.writes) (run later.key next.pairs second.output next.writes)
+
+  -- Faults keep. A call that failed left the entries, and the value too unless a run was due. Or it is a hit that stopped
+  -- at a refused write: the writes before that one were done and sent, and the entry was touched.
   abbrev pub FaultsKeep : (List C → Type 0) → Type 0 → (List (C × R) → List C → Type 0) → Type 0
   FaultsKeep done spoils spoiled =
       (call : Invocation K C R) (es es' : Entries K C R O) (f : Fault) → FailsBy M es call done spoils spoiled f es'
-      → History M [] es es' ⊎ ((f ≡ fault.Write) × History M (touched call ∷ []) es es')
+      → ((es' ≡ es) × (done [] ⊎ IsDue M call es))
+      ⊎ ((f ≡ fault.Write) × (ran : Run K C R O) × (first rest : List C) × (ran.writes ≡ first ++ rest)
+      × done first × spoiled ran.pairs first × History M (found call ran ∷ touched call ∷ []) es es')
+
+  -- Faults spread. The run around a call that failed took a prefix of some pairs and is incomplete, so that no `finish` of
+  -- it replies.
+  abbrev pub FaultsSpread : (C → C → Bool) → (List (C × R) → List C → Type 0) → Type 0
+  FaultsSpread touches sent =
+      (before : Recording C R) (around : PendingRun K C R) (pairs : List (C × R))
+      → BreaksOff (Took M.same_call touches) Spoiled before around.recording pairs
+      → (es es' : Entries K C R O) (output : O) (reply : Reply O) → Finished M es around sent output reply es' → ⊥
+
+  -- Through any holder. Whatever it tells of its entries, as a share, which tells none, a reply is that of a run that
+  -- answers the call, and right; and the call sent what the run has.
+  abbrev pub ThroughAnyHolder : (List (C × R) → List C → Type 0) → Type 0
+  ThroughAnyHolder sent =
+      (call : Invocation K C R) (before after : Option (Entries K C R O)) (reply : Reply O)
+      → HeldReply M call before sent reply after → Respects M.same_call M.same_answer call.answers
+      → (ran : Run K C R O) × (ran.output ≡ reply.output) × Answers M call ran
+      × M.right call.key call.answers ran.output ran.writes × Gives M sent ran.pairs ran.writes

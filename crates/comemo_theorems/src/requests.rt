@@ -2,14 +2,11 @@
 ghost use Rattle.std.specs.Prelude.{◌≡◌, ◌<◌, [], List, IfOk, IsTrue};
 ghost use Rattle.std.specs.List.{All, AllZip};
 ghost use Rattle.comemo.specs.Function.{WritesNone};
-ghost use Rattle.comemo_cache.specs.Meaning.{SameWrites};
-ghost use Rattle.comemo_theorems.specs.History.{Step, History, Fair};
+ghost use Rattle.comemo_theorems.specs.History.{Step, History, Honest};
 ghost use Rattle.comemo_theorems.specs.Requests.{IsAnswer, AreAnswers, IsRightAnswer};
 
-use comemo::internal::{Meant, Written};
-use comemo::{
-    CacheData, Constraint, Fault, How, Reply, Run, RunMut, Top, Track, memoized_mut, memoized_with,
-};
+use comemo::internal::Meant;
+use comemo::{CacheData, Constraint, Fault, How, Reply, Run, Top, Track, memoized_with};
 use std::alloc::{AllocError, Global};
 
 /// A request to a cache.
@@ -51,7 +48,7 @@ fn answer<M: Run<T, N>, T: Track + Drop, N>(
     ensures { (own : List (Step M.Key T.Call T.Answer M.Out))
         × IsAnswer ⟦<M as Meant>⟧.meaning T.answers request result own
         × History ⟦<M as Meant>⟧.meaning own cache.old cache.new
-        × All (Fair ⟦<M as Meant>⟧.meaning) own }
+        × All (Honest ⟦<M as Meant>⟧.meaning) own }
 {
     match request {
         Request::Call { key, of } => {
@@ -80,7 +77,7 @@ pub fn answer_all<M: Run<T, N>, T: Track + Drop, N>(
     ensures history { IfOk result (λ events. (h : List (Step M.Key T.Call T.Answer M.Out))
         × AreAnswers ⟦<M as Meant>⟧.meaning T.answers requests.items events.items h
         × History ⟦<M as Meant>⟧.meaning h cache.old cache.new
-        × All (Fair ⟦<M as Meant>⟧.meaning) h) }
+        × All (Honest ⟦<M as Meant>⟧.meaning) h) }
     ensures right { cache.old ≡ [] → IfOk result (λ events. AllZip
         (IsRightAnswer ⟦<M as Meant>⟧.meaning T.answers) requests.items events.items) }
 {
@@ -131,34 +128,4 @@ pub fn call_evict_call<M: Run<T, N>, T: Track, N>(
         valid,
         second,
     })
-}
-
-/// The replies of two calls.
-pub struct Twice<O> {
-    /// The reply of the first call.
-    pub first: Reply<O>,
-    /// The reply of the second call.
-    pub second: Reply<O>,
-}
-
-/// Calls a function that writes on a value, and then, with an equal key, on another one that is the same.
-///
-/// If the first call was stored, the second is a hit, and did writes on its value that equal those of the first. Fails
-/// if a call does, or if out of memory.
-pub fn write_to_both<M: RunMut<T, ()>, T: Track>(
-    alloc: Global,
-    cache: &mut CacheData<M>,
-    key: M::Key,
-    one: &mut T,
-    two: &mut T,
-) -> Result<Twice<M::Out>, Fault>
-    requires { two.now ≡ one.now }
-    ensures { IfOk result (λ twice. twice.first.how ≡ How.Stored → (twice.second.how ≡ How.Hit)
-        × (V : List T.Call) × (W : List T.Call) × ⟦<T as Written>⟧.did one.old one.new V
-        × ⟦<T as Written>⟧.did two.old two.new W × SameWrites T.Call.eq V W) }
-{
-    let again = key.clone()?;
-    let first = memoized_mut(alloc, cache, key, one)?;
-    let second = memoized_mut(alloc, cache, again, two)?;
-    Ok(Twice { first, second })
 }

@@ -2,8 +2,9 @@ use Rattle.std.proofs.Common.{arith, length, [], ◌∙◌, sym, refl, ap}
 use Rattle.std.proofs.lemmas.List.{nil_from_length}
 use Rattle.std.proofs.lemmas.List.Elements.{All-nil}
 use Rattle.comemo_cache.specs.Meaning.{Meaning, IsRight}
-use Rattle.comemo_theorems.specs.History.{Fair}
-use Rattle.comemo_theorems.proofs.Answering.{one_more, all_done, all_right}
+use Rattle.comemo_theorems.specs.History.{Honest}
+use Rattle.comemo_theorems.proofs.Lawful.{lawful}
+use Rattle.comemo_theorems.proofs.Answering.{Reads, one_more, all_done, all_right}
 use Rattle.comemo_theorems.proofs.requests.answer_all.Goals as goal
 
 pub loop-request-init : goal.loop-request-init
@@ -14,7 +15,7 @@ loop-request-init g c =
       serves = (tt, tt);
       count = omega (arith, ap length gives.0, gives.1, c.args.requests.ok.0);
       room = omega (arith, ap length gives.0, c.in_ok-events.ensures.len, c.in_ok-events.ensures.capacity, c.len.ensures, c.args.requests.ok.0);
-      so_far = record { prefix = []; parts = rw gives.0 refl; steps = []; are = rw c.in_ok-events.ensures.items refl; goes = refl; fair = All-nil (Fair M) };
+      so_far = record { prefix = []; parts = rw gives.0 refl; steps = []; are = rw c.in_ok-events.ensures.items (refl, refl); history = refl; honest = All-nil (Honest M) };
     }
 
 pub loop-request-preserved : goal.loop-request-preserved
@@ -26,22 +27,15 @@ loop-request-preserved g c =
       serves = (tt, tt);
       count = omega (arith, ap length step, c.in-Some.ensures.steps.1, i.count);
       room = omega (arith, ap length step, c.push_reserved.ensures.len, c.push_reserved.ensures.capacity, i.room);
-      so_far = one_more M g.T.Track.answers _ _ _ c.in-Some.request _ _ _ _ _ c.answer.result step c.push_reserved.ensures.items c.answer.ensures i.so_far;
+      so_far = one_more M (Reads M g.T.Track.answers) _ _ _ c.in-Some.request tt tt tt _ _ _ _ _ c.answer.result step c.push_reserved.ensures.items c.answer.ensures i.so_far;
     }
 
 pub returns-clause-history : goal.returns-clause-history
 returns-clause-history g c =
     let M : Meaning g.row.M-Key.Denot g.row.T-Call.Denot g.row.T-Answer.Denot g.row.M-Out.Denot = record { same_call = g.T.Call.PartialEq.eq; same_answer = g.T.Answer.PartialEq.eq; same_key = g.M.Key.PartialEq.eq; is_write = g.T.Call.Call.is_write; is_clone = g.M.Out.Clone.is_clone; right = IsRight g.M.Function.means g.M.Function.writes; naming = g.M.Function.naming } in
-    all_done M g.T.Track.answers _ _ _ _ _ (nil_from_length _ (sym c.loop-request.invariant.count ∙ c.in-None.ensures.steps.0)) c.loop-request.invariant.so_far
+    all_done M (Reads M g.T.Track.answers) _ _ tt tt _ _ _ (nil_from_length _ (sym c.loop-request.invariant.count ∙ c.in-None.ensures.steps.0)) c.loop-request.invariant.so_far
 
 pub returns-clause-right : goal.returns-clause-right
 returns-clause-right g c = λ none.
     let M : Meaning g.row.M-Key.Denot g.row.T-Call.Denot g.row.T-Answer.Denot g.row.M-Out.Denot = record { same_call = g.T.Call.PartialEq.eq; same_answer = g.T.Answer.PartialEq.eq; same_key = g.M.Key.PartialEq.eq; is_write = g.T.Call.Call.is_write; is_clone = g.M.Out.Clone.is_clone; right = IsRight g.M.Function.means g.M.Function.writes; naming = g.M.Function.naming } in
-    all_right M g.T.Track.answers (record {
-      calls = g.met.T.Call.Eq.laws;
-      answers = g.met.T.Answer.Eq.laws;
-      keys = g.met.M.Key.Eq.laws;
-      by_key = g.met.M.Function.laws.keys;
-      by_output = g.met.M.Function.laws.outputs;
-      by_writes = g.met.M.Function.laws.writes;
-    }) _ _ _ _ none (all_done M g.T.Track.answers _ _ _ _ _ (nil_from_length _ (sym c.loop-request.invariant.count ∙ c.in-None.ensures.steps.0)) c.loop-request.invariant.so_far)
+    all_right M g.T.Track.answers (lawful M g.met.T.Call.Eq.laws g.met.T.Answer.Eq.laws g.met.M.Key.Eq.laws g.met.M.Function.laws) _ _ _ _ g.met.T.Track.alike none (all_done M (Reads M g.T.Track.answers) _ _ tt tt _ _ _ (nil_from_length _ (sym c.loop-request.invariant.count ∙ c.in-None.ensures.steps.0)) c.loop-request.invariant.so_far)

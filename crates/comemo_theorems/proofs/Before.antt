@@ -1,6 +1,6 @@
 -- Fibonacci numbers, each from the two before it.
 use Rattle.std.proofs.Common.{◌≡◌, ◌≤◌, ◌+◌, ◌-◌, ℕ, zero, suc, arith, sym, ap, ◌∙◌}
-use Rattle.bench_rows.specs.Fibonacci.{fib}
+use Rattle.comemo_theorems.specs.Fibonacci.{fib}
 
 pub fib_from_before : (n : ℕ) → 2 ≤ n → fib n ≡ fib (n - 2) + fib (n - 1)
 fib_from_before zero h = absurd (omega arith)

@@ -1,5 +1,5 @@
 use Rattle.std.proofs.Common.{◌+◌, ◌*◌}
-use Rattle.bench_rows.proofs.fibonacci.+counting.Given as goal
+use Rattle.comemo_theorems.proofs.fibonacci.+counting.Given as goal
 
 abbrev pub decreases-from_before : goal.decreases-from_before
 decreases-from_before l = 2 * l.place
