@@ -6,14 +6,15 @@ use Rattle.std.specs.List.{All, Any}
 use Rattle.comemo_base.specs.Answers.{Respects, Agrees}
 use Rattle.comemo_base.specs.Tree.{Stored, stored}
 use Rattle.comemo_base.specs.Lookup.{under}
-use Rattle.comemo_base.specs.Insertion.{AllAmong, LacksNextCall}
-use Rattle.comemo_base.proofs.Paths.{joined, turned, get_or_same}
-use Rattle.comemo_base.proofs.Under.{Any-here, Any-under, Any-weaker, Any-from_under, All-from_under}
+use Rattle.comemo_base.specs.Insertion.{AllAmong}
+use Rattle.comemo_base.proofs.Paths.{joined, turned}
+use Rattle.comemo_base.proofs.Under.{Any-here, Any-weaker, Any-from_under, All-from_under}
 use Rattle.comemo_cache.specs.Meaning.{Meaning, Invocation, Run, run, SameWrites}
 use Rattle.comemo_cache.specs.Cache.{Kept, Entries, HasNone, IsEntryOf}
 use Rattle.comemo_cache.specs.Storing.{Stores}
 use Rattle.comemo_cache.proofs.Entries.{All-cons}
 use Rattle.comemo_cache.proofs.Writings.{SameWrites-joined}
+use Rattle.comemo.proofs.Again.{agrees_among, agrees_stored_path, others_part}
 use Rattle.comemo.specs.Finish.{Ends}
 use Rattle.comemo.specs.Called.{IsReply, IsReplyMut}
 use Rattle.comemo.specs.declared.pending.Reply.{Reply}
@@ -21,7 +22,7 @@ use Rattle.comemo.specs.declared.pending.How.TheVariants as how
 use Rattle.comemo_theorems.specs.History.{Step, found, touched, missed, ended, evicted, Does, History, Answers, Honest, Outlives}
 use Rattle.comemo_theorems.specs.Statements.{HitsAgain, HitsExisting, HitsReplay, IsCopy}
 use Rattle.comemo_theorems.proofs.Lawful.{IsLawful}
-use Rattle.comemo_theorems.proofs.Plain.{any_permutation, agrees_among, agrees_stored, all_or_lacks, agrees_back}
+use Rattle.comemo_theorems.proofs.Plain.{any_permutation, agrees_back}
 use Rattle.comemo_theorems.proofs.Steps.{Own, Aged, all_same, all_ended, all_touched, all_evicted, aged_same, aged_ended, aged_touched, aged_evicted, outlived}
 
 module _ {K C R O : Type 0} (M : Meaning K C R O) (laws : IsLawful M) where
@@ -37,16 +38,6 @@ module _ {K C R O : Type 0} (M : Meaning K C R O) (laws : IsLawful M) where
       let all = All-from_under M.same_key es call.key (λ x. ¬ Agrees M.same_answer call.answers x.path) none in
       all some.0 some.1 some.2 (subst (λ x. IsTrue (M.same_key x.key call.key)) (sym some.3) some.4.0) (subst (λ x. Agrees M.same_answer call.answers x.path) (sym some.3) some.4.1)
 
-  -- no entry but the new one agrees with answers that agree with a run that was stored
-  pub others_part : (ran : Run K C R O) (es es' : Entries K C R O) (m : C → R) → Respects M.same_call M.same_answer m → Stores M es ran es' → Agrees M.same_answer m ran.pairs → All (λ x. IsTrue (M.same_key x.key ran.key) → ¬ Agrees M.same_answer m x.path) es
-  others_part ran es es' m respects stores agrees = λ k d l has_key a.
-      let x : Stored K C R (Kept O C) = get_or es k d in
-      let at = get_or_same es k x d l in
-      elim (all_or_lacks laws.calls laws.answers m respects ran.pairs x.path agrees a) [
-        | inl all ↦ stores.0 (Any-under M.same_key es ran.key (λ e. AllAmong M.same_call M.same_answer ran.pairs e.path) (k, x, l, at, (has_key, all)))
-        | inr lacks ↦ stores.1 (Any-under M.same_key es ran.key (λ e. LacksNextCall M.same_call M.same_answer ran.pairs e.path) (k, x, l, at, (has_key, lacks)))
-      ]
-
   -- each entry that agrees has what was stored
   module _ (Q : O → List C → Type 0) (key : K) (m : C → R) (respects : Respects M.same_call M.same_answer m) where
     abbrev Only : Stored K C R (Kept O C) → Type 0
@@ -57,8 +48,8 @@ module _ {K C R O : Type 0} (M : Meaning K C R O) (laws : IsLawful M) where
         let x = stores.2 in
         let e : Stored K C R (Kept O C) = stored x.adds.own x.adds.path x.kept in
         let here : Only e = λ has_key agrees.
-        let again = agrees_back laws.calls laws.answers call.answers is.alike m respects (under M.same_key es ran.key) ran.pairs x.adds.path x.adds.is_new is.agrees agrees in
-        let part = others_part ran es es' m respects stores again in
+        let again = agrees_back laws.answers call.answers is.alike m respects (under M.same_key es ran.key) ran.pairs x.adds.path x.adds.is_new is.agrees agrees in
+        let part = others_part M laws.answers ran es es' m respects stores again in
         let own_key = joined laws.keys some.1.key key ran.key some.4.0 (joined laws.keys key x.adds.own ran.key (turned laws.keys x.adds.own key has_key) x.adds.is_key) in
         absurd (part some.0 some.1 some.2 (subst (λ y. IsTrue (M.same_key y.key ran.key)) (sym some.3) own_key) (subst (λ y. Agrees M.same_answer m y.path) (sym some.3) some.4.1)) in
         All-permutation Only (e ∷ es) es' x.adds.entries (All-cons Only e es here only)
@@ -83,12 +74,12 @@ module _ {K C R O : Type 0} (M : Meaning K C R O) (laws : IsLawful M) where
       let key = later.key in
       let m = later.answers in
       let own_key = joined laws.keys x.adds.own ran.key key x.adds.is_key (turned laws.keys key ran.key again.has_key) in
-      let agrees = agrees_stored laws.calls laws.answers m again.alike (under M.same_key before ran.key) ran.pairs x.adds.path x.adds.is_new again.agrees in
+      let agrees = agrees_stored_path laws.answers m again.alike (under M.same_key before ran.key) ran.pairs x.adds.path x.adds.is_new again.agrees in
       let P : Stored K C R (Kept O C) → Type 0 = Aged M (Of key m) 0 in
       let some : Any P es = any_permutation P (e ∷ before) es x.adds.entries (Any-here P e before ((own_key, agrees), omega (arith, x.is_new))) in
       let Q : O → List C → Type 0 = λ output writes. M.is_clone ran.output output × SameWrites M.same_call ran.writes writes in
       let L : Stored K C R (Kept O C) → Type 0 = Only Q key m again.alike in
-      let part = others_part ran before es m again.alike stores again.agrees in
+      let part = others_part M laws.answers ran before es m again.alike stores again.agrees in
       let old : All L before = λ k d l has_key a. absurd (part k d l (joined laws.keys (get_or before k d).key key ran.key has_key again.has_key) a) in
       let only : All L es = All-permutation L (e ∷ before) es x.adds.entries (All-cons L e before (λ _ _. (x.is_clone, x.same_writes)) old) in
       let last = only_after Q key m again.alike h es after 0 is honest lives some only in (
@@ -107,7 +98,7 @@ module _ {K C R O : Type 0} (M : Meaning K C R O) (laws : IsLawful M) where
         λ later steps after is lives again.
             let P : Stored K C R (Kept O C) → Type 0 = Aged M (Of later.key later.answers) h.1.value.age in
             let own_key = joined laws.keys h.1.key ran.key later.key h.4.0 (turned laws.keys later.key ran.key again.has_key) in
-            let agrees = agrees_among laws.calls laws.answers later.answers again.alike ran.pairs h.1.path again.agrees h.4.1 in
+            let agrees = agrees_among laws.answers later.answers again.alike ran.pairs h.1.path again.agrees h.4.1 in
             let some : Any P es = subst (λ xs. Any P xs) (sym does.1) (h.0, h.1, h.2, h.3, ((own_key, agrees), omega arith)) in
             not_none after later (outlived M (Of later.key later.answers) steps es after h.1.value.age is lives some),
       )

@@ -15,15 +15,16 @@ use Rattle.comemo_base.proofs.Under.{Any-here, Any-split, Any-weaker}
 use Rattle.comemo_cache.specs.Meaning.{Meaning, Invocation, Run}
 use Rattle.comemo_cache.specs.Cache.{Kept, Entries, young, older, aged}
 use Rattle.comemo_cache.specs.Storing.{Stores}
+use Rattle.comemo.proofs.Again.{agrees_stored_path, others_part}
 use Rattle.comemo.specs.Finish.{Ends}
 use Rattle.comemo.specs.declared.pending.How.{How}
 use Rattle.comemo.specs.declared.pending.How.TheVariants as how
 use Rattle.comemo_theorems.specs.History.{Step, found, touched, missed, ended, evicted, Does, History, Answers, Honest, Outlives}
 use Rattle.comemo_theorems.specs.Statements.{HitsUntilOld}
 use Rattle.comemo_theorems.proofs.Lawful.{IsLawful}
-use Rattle.comemo_theorems.proofs.Plain.{any_permutation, agrees_stored, agrees_back}
+use Rattle.comemo_theorems.proofs.Plain.{any_permutation, agrees_back}
 use Rattle.comemo_theorems.proofs.Steps.{Own, Aged, aged_same, aged_young, aged_ended, aged_touched, aged_evicted}
-use Rattle.comemo_theorems.proofs.Again.{OfEntry, others_part, not_none}
+use Rattle.comemo_theorems.proofs.Again.{OfEntry, not_none}
 
 module _ {X : Type 0} (t : X → Bool) where
   one : X → ℕ
@@ -113,8 +114,8 @@ module _ {K C R O : Type 0} (M : Meaning K C R O) (laws : IsLawful M) where
       elim (cases_Bool (t e)) [
         | inl a ↦
             let of = of_matches key m e a in
-            let again = agrees_back laws.calls laws.answers call.answers is.alike m respects (under M.same_key es ran.key) ran.pairs x.adds.path x.adds.is_new is.agrees of.1 in
-            let part = others_part M laws ran es es' m respects stores again in
+            let again = agrees_back laws.answers call.answers is.alike m respects (under M.same_key es ran.key) ran.pairs x.adds.path x.adds.is_new is.agrees of.1 in
+            let part = others_part M laws.answers ran es es' m respects stores again in
             let key_of_run = joined laws.keys key x.adds.own ran.key (turned laws.keys x.adds.own key of.0) x.adds.is_key in
             let none = none_sum t es (λ k d l match. let o = of_matches key m (get_or es k d) match in part k d l (joined laws.keys (get_or es k d).key key ran.key o.0 key_of_run) o.1) in
             omega (arith, all, sum_by-cons (one t) e es, one_yes t e a, none)
@@ -219,7 +220,7 @@ module _ {K C R O : Type 0} (M : Meaning K C R O) (laws : IsLawful M) where
   hits_until_old call later ran h before es after once stores is goes honest lives again =
       let x = stores.2 in
       let e : Stored K C R (Kept O C) = stored x.adds.own x.adds.path x.kept in
-      let mine : Own M (Mine ran) e = (x.adds.is_key, λ m r a. agrees_stored laws.calls laws.answers m r (under M.same_key before ran.key) ran.pairs x.adds.path x.adds.is_new a) in
+      let mine : Own M (Mine ran) e = (x.adds.is_key, λ m r a. agrees_stored_path laws.answers m r (under M.same_key before ran.key) ran.pairs x.adds.path x.adds.is_new a) in
       let some = any_permutation (Aged M (Mine ran) 0) (e ∷ before) es x.adds.entries (Any-here (Aged M (Mine ran) 0) e before (mine, omega (arith, x.is_new))) in
       let u = unique_stored call ran before es is stores (unique_before before once) in
       let last = survives ran h es after 0 goes honest lives u some in

@@ -30,7 +30,7 @@ module _ {K C R O : Type 0} (M : Meaning K C R O) (laws : IsLawful M) where
       record {
         entry = stored x.adds.own x.adds.path x.kept;
         has_key = x.adds.is_key;
-        only = λ m r a. agrees_back laws.calls laws.answers call.answers is.alike m r (under M.same_key es ran.key) ran.pairs x.adds.path x.adds.is_new is.agrees a;
+        only = λ m r a. agrees_back laws.answers call.answers is.alike m r (under M.same_key es ran.key) ran.pairs x.adds.path x.adds.is_new is.agrees a;
         is_clone = x.is_clone;
         same_writes = x.same_writes;
         more = x.adds.entries;

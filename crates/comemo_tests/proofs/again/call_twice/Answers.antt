@@ -1,5 +1,5 @@
 use Rattle.std.proofs.Common.{refl}
-use Rattle.comemo.proofs.Again.{hits_again, finds_again, none_before}
+use Rattle.comemo.proofs.Again.{hits_again, finds_again}
 use Rattle.comemo_tests.proofs.again.call_twice.Goals as goal
 
 pub returns-clause-hit : goal.returns-clause-hit
@@ -12,5 +12,4 @@ returns-clause-output g c = λ stored.
     let first = c.in_ok-first.ensures.reply in
     let key = g.met.M.Function.laws.key_clones _ _ c.in_ok-again.ensures.cases in
     let respects = g.met.T.Track.alike c.args.of.now in
-    let none = none_before _ g.met.M.Key.Eq.laws first stored key in
-    finds_again _ g.met.T.Answer.Eq.laws g.met.M.Key.Eq.laws first stored key respects first.agrees refl none c.in_ok-second.ensures.reply
+    finds_again _ g.met.T.Answer.Eq.laws g.met.M.Key.Eq.laws first stored key respects first.agrees refl c.in_ok-second.ensures.reply
