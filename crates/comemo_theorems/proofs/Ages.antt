@@ -204,10 +204,10 @@ module _ {K C R O : Type 0} (M : Meaning K C R O) (laws : IsLawful M) where
         | inl a ↦
             let of = of_matches key m e a in
             let none = none_sum t es (λ k d l match.
-              let f : Stored K C R (Kept O C) = get_or es k d in
-              let o = of_matches key m f match in
-              let one_key = joined laws.keys e.key key f.key of.0 (turned laws.keys f.key key o.0) in
-              Parts-agreeing laws.calls laws.answers m respects e.path f.path (parted 0 (suc k) d (omega arith) (omega (arith, l)) (λ s. omega (arith, s)) one_key) of.1 o.1) in
+            let f : Stored K C R (Kept O C) = get_or es k d in
+            let o = of_matches key m f match in
+            let one_key = joined laws.keys e.key key f.key of.0 (turned laws.keys f.key key o.0) in
+            Parts-agreeing laws.calls laws.answers m respects e.path f.path (parted 0 (suc k) d (omega arith) (omega (arith, l)) (λ s. omega (arith, s)) one_key) of.1 o.1) in
             omega (arith, sum_by-cons (one t) e es, one_yes t e a, none)
         | inr a ↦ omega (arith, sum_by-cons (one t) e es, one_no t e a, unique_parted es later key m respects)
       ]
