@@ -30,7 +30,7 @@ ELSEWHERE = ("out", "examples")
 BUDGETS = {
     "README.md": 700,
     "docs/START.md": 1000,
-    "docs/GUIDE.md": 2900,
+    "docs/GUIDE.md": 3250,
     "docs/BY_HAND.md": 700,
     "docs/LEMMAS.md": 600,
     "docs/PROMISES.md": 2000,

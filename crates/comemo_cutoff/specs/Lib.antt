@@ -2,3 +2,4 @@ pub mod Cells
 pub mod Modules
 pub mod Rounds
 pub mod Sums
+pub mod Layers

@@ -1,12 +1,14 @@
 //! A function that asks its own outputs, which runs again only if a number or the output before changes.
-ghost use Rattle.std.specs.Prelude.{◌≡◌, ◌≤◌, ◌-◌, IfOk, ⊤, false};
+ghost use Rattle.std.specs.Prelude.{◌≡◌, false};
 ghost use Rattle.std.proofs.Common.{rules};
-ghost use Rattle.comemo.specs.Begun.{OnBegun};
 ghost use Rattle.comemo_cutoff.specs.Cells.{numbers};
 ghost use Rattle.comemo_cutoff.specs.Rounds.{rounded};
 
+use crate::layers::{Layered, Layers};
 use crate::{Cells, Get};
-use comemo::{At, Begun, Call, Fault, Function, Given, Hold, Known, Recorder, Track, look};
+use comemo::{
+    At, Call, Fault, Function, Given, Hold, Known, Recorder, Run, Top, Track, memoized_with,
+};
 use std::alloc::{AllocError, Global};
 
 /// What a sum asks.
@@ -68,19 +70,19 @@ impl Given<Cells> for Rounded {
 
 /// Cells, and the sums of them that are known.
 #[derive(Drop)]
-pub struct Sums<'a, 'b> {
+pub struct Sums<'a> {
     /// The sums.
-    pub known: &'b Known<'a, Cells, Rounded>,
+    pub known: Known<'a, Cells, Rounded>,
 }
 
-impl<'a, 'b> Track for Sums<'a, 'b> {
+impl<'a> Track for Sums<'a> {
     type Call = SumCall;
 
     type Answer = u64;
 
     ghost use Rattle.comemo_cutoff.specs.Sums.{sum_answer};
 
-    ghost answers = { λ s call. sum_answer (numbers s.known.now.numbers.items) call };
+    ghost answers = { λ s call. sum_answer (numbers s.known.numbers.items) call };
 
     ghost alike = { λ s x y h. Prim.search rules };
 
@@ -92,88 +94,44 @@ impl<'a, 'b> Track for Sums<'a, 'b> {
     }
 }
 
-/// Looks up the sum of the first cells, with those that are known.
-fn look_at<H: Hold<Rounded>>(
-    alloc: Global,
-    cache: &mut H,
-    count: u32,
-    known: &Known<'_, Cells, Rounded>,
-) -> Result<Begun<u64, u32>, Fault>
-    ensures hit { IfOk result (λ begun. OnBegun begun
-        (λ total. total ≡ rounded (numbers known.now.numbers.items) count) (λ _. ⊤)) }
-    ensures run { IfOk result (λ begun. OnBegun begun (λ _. ⊤) (λ own. own ≡ count)) }
-{
-    let sums = Sums { known };
-    look(alloc, cache, &count, &sums)
+impl<'a> Layered<Cells, Rounded> for Sums<'a> {
+    ghost of = { λ s. s.known };
+
+    fn known(&self, key: &u32) -> Option<&u64> {
+        self.known.get(key)
+    }
+
+    fn missing(&self) -> Option<u32> {
+        self.known.missing()
+    }
+
+    fn learn(&mut self, key: u32, output: u64) -> Result<(), AllocError> {
+        self.known.learn(key, output)
+    }
 }
 
-/// Runs and stores the sum of the first cells, by the sum before.
-fn add_to<H: Hold<Rounded>>(
-    alloc: Global,
-    cache: &mut H,
-    count: u32,
-    own: u32,
-    before: u64,
-    known: &Known<'_, Cells, Rounded>,
-) -> Result<u64, Fault>
-    requires some { 1 ≤ count }
-    requires same { own ≡ count }
-    requires before { before ≡ rounded (numbers known.now.numbers.items) (count - 1) }
-    ensures { IfOk result (λ total. total ≡ rounded (numbers known.now.numbers.items) count) }
-{
-    let sums = Sums { known };
-    let mut recorder = Recorder::new(alloc, sums.view(alloc));
-    recorder.note(SumCall::Sum(count - 1), before)?;
-    let number = recorder.ask(SumCall::Number(count - 1))?;
-    let total = before.wrapping_add(number / 10);
-    let reply = recorder.store(cache, &count, own, total)?;
-    Ok(reply.output)
-}
-
-/// The sum of the first cells, each without its last digit, through a cache, at cells of which some sums are known.
-///
-/// Fails if out of memory.
-pub fn round_up_to<H: Hold<Rounded>>(
-    alloc: Global,
-    cache: &mut H,
-    count: u32,
-    known: &mut Known<'_, Cells, Rounded>,
-) -> Result<u64, Fault>
-    ensures same { known.new ≡ known.old }
-    ensures total { IfOk result
-        (λ total. total ≡ rounded (numbers known.old.numbers.items) count) }
-{
-    // This needs no call, so it is not kept.
-    if count == 0 {
-        return Ok(0);
-    }
-    if let Some(total) = known.get(&count) {
-        return Ok(*total);
-    }
-    for _i in 0..u64::MAX {
-        match look_at(alloc, cache, count, known) {
-            Ok(Begun::Hit(total)) => {
-                known.learn(count, total)?;
-                return Ok(total);
-            }
-            Ok(Begun::Run(own)) => {
-                let before = round_up_to(alloc, cache, count - 1, known)?;
-                let total = add_to(alloc, cache, count, own, before, known)?;
-                known.learn(count, total)?;
-                return Ok(total);
-            }
-            Err(fault) => {
-                // An output below may be missing.
-                let Some(missing) = known.missing() else {
-                    return Err(fault);
-                };
-                if missing >= count {
-                    return Err(fault);
-                }
-                let output = round_up_to(alloc, cache, missing, known)?;
-                known.learn(missing, output)?;
-            }
+impl<'a> Run<Sums<'a>, ()> for Rounded {
+    fn run(count: &u32, sums: &mut Recorder<'_, Sums<'a>>, _: &mut ()) -> Result<u64, Fault> {
+        if *count == 0 {
+            return Ok(0);
         }
+        let before = sums.ask(SumCall::Sum(*count - 1))?;
+        let number = sums.ask(SumCall::Number(*count - 1))?;
+        Ok(before.wrapping_add(number / 10))
     }
-    Err(Fault::Memory)
+}
+
+/// The cache of the sums.
+#[derive(Drop)]
+pub struct SumCache<H> {
+    /// The cache.
+    pub cache: H,
+}
+
+impl<'a, H: Hold<Rounded>> Layers<Sums<'a>, Cells, Rounded> for SumCache<H> {
+    fn call(&mut self, alloc: Global, count: &u32, at: &Sums<'a>) -> Result<u64, Fault> {
+        let cache = &mut self.cache;
+        let reply = memoized_with(alloc, cache, &mut (), *count, at, &mut Top::new(), true)?;
+        Ok(reply.output)
+    }
 }

@@ -3,7 +3,8 @@
 use comemo::{Cache, CacheData, Fault, Hold, How, Known};
 use comemo_cutoff::Cells;
 use comemo_cutoff::exports::{Check, Exports, checked};
-use comemo_cutoff::rounds::{Rounded, round_up_to};
+use comemo_cutoff::layers::{Layers, known_output};
+use comemo_cutoff::rounds::{Rounded, SumCache, Sums};
 use std::alloc::Global;
 
 /// Whether a check of the first two cells returns this output and ends as `how`.
@@ -45,35 +46,59 @@ fn a_change_that_leaves_the_output_runs_no_caller(rt: HostRuntime) -> Result<(),
     Ok(())
 }
 
-/// Whether this is the sum of the first cells, each without its last digit.
-fn is_sum<H: Hold<Rounded>>(
+/// The cache of the sums, and how many calls were made of them.
+#[derive(Drop)]
+struct Counted<H> {
+    sums: SumCache<H>,
+    calls: usize,
+}
+
+impl<'a, H: Hold<Rounded>> Layers<Sums<'a>, Cells, Rounded> for Counted<H> {
+    fn call(&mut self, alloc: Global, count: &u32, at: &Sums<'a>) -> Result<u64, Fault> {
+        self.calls = self.calls.wrapping_add(1);
+        self.sums.call(alloc, count, at)
+    }
+}
+
+/// The sum of the first cells, each without its last digit, in a new round.
+fn sum<H: Hold<Rounded>>(
     alloc: Global,
-    cache: &mut H,
+    layers: &mut Counted<H>,
     cells: &Cells,
     count: u32,
-    sum: u64,
-) -> bool {
-    let mut known = Known::new(alloc, cells);
-    round_up_to(alloc, cache, count, &mut known) == Ok(sum)
+) -> Result<u64, Fault> {
+    let mut sums = Sums {
+        known: Known::new(alloc, cells),
+    };
+    layers.calls = 0;
+    known_output::<Counted<H>, Sums<'_>, Cells, Rounded>(alloc, layers, &mut sums, count)
 }
+
+/// In each round each sum is called twice: it needs the one before at first, and then it is a hit or runs. That of no
+/// cell needs none.
+const CALLS: usize = 30 + 30 + 1;
 
 #[test]
 fn a_sum_runs_again_up_to_an_equal_output(rt: HostRuntime) -> Result<(), Fault> {
     let alloc = rt.alloc();
     let mut cells = Cells::new(alloc, 40)?;
-    let mut cache: CacheData<Rounded> = CacheData::new(alloc);
-    // The place that is set, the number there, the sum of the first 30 cells then, and the number of kept outputs.
-    let calls: &[(usize, u64, u64, usize)] = &[
-        (0, 1, 120, 30),
-        (0, 9, 120, 31),
-        (0, 10, 121, 31 + 30),
-        (5, 17, 121, 31 + 31),
-        (35, 0, 121, 31 + 31),
+    let mut layers: Counted<CacheData<Rounded>> = Counted {
+        sums: SumCache {
+            cache: CacheData::new(alloc),
+        },
+        calls: 0,
+    };
+    let rounds: &[(usize, u64, u64, usize)] = &[
+        (0, 1, 120, 31),
+        (0, 9, 120, 32),
+        (0, 10, 121, 32 + 30),
+        (5, 17, 121, 32 + 31),
+        (35, 0, 121, 32 + 31),
     ];
-    for (place, number, sum, kept) in calls {
+    for (place, number, total, kept) in rounds {
         cells.set(*place, *number);
-        assert!(rt; is_sum(alloc, &mut cache, &cells, 30, *sum));
-        assert_eq!(rt; cache.len(), *kept);
+        assert_eq!(rt; sum(alloc, &mut layers, &cells, 30), Ok(*total));
+        assert_eq!(rt; (layers.sums.cache.len(), layers.calls), (*kept, CALLS));
     }
     Ok(())
 }
@@ -83,11 +108,16 @@ fn a_shared_cache_keeps_the_sums_too(rt: HostRuntime) -> Result<(), Fault> {
     let alloc = rt.alloc();
     let mut cells = Cells::new(alloc, 12)?;
     let cache: Cache<Rounded> = Cache::new(alloc);
-    let held = &mut cache.hold(&rt);
-    let calls: &[(usize, u64, u64, usize)] = &[(0, 1, 10, 10), (0, 9, 10, 11), (0, 10, 11, 21)];
-    for (place, number, sum, kept) in calls {
+    let mut layers = Counted {
+        sums: SumCache {
+            cache: cache.hold(&rt),
+        },
+        calls: 0,
+    };
+    let rounds: &[(usize, u64, u64, usize)] = &[(0, 1, 10, 11), (0, 9, 10, 12), (0, 10, 11, 22)];
+    for (place, number, total, kept) in rounds {
         cells.set(*place, *number);
-        assert!(rt; is_sum(alloc, held, &cells, 10, *sum));
+        assert_eq!(rt; sum(alloc, &mut layers, &cells, 10), Ok(*total));
         assert_eq!(rt; cache.contents(&rt).entries, *kept);
     }
     Ok(())
