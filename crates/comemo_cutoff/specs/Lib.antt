@@ -2,4 +2,3 @@ pub mod Cells
 pub mod Modules
 pub mod Rounds
 pub mod Sums
-pub mod Layers

@@ -4,10 +4,10 @@ ghost use Rattle.std.proofs.Common.{rules};
 ghost use Rattle.comemo_cutoff.specs.Cells.{numbers};
 ghost use Rattle.comemo_cutoff.specs.Rounds.{rounded};
 
-use crate::layers::{Layered, Layers};
 use crate::{Cells, Get};
 use comemo::{
-    At, Call, Fault, Function, Given, Hold, Known, Recorder, Run, Top, Track, memoized_with,
+    At, Call, Fault, Function, Given, Hold, Known, Layered, Layers, Recorder, Run, Top, Track,
+    memoized_with,
 };
 use std::alloc::{AllocError, Global};
 

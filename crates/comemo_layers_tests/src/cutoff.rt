@@ -1,9 +1,8 @@
 //! Changes that leave an output as it is, and changes that don't.
 
-use comemo::{Cache, CacheData, Fault, Hold, How, Known};
+use comemo::{Cache, CacheData, Fault, Hold, How, Known, Layers, known_output};
 use comemo_cutoff::Cells;
 use comemo_cutoff::exports::{Check, Exports, checked};
-use comemo_cutoff::layers::{Layers, known_output};
 use comemo_cutoff::rounds::{Rounded, SumCache, Sums};
 use std::alloc::Global;
 

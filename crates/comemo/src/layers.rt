@@ -1,8 +1,11 @@
 //! Functions that ask outputs of one another: the round that makes an output known, and each that it needs.
 ghost use Rattle.std.specs.Prelude.{◌≡◌, IsTrue, IfOk, IfSome};
-ghost use Rattle.comemo_cutoff.specs.Layers.{OnOutput};
+ghost use Rattle.comemo.specs.Layers.{OnOutput};
 
-use comemo::{Answer, Fault, Given, Track};
+use crate::known::Given;
+use crate::pending::Fault;
+use comemo_track::answer::Answer;
+use comemo_track::track::Track;
 use std::alloc::{AllocError, Global};
 use std::collections::HashMap;
 use std::hash::Hash;

@@ -1,6 +1,6 @@
 -- What became of a call in a round.
-use Rattle.comemo_cutoff.specs.declared.layers.Turn.{Turn}
-use Rattle.comemo_cutoff.specs.declared.layers.Turn.TheVariants.{Output, Needs}
+use Rattle.comemo.specs.declared.layers.Turn.{Turn}
+use Rattle.comemo.specs.declared.layers.Turn.TheVariants.{Output, Needs}
 
 -- it holds of the output, if the call returned one
 abbrev pub OnOutput : {K O : Type 0} → Turn K O → (O → Type 0) → Type 0
