@@ -8,8 +8,8 @@ use Rattle.comemo.specs.declared.pending.How.{How}
 use Rattle.comemo.specs.declared.pending.How.TheVariants as how
 
 -- A hit is `found`, with the entry's run up to clones, and `touched`. Any other call is `missed`, the steps of the calls in
--- its run, and `ended`, with the run and what became of it: a call of f in the run of g is missed g, missed f, ended f,
--- ended g. A call that failed lacks the last steps. Steps of other calls, also of other threads, may stand in between.
+-- its run, and `ended`, with the run and what became of it. So a call b within the run of a call a is missed a, missed b,
+-- ended b, ended a. A call that failed lacks the last steps. Steps of other threads may stand anywhere in between.
 pub data Step (K C R O : Type 0) : Type 0 where
   found : Invocation K C R → Run K C R O → Step K C R O
   touched : Invocation K C R → Step K C R O
