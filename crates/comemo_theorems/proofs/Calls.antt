@@ -1,5 +1,5 @@
 -- Calls as steps, and what a call that failed left.
-use Rattle.std.proofs.Common.{◌≡◌, ◌∙◌, Bool, true, false, List, [], ◌∷◌, ◌++◌, Some, None, IsTrue, refl, sym, subst, inl, inr}
+use Rattle.std.proofs.Common.{◌≡◌, ◌∙◌, Bool, true, false, List, [], ◌∷◌, ◌++◌, Some, None, IsTrue, refl, sym, subst, inl, inr, ◌⊎◌}
 use Rattle.std.proofs.lemmas.List.Elements.{All-nil, All-cons, All-append}
 use Rattle.std.specs.Prelude.{◌↔◌}
 use Rattle.std.specs.List.{All}
@@ -9,11 +9,14 @@ use Rattle.comemo_cache.specs.Meaning.{Meaning, Invocation, Run, run, IsNamed}
 use Rattle.comemo_cache.specs.Cache.{Entries, HasNone, IsEntryOf}
 use Rattle.comemo.specs.Begin.{came_to}
 use Rattle.comemo.specs.Called.{IsReply, IsReplyMut}
+use Rattle.comemo.specs.FunctionMut.{FailsBy}
 use Rattle.comemo.specs.Finish.{Ends, Gives}
+use Rattle.comemo.specs.declared.pending.Fault.{Fault}
+use Rattle.comemo.specs.declared.pending.Fault.TheVariants as fault
 use Rattle.comemo.specs.declared.pending.Reply.{Reply}
 use Rattle.comemo.specs.declared.pending.How.TheVariants as how
 use Rattle.comemo_theorems.specs.History.{Step, found, touched, missed, ended, Does, History, Answers, Honest}
-use Rattle.comemo_theorems.specs.Statements.{NothingLost, IsCall, AsPlainList, ByHand, FaultsKeep, FaultsSpread, ThroughAnyHolder}
+use Rattle.comemo_theorems.specs.Statements.{NothingLost, IsCall, AsPlainList, ByHand, FaultsKeep, FaultsSpread, ThroughAnyHolder, FaultsThroughAnyHolder}
 use Rattle.comemo_theorems.proofs.Lawful.{IsLawful}
 use Rattle.comemo_theorems.proofs.Steps.{history_append}
 use Rattle.comemo_theorems.proofs.Again.{OfEntry, not_none}
@@ -43,8 +46,9 @@ module _ {K C R O : Type 0} (M : Meaning K C R O) where
       inr (write.0, ran, stopped.prefix, stopped.next ∷ stopped.rest, refl, stopped.are_done, stopped.is_spoiled, (es, (stopped.kept, refl), (es', inl write.1.0, refl)))
 
   pub faults_spread : (touches : C → C → Bool) (sent : List (C × R) → List C → Type 0) → FaultsSpread M touches sent
-  faults_spread touches sent before around pairs broken es es' output reply finished =
-      let f : false ≡ true = sym broken.spoiled.complete ∙ finished.complete in
+  faults_spread touches sent before failed around pairs more writes after broken took es es' output reply finished =
+      let is : failed.complete ≡ false = elim broken [ inl b ↦ b.spoiled.complete | inr b ↦ b.spoiled.complete ] in
+      let f : false ≡ true = sym is ∙ sym took.complete ∙ finished.complete in
       cc
 
 module _ {K C R O : Type 0} (M : Meaning K C R O) (laws : IsLawful M) where
@@ -121,7 +125,29 @@ module _ {K C R O : Type 0} (M : Meaning K C R O) (laws : IsLawful M) where
       let answers : Answers M call ran = record { alike = alike; has_key = laws.keys.refl call.key; agrees = is.agrees; stands = is.stands } in
       (ran, refl, answers, is.stands call.answers alike is.agrees, is.gives)
 
-  pub through_any_holder : (sent : List (C × R) → List C → Type 0) → ThroughAnyHolder M sent
-  through_any_holder sent call (Some es) (Some es') reply is alike = replied sent call es es es' reply is alike
-  through_any_holder sent call (Some es) None reply is alike = replied sent call is.0 is.1 is.2 reply is.3 alike
-  through_any_holder sent call None after reply is alike = replied sent call is.0 is.1 is.2 reply is.3 alike
+  replied_mut : (touches : C → C → Bool) (sent : Bool → List (C × R) → List C → Type 0) (call : Invocation K C R) (es mid es' : Entries K C R O) (reply : Reply O) → IsReplyMut M call touches es mid sent reply es' → Respects M.same_call M.same_answer call.answers → (reply.how ≡ how.Late → ⊥) → (ran : Run K C R O) × (ran.output ≡ reply.output) × Answers M call ran × M.right call.key call.answers ran.output ran.writes × Gives M (sent false) ran.pairs ran.writes
+  replied_mut touches sent call es mid es' reply (inl is) alike early = replied (sent false) call es mid es' reply is alike
+  replied_mut touches sent call es mid es' reply (inr late) alike early = absurd (early late.is_late)
+
+  pub through_any_holder : (touches : C → C → Bool) (sent : Bool → List (C × R) → List C → Type 0) → ThroughAnyHolder M touches sent
+  through_any_holder touches sent call (Some es) (Some es') reply is alike early = replied_mut touches sent call es es es' reply is alike early
+  through_any_holder touches sent call (Some es) None reply is alike early = replied_mut touches sent call is.0 is.1 is.2 reply is.3 alike early
+  through_any_holder touches sent call None after reply is alike early = replied_mut touches sent call is.0 is.1 is.2 reply is.3 alike early
+
+  -- a fault without its entries
+  abbrev Fails : (List C → Type 0) → Type 0 → (List (C × R) → List C → Type 0) → Invocation K C R → Fault → Type 0
+  Fails done spoils spoiled call f =
+      (f ≡ fault.Memory) ⊎ spoils ⊎ ((f ≡ fault.Write) × (ran : Run K C R O) × (first rest : List C) × (ran.writes ≡ first ++ rest) × Answers M call ran × done first × spoiled ran.pairs first)
+
+  fails : (done : List C → Type 0) (spoils : Type 0) (spoiled : List (C × R) → List C → Type 0) (call : Invocation K C R) (es es' : Entries K C R O) (f : Fault) → FailsBy M es call done spoils spoiled f es' → Respects M.same_call M.same_answer call.answers → Fails done spoils spoiled call f
+  fails done spoils spoiled call es es' f (inl unbegun) alike = elim unbegun.1 [ inl memory ↦ inl memory.0 | inr due ↦ elim due.1 [ inl memory ↦ inl memory | inr own ↦ inr (inl own) ] ]
+  fails done spoils spoiled call es es' f (inr write) alike =
+      let stopped = write.1.1 in
+      let ran : Run K C R O = run call.key stopped.pairs stopped.output (stopped.prefix ++ stopped.next ∷ stopped.rest) in
+      let answers : Answers M call ran = record { alike = alike; has_key = laws.keys.refl call.key; agrees = stopped.agrees; stands = stopped.stands } in
+      inr (inr (write.0, ran, stopped.prefix, stopped.next ∷ stopped.rest, refl, answers, stopped.are_done, stopped.is_spoiled))
+
+  pub faults_through_any_holder : (done : List C → Type 0) (spoils : Type 0) (spoiled : List (C × R) → List C → Type 0) → FaultsThroughAnyHolder M done spoils spoiled
+  faults_through_any_holder done spoils spoiled call (Some es) (Some es') f is alike = fails done spoils spoiled call es es' f is alike
+  faults_through_any_holder done spoils spoiled call (Some es) None f is alike = fails done spoils spoiled call es is.0 f is.1 alike
+  faults_through_any_holder done spoils spoiled call None after f is alike = fails done spoils spoiled call is.0 is.1 f is.2 alike

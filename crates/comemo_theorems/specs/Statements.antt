@@ -1,14 +1,15 @@
 -- The theorems, for the meaning of any memoized function.
-use Rattle.std.specs.Prelude.{◌≡◌, ◌↔◌, ◌⊎◌, ◌++◌, ℕ, Bool, true, List, [], ◌∷◌, Option}
+use Rattle.std.specs.Prelude.{◌≡◌, ◌↔◌, ◌⊎◌, ◌++◌, ℕ, Bool, true, false, List, [], ◌∷◌, Option}
 use Rattle.std.specs.List.{All}
 use Rattle.comemo_base.specs.Answers.{Respects}
 use Rattle.comemo_base.specs.Tree.{IsTree}
 use Rattle.comemo_track.specs.Recording.{Recording, Took, Spoiled}
-use Rattle.comemo_track.specs.Sending.{BreaksOff}
+use Rattle.comemo_track.specs.Sending.{BreaksOff, SpoiledAfter}
 use Rattle.comemo_cache.specs.Meaning.{Meaning, Invocation, Run, run, SameWrites, IsNamed}
 use Rattle.comemo_cache.specs.Cache.{Entries, HasNone, Has}
+use Rattle.comemo_cache.specs.Held.{Leads}
 use Rattle.comemo.specs.Begin.{PendingRun, IsRun, came_to}
-use Rattle.comemo.specs.Called.{IsDue, IsReply, IsReplyMut, HeldReply}
+use Rattle.comemo.specs.Called.{IsDue, IsReply, IsReplyMut, HeldReplyMut}
 use Rattle.comemo.specs.Finish.{Finished, Gives}
 use Rattle.comemo.specs.FunctionMut.{FailsBy}
 use Rattle.comemo.specs.declared.pending.Fault.{Fault}
@@ -111,19 +112,31 @@ module _ {K C R O : Type 0} (M : Meaning K C R O) where
       ⊎ ((f ≡ fault.Write) × (ran : Run K C R O) × (first rest : List C) × (ran.writes ≡ first ++ rest)
       × done first × spoiled ran.pairs first × History M (found call ran ∷ touched call ∷ []) es es')
 
-  -- Faults spread. The run around a call that failed took a prefix of some pairs and is incomplete, so that no `finish` of
-  -- it replies.
+  -- Faults spread. Where the recording around a call that failed broke off, or was marked incomplete after what it took, and
+  -- whatever it takes then, no `finish` of that run replies.
   abbrev pub FaultsSpread : (C → C → Bool) → (List (C × R) → List C → Type 0) → Type 0
   FaultsSpread touches sent =
-      (before : Recording C R) (around : PendingRun K C R) (pairs : List (C × R))
-      → BreaksOff (Took M.same_call touches) Spoiled before around.recording pairs
+      (before failed : Recording C R) (around : PendingRun K C R) (pairs more : List (C × R)) (writes after : List C)
+      → BreaksOff (Took M.same_call touches) Spoiled before failed pairs
+      ⊎ SpoiledAfter (Took M.same_call touches) Spoiled before failed pairs writes
+      → Took M.same_call touches failed around.recording more after
       → (es es' : Entries K C R O) (output : O) (reply : Reply O) → Finished M es around sent output reply es' → ⊥
 
-  -- Through any holder. Whatever it tells of its entries, as a share, which tells none, a reply is that of a run that
-  -- answers the call, and right; and the call sent what the run has.
-  abbrev pub ThroughAnyHolder : (List (C × R) → List C → Type 0) → Type 0
-  ThroughAnyHolder sent =
+  -- Through any holder. Whatever it tells of its entries, as a share, which tells none, a reply but a late one is that of a
+  -- run that answers the call, and right; and the call sent and did what the run has.
+  abbrev pub ThroughAnyHolder : (C → C → Bool) → (Bool → List (C × R) → List C → Type 0) → Type 0
+  ThroughAnyHolder touches sent =
       (call : Invocation K C R) (before after : Option (Entries K C R O)) (reply : Reply O)
-      → HeldReply M call before sent reply after → Respects M.same_call M.same_answer call.answers
+      → HeldReplyMut M touches call before sent reply after → Respects M.same_call M.same_answer call.answers
+      → (reply.how ≡ how.Late → ⊥)
       → (ran : Run K C R O) × (ran.output ≡ reply.output) × Answers M call ran
-      × M.right call.key call.answers ran.output ran.writes × Gives M sent ran.pairs ran.writes
+      × M.right call.key call.answers ran.output ran.writes × Gives M (sent false) ran.pairs ran.writes
+
+  -- Faults through any holder. A fault is want of memory, or the run's own, of which the sink took nothing; or a hit of a run that answers the call stopped at a refused write, after the writes before that one.
+  abbrev pub FaultsThroughAnyHolder : (List C → Type 0) → Type 0 → (List (C × R) → List C → Type 0) → Type 0
+  FaultsThroughAnyHolder done spoils spoiled =
+      (call : Invocation K C R) (before after : Option (Entries K C R O)) (f : Fault)
+      → Leads before after (λ es es'. FailsBy M es call done spoils spoiled f es') → Respects M.same_call M.same_answer call.answers
+      → (f ≡ fault.Memory) ⊎ spoils
+      ⊎ ((f ≡ fault.Write) × (ran : Run K C R O) × (first rest : List C) × (ran.writes ≡ first ++ rest)
+      × Answers M call ran × done first × spoiled ran.pairs first)

@@ -3,7 +3,7 @@
 #![tactic(auto)]
 
 ghost use Rattle.std.specs.Prelude.{Bool, false};
-ghost use Rattle.comemo_theorems.specs.Statements.{NeverStale, HitsAgain, HitsUntilOld, HitsExisting, NothingLost, AsPlainList, ByHand, HitsReplay, FaultsKeep, FaultsSpread, ThroughAnyHolder};
+ghost use Rattle.comemo_theorems.specs.Statements.{NeverStale, HitsAgain, HitsUntilOld, HitsExisting, NothingLost, AsPlainList, ByHand, HitsReplay, FaultsKeep, FaultsSpread, ThroughAnyHolder, FaultsThroughAnyHolder};
 ghost use Rattle.comemo_theorems.specs.Coarse.{NeverStaleAtAll, IsPast};
 
 pub mod fibonacci;
@@ -89,8 +89,23 @@ pub fn faults_spread<M: Function, S: Sink<Call = M::Call, Answer = M::Answer>>()
         (⟦<S as Breaking>⟧.took_as late s t) }
 {}
 
-/// Through any holder, also a share, a reply is that of a run that answers the call, and right. So it is under every
-/// schedule of threads.
-pub fn through_any_holder<M: Function, S: Sink<Call = M::Call, Answer = M::Answer>>()
-    ensures { (s t : S) → ThroughAnyHolder ⟦<M as Meant>⟧.meaning (S.took s t) }
+/// Through any holder, also a share, a reply but a late one is that of a run that answers the call, and right. So it is
+/// under every schedule of threads.
+pub fn through_any_holder<M: Function, T, S>()
+where
+    T: Track<Call = M::Call, Answer = M::Answer>,
+    S: Sink<Call = M::Call, Answer = M::Answer>,
+    ensures reads { (s t : S)
+        → ThroughAnyHolder ⟦<M as Meant>⟧.meaning M.Call.touches (λ _. S.took s t) }
+    ensures writes { (v w : T) → (s t : S) → ThroughAnyHolder ⟦<M as Meant>⟧.meaning M.Call.touches
+        (λ late P W. ⟦<S as Breaking>⟧.took_as late s t P W × ⟦<T as Written>⟧.did v w W) }
+{}
+
+/// Through any holder, a call fails as `faults_keep` says, but for what that says of entries.
+pub fn faults_through_any_holder<M: Function, T, S>()
+where
+    T: Track<Call = M::Call, Answer = M::Answer>,
+    S: Sink<Call = M::Call, Answer = M::Answer>,
+    ensures { (v w : T) → (s t : S) → FaultsThroughAnyHolder ⟦<M as Meant>⟧.meaning
+        (⟦<T as Written>⟧.did v w) (S.spoils s t) (⟦<S as Breaking>⟧.spoiled_after s t) }
 {}
