@@ -1,9 +1,9 @@
 //! Changes that leave an output as it is, and changes that don't.
 
-use comemo::{Cache, CacheData, Fault, Hold, How, Known, Layers, known_output};
+use comemo::{Cache, CacheData, Fault, Hold, How, Known, Layers, Track, known_output};
 use comemo_cutoff::Cells;
 use comemo_cutoff::exports::{Check, Exports, checked};
-use comemo_cutoff::rounds::{Rounded, SumCache, Sums};
+use comemo_cutoff::rounds::{Rounded, SumCache, SumCall, Sums};
 use std::alloc::Global;
 
 /// Whether a check of the first two cells returns this output and ends as `how`.
@@ -119,5 +119,56 @@ fn a_shared_cache_keeps_the_sums_too(rt: HostRuntime) -> Result<(), Fault> {
         assert_eq!(rt; sum(alloc, &mut layers, &cells, 10), Ok(*total));
         assert_eq!(rt; cache.contents(&rt).entries, *kept);
     }
+    Ok(())
+}
+
+#[test]
+fn an_output_is_verified_once_in_a_round(rt: HostRuntime) -> Result<(), Fault> {
+    let alloc = rt.alloc();
+    let cells = Cells::new(alloc, 40)?;
+    let mut layers: Counted<CacheData<Rounded>> = Counted {
+        sums: SumCache {
+            cache: CacheData::new(alloc),
+        },
+        calls: 0,
+    };
+    let mut sums = Sums {
+        known: Known::new(alloc, &cells),
+    };
+    // The sum that is asked, and how many calls were made since the round began.
+    let asked: &[(u32, usize)] = &[(30, CALLS), (30, CALLS), (7, CALLS), (31, CALLS + 1)];
+    for (count, calls) in asked {
+        let _ = known_output::<Counted<CacheData<Rounded>>, Sums<'_>, Cells, Rounded>(
+            alloc,
+            &mut layers,
+            &mut sums,
+            *count,
+        )?;
+        assert_eq!(rt; layers.calls, *calls);
+    }
+    Ok(())
+}
+
+/// Asks the sum of one cell for that of two, and the other way round.
+#[derive(Drop)]
+struct Circle;
+
+impl<'a> Layers<Sums<'a>, Cells, Rounded> for Circle {
+    fn call(&mut self, _alloc: Global, count: &u32, at: &Sums<'a>) -> Result<u64, Fault> {
+        let needed = if *count == 1 { 2 } else { 1 };
+        let _ = at.ask(&SumCall::Sum(needed))?;
+        Err(Fault::Memory)
+    }
+}
+
+#[test]
+fn an_output_that_needs_itself_fails(rt: HostRuntime) -> Result<(), Fault> {
+    let alloc = rt.alloc();
+    let cells = Cells::new(alloc, 4)?;
+    let mut sums = Sums {
+        known: Known::new(alloc, &cells),
+    };
+    let circle = known_output::<Circle, Sums<'_>, Cells, Rounded>(alloc, &mut Circle, &mut sums, 1);
+    assert_eq!(rt; circle, Err(Fault::Memory));
     Ok(())
 }
