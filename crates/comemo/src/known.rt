@@ -135,6 +135,13 @@ impl<'r, T: Track, Q: Query<T>> Known<'r, T, Q> {
         }
     }
 
+    /// The value itself, for a function that asks no outputs.
+    pub fn value(&self) -> &'r T
+        ensures { result.now ≡ self.now }
+    {
+        self.outputs.of
+    }
+
     /// The key of the last output that was asked and not known, if there is one.
     pub(crate) fn into_missing(self) -> Option<Q::At> {
         self.outputs.missing.into_inner()

@@ -12,6 +12,40 @@ use std::collections::HashMap;
 use std::hash::Hash;
 use std::marker::{Model, PhantomData};
 
+/// Why an output could not be made known.
+#[derive(Clone, Copy, Drop, Debug, PartialEq, Eq)]
+pub enum RoundError<K> {
+    /// A function failed, or memory ran out.
+    Fault(Fault),
+    /// The output at this key needs itself.
+    Circle(K),
+}
+
+/// Lets `?` pass on a fault.
+impl<K> From<Fault> for RoundError<K> {
+    ghost use Rattle.std.specs.Prelude.{◌≡◌};
+    ghost use Rattle.comemo.specs.declared.round.RoundError.TheVariants as error;
+
+    ghost from_gives = { λ fault e. e ≡ error.Fault fault };
+
+    fn from(fault: Fault) -> RoundError<K> {
+        RoundError::Fault(fault)
+    }
+}
+
+/// Lets `?` pass on a failure to allocate.
+impl<K> From<AllocError> for RoundError<K> {
+    ghost use Rattle.std.specs.Prelude.{◌≡◌};
+    ghost use Rattle.comemo.specs.declared.pending.Fault.TheVariants.{Memory};
+    ghost use Rattle.comemo.specs.declared.round.RoundError.TheVariants as error;
+
+    ghost from_gives = { λ _ e. e ≡ error.Fault Memory };
+
+    fn from(_error: AllocError) -> RoundError<K> {
+        RoundError::Fault(Fault::Memory)
+    }
+}
+
 /// The functions of a query, with their caches and needs.
 pub trait Provider<T: Track, Q: Query<T>> {
     /// Calls the function of a key by `Turn::call`. Fails if that does.
@@ -30,11 +64,13 @@ pub trait Task<T: Track, Q: Query<T>> {
     type Out;
 
     // what it may return, for these answers of the value
-    ghost right: { (T.Call → T.Answer) → Self.Out → Type 0 };
+    ghost right: { Self → (T.Call → T.Answer) → Self.Out → Type 0 };
 
     /// Makes the call by `Turn::call`. Fails if that does.
     fn call(&mut self, turn: &Turn<'_, Known<'_, T, Q>>) -> Result<Self::Out, Fault>
-        ensures { IfOk result (right (T.answers turn.now)) };
+        ensures right { IfOk result (right self.old (T.answers turn.now)) }
+        ensures keeps { (m : T.Call → T.Answer) (out : Self.Out)
+            → right self.new m out → right self.old m out };
 }
 
 /// A round: a value, which can't change while the round lasts, and the outputs of a query that are known at it.
@@ -87,14 +123,20 @@ impl<K: Clone + Eq + Hash> Waiting<K> {
         }
     }
 
-    /// Has a key wait, and says whether it never waited before. Fails if out of memory.
-    fn add(&mut self, key: K) -> Result<bool, AllocError> {
+    /// Has a key wait. Fails if it waited before, since its output then needs itself, or if out of memory.
+    fn add(&mut self, key: K) -> Result<(), RoundError<K>> {
         if self.seen.contains_key(&key) {
-            return Ok(false);
+            return Err(RoundError::Circle(key));
         }
-        self.seen.insert(key.clone()?, ())?;
-        self.keys.push(key)?;
-        Ok(true)
+        self.note(key.clone()?)?;
+        self.again(key)?;
+        Ok(())
+    }
+
+    /// Notes that a key waited. Fails if out of memory.
+    fn note(&mut self, key: K) -> Result<(), AllocError> {
+        self.seen.insert(key, ())?;
+        Ok(())
     }
 
     /// Has a key wait that waited before. Fails if out of memory.
@@ -162,13 +204,13 @@ impl<'a, T: Track, Q: Query<T>> Round<'a, T, Q> {
 
     /// The output at a key: it is known, or it is looked up or computed now, after each output that it needs.
     ///
-    /// Fails if a function does, if out of memory, and also as `Memory` if an output needs itself. The keys that wait
-    /// are on the heap, so the stack doesn't grow with the depth of calls.
+    /// Fails if a function does, if out of memory, or if an output needs itself. The keys that wait are on the heap, so
+    /// the stack doesn't grow with the depth of calls.
     pub fn output<P: Provider<T, Q>>(
         &mut self,
         provider: &mut P,
         key: Q::At,
-    ) -> Result<Q::Output, Fault>
+    ) -> Result<Q::Output, RoundError<Q::At>>
         ensures same { self.new ≡ self.old }
         ensures gives { IfOk result (λ output.
             IsTrue (Q.Output.eq (Q.gives key (T.answers self.old)) output)) }
@@ -184,11 +226,7 @@ impl<'a, T: Track, Q: Query<T>> Round<'a, T, Q> {
                         self.learn(key, output.clone()?)?;
                         return Ok(output);
                     }
-                    Turned::Needs(needed) => {
-                        if !waiting.add(needed)? {
-                            return Err(Fault::Memory);
-                        }
-                    }
+                    Turned::Needs(needed) => waiting.add(needed)?,
                 }
                 continue;
             };
@@ -196,18 +234,19 @@ impl<'a, T: Track, Q: Query<T>> Round<'a, T, Q> {
                 Turned::Output(output) => self.learn(below, output)?,
                 Turned::Needs(needed) => {
                     waiting.again(below)?;
-                    if !waiting.add(needed)? {
-                        return Err(Fault::Memory);
-                    }
+                    waiting.add(needed)?;
                 }
             }
         }
-        Err(Fault::Memory)
+        Err(RoundError::Fault(Fault::Memory))
     }
 
     /// A turn of a call, or which output it needs first.
     fn take_task<A: Task<T, Q>>(&self, task: &mut A) -> Result<Turned<Q::At, A::Out>, Fault>
-        ensures { IfOk result (λ turned. OnOutput turned (A.right (T.answers self.now))) }
+        ensures right { IfOk result
+            (λ turned. OnOutput turned (A.right task.old (T.answers self.now))) }
+        ensures keeps { (m : T.Call → T.Answer) (out : A.Out)
+            → A.right task.new m out → A.right task.old m out }
     {
         let known = Known::new(self.of, &self.table);
         match task.call(&Turn::new(self.alloc, &known)) {
@@ -226,9 +265,9 @@ impl<'a, T: Track, Q: Query<T>> Round<'a, T, Q> {
         &mut self,
         provider: &mut P,
         task: &mut A,
-    ) -> Result<A::Out, Fault>
+    ) -> Result<A::Out, RoundError<Q::At>>
         ensures same { self.new ≡ self.old }
-        ensures right { IfOk result (A.right (T.answers self.old)) }
+        ensures right { IfOk result (A.right task.old (T.answers self.old)) }
     {
         for _i in 0..u64::MAX {
             match self.take_task(task)? {
@@ -238,6 +277,6 @@ impl<'a, T: Track, Q: Query<T>> Round<'a, T, Q> {
                 }
             }
         }
-        Err(Fault::Memory)
+        Err(RoundError::Fault(Fault::Memory))
     }
 }

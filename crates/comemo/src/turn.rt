@@ -44,6 +44,11 @@ impl<'t, V: Track> Turn<'t, V> {
         self.at
     }
 
+    /// The allocator.
+    pub fn alloc(&self) -> Global {
+        self.alloc
+    }
+
     /// Calls a memoized function of the value: returns the output of an entry that agrees, or runs it and stores the
     /// run.
     ///

@@ -1,13 +1,15 @@
 //! A function that asks its own outputs, which runs again only if a number or the output before changes.
-ghost use Rattle.std.specs.Prelude.{◌≡◌};
+ghost use Rattle.std.specs.Prelude.{◌≡◌, IfOk};
 ghost use Rattle.std.proofs.Common.{rules};
+ghost use Rattle.comemo_cutoff.specs.Cells.{numbers};
 ghost use Rattle.comemo_cutoff.specs.Rounds.{rounded};
 
 use crate::{Cells, Get};
 use comemo::{
     At, Fault, First, Function, Hold, Known, MultiAnswer, MultiCall, Provider, Query, Recorder,
-    Run, Second, Turn,
+    Round, RoundError, Run, Second, Turn,
 };
+use std::alloc::Global;
 
 /// The sum of the first cells, each without its last digit, which wraps at 64 bits. It asks the last of these cells,
 /// and the sum of those before.
@@ -72,4 +74,17 @@ impl<H: Hold<Rounded>> Provider<Cells, Rounded> for SumCache<H> {
         let reply = turn.call(&mut self.cache, &mut (), *count)?;
         Ok(reply.output)
     }
+}
+
+/// The sum of the first cells, each without its last digit, through a cache, in a round of its own.
+pub fn summed<H: Hold<Rounded>>(
+    alloc: Global,
+    sums: &mut SumCache<H>,
+    cells: &Cells,
+    count: u32,
+) -> Result<u64, RoundError<u32>>
+    ensures { IfOk result (λ sum. sum ≡ rounded (numbers cells.now.numbers.items) count) }
+{
+    let mut round = Round::new(alloc, cells);
+    round.output(sums, count)
 }

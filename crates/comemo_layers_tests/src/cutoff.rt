@@ -1,6 +1,9 @@
 //! Changes that leave an output as it is, and changes that don't.
 
-use comemo::{Cache, CacheData, Fault, Hold, How, Known, MultiCall, At, Provider, Round, Track, Turn};
+use comemo::{
+    At, Cache, CacheData, Fault, Hold, How, Known, MultiCall, Provider, Round, RoundError, Track,
+    Turn,
+};
 use comemo_cutoff::Cells;
 use comemo_cutoff::exports::{Check, Exports, checked};
 use comemo_cutoff::rounds::{Rounded, SumCache};
@@ -22,7 +25,7 @@ fn is_checked(
 }
 
 #[test]
-fn a_change_that_leaves_the_output_runs_no_caller(rt: HostRuntime) -> Result<(), Fault> {
+fn a_change_that_leaves_the_output_runs_no_caller(rt: HostRuntime) -> Result<(), RoundError<u32>> {
     let alloc = rt.alloc();
     let mut cells = Cells::new(alloc, 4)?;
     let mut exports: CacheData<Exports> = CacheData::new(alloc);
@@ -69,7 +72,7 @@ fn sum<H: Hold<Rounded>>(
     counted: &mut Counted<H>,
     cells: &Cells,
     count: u32,
-) -> Result<u64, Fault> {
+) -> Result<u64, RoundError<u32>> {
     let mut round = Round::new(alloc, cells);
     counted.turns = 0;
     round.output(counted, count)
@@ -80,7 +83,7 @@ fn sum<H: Hold<Rounded>>(
 const TURNS: usize = 30 + 30 + 1;
 
 #[test]
-fn a_sum_runs_again_up_to_an_equal_output(rt: HostRuntime) -> Result<(), Fault> {
+fn a_sum_runs_again_up_to_an_equal_output(rt: HostRuntime) -> Result<(), RoundError<u32>> {
     let alloc = rt.alloc();
     let mut cells = Cells::new(alloc, 40)?;
     let mut counted: Counted<CacheData<Rounded>> = Counted {
@@ -105,7 +108,7 @@ fn a_sum_runs_again_up_to_an_equal_output(rt: HostRuntime) -> Result<(), Fault> 
 }
 
 #[test]
-fn a_shared_cache_keeps_the_sums_too(rt: HostRuntime) -> Result<(), Fault> {
+fn a_shared_cache_keeps_the_sums_too(rt: HostRuntime) -> Result<(), RoundError<u32>> {
     let alloc = rt.alloc();
     let mut cells = Cells::new(alloc, 12)?;
     let cache: Cache<Rounded> = Cache::new(alloc);
@@ -125,7 +128,7 @@ fn a_shared_cache_keeps_the_sums_too(rt: HostRuntime) -> Result<(), Fault> {
 }
 
 #[test]
-fn an_output_is_verified_once_in_a_round(rt: HostRuntime) -> Result<(), Fault> {
+fn an_output_is_verified_once_in_a_round(rt: HostRuntime) -> Result<(), RoundError<u32>> {
     let alloc = rt.alloc();
     let cells = Cells::new(alloc, 40)?;
     let mut counted: Counted<CacheData<Rounded>> = Counted {
@@ -141,5 +144,30 @@ fn an_output_is_verified_once_in_a_round(rt: HostRuntime) -> Result<(), Fault> {
         let _ = round.output(&mut counted, *count)?;
         assert_eq!(rt; counted.turns, *turns);
     }
+    Ok(())
+}
+
+/// Asks the sum of one cell for that of two, and the other way round.
+#[derive(Drop)]
+struct Circle;
+
+impl Provider<Cells, Rounded> for Circle {
+    fn provide(
+        &mut self,
+        count: &u32,
+        turn: &Turn<'_, Known<'_, Cells, Rounded>>,
+    ) -> Result<u64, Fault> {
+        let needed = if *count == 1 { 2 } else { 1 };
+        let _ = turn.at().ask(&MultiCall::B(At { key: needed }))?;
+        Err(Fault::Memory)
+    }
+}
+
+#[test]
+fn an_output_that_needs_itself_is_told(rt: HostRuntime) -> Result<(), RoundError<u32>> {
+    let alloc = rt.alloc();
+    let cells = Cells::new(alloc, 4)?;
+    let mut round = Round::new(alloc, &cells);
+    assert_eq!(rt; round.output(&mut Circle, 1), Err(RoundError::Circle(2)));
     Ok(())
 }
