@@ -58,6 +58,6 @@ pub use explanation::explain;
 pub use function::{Recorder, Run, memoized, memoized_with};
 pub use function_mut::{RecorderMut, RunMut, memoized_mut, memoized_mut_with};
 pub use known::{At, Known, Outputs, Query};
-pub use round::{Provider, Round, RoundError, Task};
+pub use round::{Provider, Round, RoundError};
 pub use turn::Turn;
 pub use pending::{Begun, Fault, How, Reply, begin};

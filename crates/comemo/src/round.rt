@@ -58,21 +58,6 @@ pub trait Provider<T: Track, Q: Query<T>> {
             IsTrue (Q.Output.eq (Q.gives key.now (T.answers turn.now)) output)) };
 }
 
-/// A call that is made once in a round, and whose output no other function asks.
-pub trait Task<T: Track, Q: Query<T>> {
-    /// What the call returns.
-    type Out;
-
-    // what it may return, for these answers of the value
-    ghost right: { Self → (T.Call → T.Answer) → Self.Out → Type 0 };
-
-    /// Makes the call by `Turn::call`. Fails if that does.
-    fn call(&mut self, turn: &Turn<'_, Known<'_, T, Q>>) -> Result<Self::Out, Fault>
-        ensures right { IfOk result (right self.old (T.answers turn.now)) }
-        ensures keeps { (m : T.Call → T.Answer) (out : Self.Out)
-            → right self.new m out → right self.old m out };
-}
-
 /// A round: a value, which can't change while the round lasts, and the outputs of a query that are known at it.
 /// Contracts see the value.
 #[derive(Drop)]
@@ -235,45 +220,6 @@ impl<'a, T: Track, Q: Query<T>> Round<'a, T, Q> {
                 Turned::Needs(needed) => {
                     waiting.again(below)?;
                     waiting.add(needed)?;
-                }
-            }
-        }
-        Err(RoundError::Fault(Fault::Memory))
-    }
-
-    /// A turn of a call, or which output it needs first.
-    fn take_task<A: Task<T, Q>>(&self, task: &mut A) -> Result<Turned<Q::At, A::Out>, Fault>
-        ensures right { IfOk result
-            (λ turned. OnOutput turned (A.right task.old (T.answers self.now))) }
-        ensures keeps { (m : T.Call → T.Answer) (out : A.Out)
-            → A.right task.new m out → A.right task.old m out }
-    {
-        let known = Known::new(self.of, &self.table);
-        match task.call(&Turn::new(self.alloc, &known)) {
-            Ok(output) => Ok(Turned::Output(output)),
-            Err(fault) => match known.into_missing() {
-                Some(needed) => Ok(Turned::Needs(needed)),
-                None => Err(fault),
-            },
-        }
-    }
-
-    /// Makes a call, again and again, until each output that it asks is known.
-    ///
-    /// Fails if the call does, or if an output that it asks can't be made known, as `output`.
-    pub fn attempt<P: Provider<T, Q>, A: Task<T, Q>>(
-        &mut self,
-        provider: &mut P,
-        task: &mut A,
-    ) -> Result<A::Out, RoundError<Q::At>>
-        ensures same { self.new ≡ self.old }
-        ensures right { IfOk result (A.right task.old (T.answers self.old)) }
-    {
-        for _i in 0..u64::MAX {
-            match self.take_task(task)? {
-                Turned::Output(output) => return Ok(output),
-                Turned::Needs(needed) => {
-                    let _ = self.output(provider, needed)?;
                 }
             }
         }

@@ -1,8 +1,7 @@
-//! Functions that ask outputs of others, and run again only if one of these changes.
+//! A function that asks its own outputs, and runs again only if one of these or a number that it asked changes.
 #![tactic(auto)]
 
 pub mod cells;
-pub mod exports;
 pub mod rounds;
 
 pub use cells::{Cells, Get};

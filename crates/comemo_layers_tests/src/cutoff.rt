@@ -1,52 +1,12 @@
 //! Changes that leave an output as it is, and changes that don't.
 
 use comemo::{
-    At, Cache, CacheData, Fault, Hold, How, Known, MultiCall, Provider, Round, RoundError, Track,
+    At, Cache, CacheData, Fault, Hold, Known, MultiCall, Provider, Round, RoundError, Track,
     Turn,
 };
 use comemo_cutoff::Cells;
-use comemo_cutoff::exports::{Check, Exports, checked};
 use comemo_cutoff::rounds::{Rounded, SumCache};
 use std::alloc::Global;
-
-/// Whether a check of the first two cells returns this output and ends as `how`.
-fn is_checked(
-    alloc: Global,
-    checks: &mut CacheData<Check>,
-    exports: &mut CacheData<Exports>,
-    cells: &Cells,
-    output: u64,
-    how: How,
-) -> bool {
-    match checked(alloc, checks, exports, (0, 1), cells) {
-        Ok(reply) => reply.output == output && reply.how == how,
-        Err(_) => false,
-    }
-}
-
-#[test]
-fn a_change_that_leaves_the_output_runs_no_caller(rt: HostRuntime) -> Result<(), RoundError<u32>> {
-    let alloc = rt.alloc();
-    let mut cells = Cells::new(alloc, 4)?;
-    let mut exports: CacheData<Exports> = CacheData::new(alloc);
-    let mut checks: CacheData<Check> = CacheData::new(alloc);
-    // The place that is set, the number there, the reply then, and the number of kept outputs of each function.
-    let calls: &[(usize, u64, u64, How, usize, usize)] = &[
-        (1, 40, 5, How::Stored, 1, 1),
-        (1, 41, 5, How::Hit, 2, 1),
-        (1, 49, 5, How::Hit, 3, 1),
-        (1, 50, 6, How::Stored, 4, 2),
-        (0, 3, 8, How::Stored, 4, 3),
-        (1, 40, 7, How::Stored, 4, 4),
-        (1, 41, 7, How::Hit, 4, 4),
-    ];
-    for (place, number, output, how, kept, found) in calls {
-        cells.set(*place, *number);
-        assert!(rt; is_checked(alloc, &mut checks, &mut exports, &cells, *output, *how));
-        assert_eq!(rt; (exports.len(), checks.len()), (*kept, *found));
-    }
-    Ok(())
-}
 
 /// The cache of the sums, and how many turns calls of them took.
 #[derive(Drop)]
