@@ -43,4 +43,4 @@ pub use Rattle.comemo_base.specs.Insertion
 pub use Rattle.comemo_base.specs.Hash
 pub use Rattle.comemo_base.specs.Sequence
 pub use Rattle.comemo_base.specs.Sip
-pub mod Layers
+pub mod Rounds

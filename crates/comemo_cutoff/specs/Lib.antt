@@ -1,4 +1,3 @@
 pub mod Cells
 pub mod Modules
 pub mod Rounds
-pub mod Sums

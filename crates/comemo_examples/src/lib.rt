@@ -65,7 +65,6 @@ pub mod letters;
 pub mod listing;
 pub mod loader;
 pub mod log;
-pub mod named;
 pub mod notebook;
 pub mod numbers;
 pub mod orders;

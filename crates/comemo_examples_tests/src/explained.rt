@@ -3,7 +3,7 @@
 use ContextCall::{Location, Styles};
 use Step::{Says, Sums};
 use comemo::{Cache, CacheData, Explanation, Hold, Top, explain, memoized_with};
-use comemo_examples::named::Sum;
+use comemo_named::named::Sum;
 use comemo_examples::{Context, ContextCall};
 use std::alloc::Global;
 

@@ -1,7 +1,7 @@
 //! Tests of the functions that name their calls.
 
 use comemo::{CacheData, How, Top, memoized_with};
-use comemo_examples::named::{IsOver, Sum};
+use comemo_named::named::{IsOver, Sum};
 use comemo_examples::{Context, ContextCall};
 use std::alloc::Global;
 

@@ -1,9 +1,9 @@
 //! Changes that leave an output as it is, and changes that don't.
 
-use comemo::{Cache, CacheData, Fault, Hold, How, Known, Layers, Track, known_output};
+use comemo::{Cache, CacheData, Fault, Hold, How, Known, MultiCall, At, Provider, Round, Track, Turn};
 use comemo_cutoff::Cells;
 use comemo_cutoff::exports::{Check, Exports, checked};
-use comemo_cutoff::rounds::{Rounded, SumCache, SumCall, Sums};
+use comemo_cutoff::rounds::{Rounded, SumCache};
 use std::alloc::Global;
 
 /// Whether a check of the first two cells returns this output and ends as `how`.
@@ -45,47 +45,49 @@ fn a_change_that_leaves_the_output_runs_no_caller(rt: HostRuntime) -> Result<(),
     Ok(())
 }
 
-/// The cache of the sums, and how many calls were made of them.
+/// The cache of the sums, and how many turns calls of them took.
 #[derive(Drop)]
 struct Counted<H> {
     sums: SumCache<H>,
-    calls: usize,
+    turns: usize,
 }
 
-impl<'a, H: Hold<Rounded>> Layers<Sums<'a>, Cells, Rounded> for Counted<H> {
-    fn call(&mut self, alloc: Global, count: &u32, at: &Sums<'a>) -> Result<u64, Fault> {
-        self.calls = self.calls.wrapping_add(1);
-        self.sums.call(alloc, count, at)
+impl<H: Hold<Rounded>> Provider<Cells, Rounded> for Counted<H> {
+    fn provide(
+        &mut self,
+        count: &u32,
+        turn: &Turn<'_, Known<'_, Cells, Rounded>>,
+    ) -> Result<u64, Fault> {
+        self.turns = self.turns.wrapping_add(1);
+        self.sums.provide(count, turn)
     }
 }
 
 /// The sum of the first cells, each without its last digit, in a new round.
 fn sum<H: Hold<Rounded>>(
     alloc: Global,
-    layers: &mut Counted<H>,
+    counted: &mut Counted<H>,
     cells: &Cells,
     count: u32,
 ) -> Result<u64, Fault> {
-    let mut sums = Sums {
-        known: Known::new(alloc, cells),
-    };
-    layers.calls = 0;
-    known_output::<Counted<H>, Sums<'_>, Cells, Rounded>(alloc, layers, &mut sums, count)
+    let mut round = Round::new(alloc, cells);
+    counted.turns = 0;
+    round.output(counted, count)
 }
 
-/// In each round each sum is called twice: it needs the one before at first, and then it is a hit or runs. That of no
+/// In each round each sum takes two turns: it needs the one before at first, and then it is a hit or runs. That of no
 /// cell needs none.
-const CALLS: usize = 30 + 30 + 1;
+const TURNS: usize = 30 + 30 + 1;
 
 #[test]
 fn a_sum_runs_again_up_to_an_equal_output(rt: HostRuntime) -> Result<(), Fault> {
     let alloc = rt.alloc();
     let mut cells = Cells::new(alloc, 40)?;
-    let mut layers: Counted<CacheData<Rounded>> = Counted {
+    let mut counted: Counted<CacheData<Rounded>> = Counted {
         sums: SumCache {
             cache: CacheData::new(alloc),
         },
-        calls: 0,
+        turns: 0,
     };
     let rounds: &[(usize, u64, u64, usize)] = &[
         (0, 1, 120, 31),
@@ -96,8 +98,8 @@ fn a_sum_runs_again_up_to_an_equal_output(rt: HostRuntime) -> Result<(), Fault> 
     ];
     for (place, number, total, kept) in rounds {
         cells.set(*place, *number);
-        assert_eq!(rt; sum(alloc, &mut layers, &cells, 30), Ok(*total));
-        assert_eq!(rt; (layers.sums.cache.len(), layers.calls), (*kept, CALLS));
+        assert_eq!(rt; sum(alloc, &mut counted, &cells, 30), Ok(*total));
+        assert_eq!(rt; (counted.sums.cache.len(), counted.turns), (*kept, TURNS));
     }
     Ok(())
 }
@@ -107,16 +109,16 @@ fn a_shared_cache_keeps_the_sums_too(rt: HostRuntime) -> Result<(), Fault> {
     let alloc = rt.alloc();
     let mut cells = Cells::new(alloc, 12)?;
     let cache: Cache<Rounded> = Cache::new(alloc);
-    let mut layers = Counted {
+    let mut counted = Counted {
         sums: SumCache {
             cache: cache.hold(&rt),
         },
-        calls: 0,
+        turns: 0,
     };
     let rounds: &[(usize, u64, u64, usize)] = &[(0, 1, 10, 11), (0, 9, 10, 12), (0, 10, 11, 22)];
     for (place, number, total, kept) in rounds {
         cells.set(*place, *number);
-        assert_eq!(rt; sum(alloc, &mut layers, &cells, 10), Ok(*total));
+        assert_eq!(rt; sum(alloc, &mut counted, &cells, 10), Ok(*total));
         assert_eq!(rt; cache.contents(&rt).entries, *kept);
     }
     Ok(())
@@ -126,49 +128,18 @@ fn a_shared_cache_keeps_the_sums_too(rt: HostRuntime) -> Result<(), Fault> {
 fn an_output_is_verified_once_in_a_round(rt: HostRuntime) -> Result<(), Fault> {
     let alloc = rt.alloc();
     let cells = Cells::new(alloc, 40)?;
-    let mut layers: Counted<CacheData<Rounded>> = Counted {
+    let mut counted: Counted<CacheData<Rounded>> = Counted {
         sums: SumCache {
             cache: CacheData::new(alloc),
         },
-        calls: 0,
+        turns: 0,
     };
-    let mut sums = Sums {
-        known: Known::new(alloc, &cells),
-    };
-    // The sum that is asked, and how many calls were made since the round began.
-    let asked: &[(u32, usize)] = &[(30, CALLS), (30, CALLS), (7, CALLS), (31, CALLS + 1)];
-    for (count, calls) in asked {
-        let _ = known_output::<Counted<CacheData<Rounded>>, Sums<'_>, Cells, Rounded>(
-            alloc,
-            &mut layers,
-            &mut sums,
-            *count,
-        )?;
-        assert_eq!(rt; layers.calls, *calls);
+    let mut round = Round::new(alloc, &cells);
+    // The sum that is asked, and how many turns were taken since the round began.
+    let asked: &[(u32, usize)] = &[(30, TURNS), (30, TURNS), (7, TURNS), (31, TURNS + 1)];
+    for (count, turns) in asked {
+        let _ = round.output(&mut counted, *count)?;
+        assert_eq!(rt; counted.turns, *turns);
     }
-    Ok(())
-}
-
-/// Asks the sum of one cell for that of two, and the other way round.
-#[derive(Drop)]
-struct Circle;
-
-impl<'a> Layers<Sums<'a>, Cells, Rounded> for Circle {
-    fn call(&mut self, _alloc: Global, count: &u32, at: &Sums<'a>) -> Result<u64, Fault> {
-        let needed = if *count == 1 { 2 } else { 1 };
-        let _ = at.ask(&SumCall::Sum(needed))?;
-        Err(Fault::Memory)
-    }
-}
-
-#[test]
-fn an_output_that_needs_itself_fails(rt: HostRuntime) -> Result<(), Fault> {
-    let alloc = rt.alloc();
-    let cells = Cells::new(alloc, 4)?;
-    let mut sums = Sums {
-        known: Known::new(alloc, &cells),
-    };
-    let circle = known_output::<Circle, Sums<'_>, Cells, Rounded>(alloc, &mut Circle, &mut sums, 1);
-    assert_eq!(rt; circle, Err(Fault::Memory));
     Ok(())
 }

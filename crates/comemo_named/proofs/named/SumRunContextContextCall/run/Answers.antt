@@ -1,5 +1,5 @@
 use Rattle.std.proofs.Common.{rules}
-use Rattle.comemo_examples.proofs.named.SumRunContextContextCall.run.Goals as goal
+use Rattle.comemo_named.proofs.named.SumRunContextContextCall.run.Goals as goal
 
 pub returns-in_ok-styles-in-Location-clause-right : goal.returns-in_ok-styles-in-Location-clause-right
 returns-in_ok-styles-in-Location-clause-right c = λ m f. search (rules, c.in_ok-styles-in-Location.ensures.tells.told m f, c.in_ok-location-in-Location.ensures.tells.told m (c.in_ok-styles-in-Location.ensures.tells.before m f))

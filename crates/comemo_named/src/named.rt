@@ -4,7 +4,7 @@ ghost use Rattle.std.proofs.Common.{rules};
 ghost use Rattle.comemo.specs.Meaning.{names};
 ghost use Rattle.comemo_examples.specs.declared.contexts.ContextCall.TheVariants.{Location, Styles};
 
-use crate::{Context, ContextCall};
+use comemo_examples::{Context, ContextCall};
 use comemo::{CacheData, Fault, Function, Recorder, Run};
 
 /// The sum of a context's location and its styles, which wraps at 64 bits.
