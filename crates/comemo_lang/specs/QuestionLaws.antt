@@ -2,19 +2,17 @@
 use Rattle.std.specs.Prelude.{◌≡◌, ℕ, List, Bool, None, Some}
 use Rattle.std.proofs.Common.{IsTrue, rules, refl}
 use Rattle.std.specs.Cmp.Lexicographic.{same_text, nat_list_eq_equiv}
-use Rattle.comemo.specs.Answers.{Respects}
-use Rattle.comemo.specs.declared.MultiCall.TheVariants as calls
 use Rattle.comemo.specs.declared.MultiAnswer.TheVariants as answers
-use Rattle.comemo.proofs.Texts.{items_refl, items_same, respects_same}
-use Rattle.comemo.specs.contracts.outputs.At as at_type
-use Rattle.comemo.specs.contracts.outputs.AtPartialEq.TheImpl as at
+use Rattle.comemo.proofs.Texts.{items_refl, items_same}
+use Rattle.comemo.specs.contracts.known.At as at_type
+use Rattle.comemo.specs.contracts.known.AtPartialEq.TheImpl as at
 use Rattle.comemo_track.specs.contracts.multi.MultiAnswerPartialEq.TheImpl as multi_answer
 use Rattle.comemo_track.specs.contracts.multi.MultiCallPartialEq.TheImpl as multi_call
 use Rattle.comemo_text.specs.contracts.items.ItemsPartialEq.TheImpl as items
 use Rattle.comemo_text.specs.contracts.text.Text as text_type
 use Rattle.comemo_text.specs.contracts.text.TextPartialEq.TheImpl as text
 use Rattle.comemo_lang.specs.Questions.{Asked, Answered, output_at}
-use Rattle.comemo_lang.specs.SourceLaws.{source_refl, source_same}
+use Rattle.comemo_lang.specs.SourceLaws.{source_same}
 use Rattle.comemo_lang.specs.contracts.project.Source as source_type
 use Rattle.comemo_lang.specs.contracts.project.SourcePartialEq.TheImpl as source
 use Rattle.comemo_lang.specs.contracts.question.Output as output_type
@@ -115,17 +113,3 @@ answer_same x y h = search rules
 -- an output is the same at equal questions
 pub output_alike : (sources : List ℕ → Source) (x y : Question) → IsTrue (question.ghosts.eq x y) → IsTrue (output.ghosts.eq (output_at x sources) (output_at y sources))
 output_alike sources x y h = rw (question_same x y h) (output_refl (output_at x sources))
-
--- what a round answers, by the sources of modules
-abbrev pub round_answer : (List ℕ → Source) → Asked → Answered
-round_answer sources (calls.A call) = answers.A (sources call.name)
-round_answer sources (calls.B at) = answers.B (output_at at.key sources)
-
-pub call_same : (x y : Asked) → IsTrue (same_call x y) → y ≡ x
-call_same x y h = search (rules, same_text)
-
-answer_refl : (x : Answered) → IsTrue (same_answer x x)
-answer_refl x = search (rules, source_refl, output_refl)
-
-pub round_alike : (sources : List ℕ → Source) → Respects same_call same_answer (round_answer sources)
-round_alike sources = respects_same same_call same_answer call_same answer_refl (round_answer sources)

@@ -1,6 +1,6 @@
 -- What runs ask, and what the answers hold.
 use Rattle.std.specs.Prelude.{ℕ, List, Option, None}
-use Rattle.comemo.specs.declared.outputs.At.{At}
+use Rattle.comemo.specs.declared.known.At.{At}
 use Rattle.comemo.specs.declared.MultiCall.{MultiCall}
 use Rattle.comemo.specs.declared.MultiCall.TheVariants as call
 use Rattle.comemo.specs.declared.MultiAnswer.{MultiAnswer}

@@ -11,14 +11,14 @@ use crate::functions::{Check, Exports, Parse};
 use crate::names::push;
 use crate::project::Project;
 use crate::question::{Output, Question};
-use crate::round::Round;
-use comemo::{CacheData, Fault, Given, How, Layers, Run, Top, Track, known_output, memoized_with};
+use comemo::{CacheData, Fault, How, Known, Provider, Query, Round, Run, Track, Turn};
 use comemo_text::{Items, Text};
 use std::alloc::Global;
 
 /// The caches of the functions, and how their calls ended.
 #[derive(Drop)]
 pub struct Frontend {
+    alloc: Global,
     parsed: CacheData<Parse>,
     exported: CacheData<Exports>,
     checked: CacheData<Check>,
@@ -34,10 +34,10 @@ pub struct Ended {
     pub how: How,
 }
 
-impl Given<Project> for Frontend {
+impl Query<Project> for Frontend {
     type At = Question;
 
-    type Gives = Output;
+    type Output = Output;
 
     ghost gives = { λ question m. output_at question (λ name. m (record { name = name })) };
 
@@ -45,65 +45,47 @@ impl Given<Project> for Frontend {
 }
 
 /// Calls a function, and notes how the call ended.
-fn call<'a, M: Run<Round<'a>, Global>>(
+fn call<V: Track, M: Run<V, Global>>(
     alloc: Global,
     cache: &mut CacheData<M>,
     calls: &mut Vec<Ended>,
     question: &Question,
     key: M::Key,
-    at: &Round<'a>,
+    turn: &Turn<'_, V>,
 ) -> Result<M::Out, Fault>
     requires { WritesNone M.writes }
-    ensures { IfOk result (λ output. M.means key (⟦<Round<'a> as Track>⟧.answers at.now) output) }
+    ensures { IfOk result (λ output. M.means key (V.answers turn.now) output) }
 {
     let question = question.clone()?;
     let mut needs = alloc;
-    let reply = memoized_with(alloc, cache, &mut needs, key, at, &mut Top::new(), true)?;
+    let reply = turn.call(cache, &mut needs, key)?;
     let how = reply.how;
     push(calls, Ended { question, how })?;
     Ok(reply.output)
 }
 
-impl<'a> Layers<Round<'a>, Project, Frontend> for Frontend {
-    fn call(
+impl Provider<Project, Frontend> for Frontend {
+    fn provide(
         &mut self,
-        alloc: Global,
         question: &Question,
-        at: &Round<'a>,
+        turn: &Turn<'_, Known<'_, Project, Frontend>>,
     ) -> Result<Output, Fault> {
+        let alloc = self.alloc;
         let calls = &mut self.calls;
         match question {
             Question::DeclarationsOf(name) => {
-                let declarations = call(
-                    alloc,
-                    &mut self.parsed,
-                    calls,
-                    question,
-                    name.clone()?,
-                    at,
-                )?;
+                let name = name.clone()?;
+                let declarations = call(alloc, &mut self.parsed, calls, question, name, turn)?;
                 Ok(Output::Declarations(declarations))
             }
             Question::ExportsOf(name) => {
-                let exports = call(
-                    alloc,
-                    &mut self.exported,
-                    calls,
-                    question,
-                    name.clone()?,
-                    at,
-                )?;
+                let name = name.clone()?;
+                let exports = call(alloc, &mut self.exported, calls, question, name, turn)?;
                 Ok(Output::Exports(exports))
             }
             Question::DiagnosticsOf(name) => {
-                let diagnostics = call(
-                    alloc,
-                    &mut self.checked,
-                    calls,
-                    question,
-                    name.clone()?,
-                    at,
-                )?;
+                let name = name.clone()?;
+                let diagnostics = call(alloc, &mut self.checked, calls, question, name, turn)?;
                 Ok(Output::Diagnostics(diagnostics))
             }
         }
@@ -114,6 +96,7 @@ impl Frontend {
     /// Empty caches. Does not allocate.
     pub fn new(alloc: Global) -> Self {
         Frontend {
+            alloc,
             parsed: CacheData::new(alloc),
             exported: CacheData::new(alloc),
             checked: CacheData::new(alloc),
@@ -124,19 +107,18 @@ impl Frontend {
     /// Checks modules: lists what is wrong with each of these names, in order.
     pub fn check_all(
         &mut self,
-        alloc: Global,
         project: &Project,
         names: &[Text],
     ) -> Result<Vec<Items<Diagnostic>>, Fault>
         ensures { IfOk result (λ all. all.items ≡ map (check_of (source_of project.now)) names.now) }
     {
         self.calls.clear();
-        let mut round = Round::new(alloc, project);
+        let mut round = Round::new(self.alloc, project);
         // A check begins anew at each output that isn't known, so the exports come first.
-        self.export_all(alloc, &mut round, names)?;
-        let mut all = Vec::new(alloc);
+        self.export_all(&mut round, names)?;
+        let mut all = Vec::new(self.alloc);
         for name in names {
-            let diagnostics = self.check(alloc, &mut round, name)?;
+            let diagnostics = self.check(&mut round, name)?;
             push(&mut all, diagnostics)?;
         }
         Ok(all)
@@ -145,15 +127,13 @@ impl Frontend {
     /// Makes the exports of modules known.
     fn export_all(
         &mut self,
-        alloc: Global,
-        round: &mut Round<'_>,
+        round: &mut Round<'_, Project, Frontend>,
         names: &[Text],
     ) -> Result<(), Fault>
         ensures { round.new ≡ round.old }
     {
         for name in names {
-            let question = Question::ExportsOf(name.clone()?);
-            let _ = known_output::<Self, Round<'_>, Project, Self>(alloc, self, round, question)?;
+            let _ = round.output(self, Question::ExportsOf(name.clone()?))?;
         }
         Ok(())
     }
@@ -161,15 +141,14 @@ impl Frontend {
     /// Lists what is wrong with a module.
     fn check(
         &mut self,
-        alloc: Global,
-        round: &mut Round<'_>,
+        round: &mut Round<'_, Project, Frontend>,
         name: &Text,
     ) -> Result<Items<Diagnostic>, Fault>
         ensures same { round.new ≡ round.old }
-        ensures right { IfOk result (λ all. all ≡ check_of (source_of round.old.known) name.now) }
+        ensures right { IfOk result (λ all. all ≡ check_of (source_of round.old) name.now) }
     {
         let question = Question::DiagnosticsOf(name.clone()?);
-        match known_output::<Self, Round<'_>, Project, Self>(alloc, self, round, question)? {
+        match round.output(self, question)? {
             Output::Diagnostics(diagnostics) => Ok(diagnostics),
             Output::Declarations(_) | Output::Exports(_) => unreachable!(),
         }

@@ -9,13 +9,13 @@ ghost use Rattle.comemo_lang.specs.Questions.{asked_source, asked_declarations, 
 use crate::check::{Imported, diagnose};
 use crate::declaration::Declaration;
 use crate::diagnostic::Diagnostic;
+use crate::frontend::Frontend;
 use crate::names::{defined_names, push};
 use crate::parse::parse;
-use crate::project::Source;
+use crate::project::{Project, Source};
 use crate::question::{Answered, Asked, ask_declarations, ask_exports, ask_source};
-use crate::round::Round;
 use comemo::internal::Told;
-use comemo::{Fault, Function, Recorder, Run};
+use comemo::{Fault, Function, Known, Recorder, Run};
 use comemo_text::{Items, Text};
 use std::alloc::Global;
 
@@ -36,10 +36,10 @@ impl Function for Parse {
     ghost laws = { Prim.search rules };
 }
 
-impl<'a> Run<Round<'a>, Global> for Parse {
+impl<'a> Run<Known<'a, Project, Frontend>, Global> for Parse {
     fn run(
         name: &Text,
-        of: &mut Recorder<'_, Round<'a>>,
+        of: &mut Recorder<'_, Known<'a, Project, Frontend>>,
         alloc: &mut Global,
     ) -> Result<Option<Items<Declaration>>, Fault> {
         match ask_source(of, name)? {
@@ -70,10 +70,10 @@ impl Function for Exports {
     ghost laws = { Prim.search rules };
 }
 
-impl<'a> Run<Round<'a>, Global> for Exports {
+impl<'a> Run<Known<'a, Project, Frontend>, Global> for Exports {
     fn run(
         name: &Text,
-        of: &mut Recorder<'_, Round<'a>>,
+        of: &mut Recorder<'_, Known<'a, Project, Frontend>>,
         alloc: &mut Global,
     ) -> Result<Option<Items<Text>>, Fault> {
         let Some(declarations) = ask_declarations(of, name)? else {
@@ -102,10 +102,10 @@ impl Function for Check {
     ghost laws = { Prim.search rules };
 }
 
-impl<'a> Run<Round<'a>, Global> for Check {
+impl<'a> Run<Known<'a, Project, Frontend>, Global> for Check {
     fn run(
         name: &Text,
-        of: &mut Recorder<'_, Round<'a>>,
+        of: &mut Recorder<'_, Known<'a, Project, Frontend>>,
         alloc: &mut Global,
     ) -> Result<Items<Diagnostic>, Fault> {
         let alloc = *alloc;
@@ -121,10 +121,10 @@ impl<'a> Run<Round<'a>, Global> for Check {
 /// Asks what the modules export that declarations import.
 fn ask_imports<'a>(
     alloc: Global,
-    of: &mut Recorder<'_, Round<'a>>,
+    of: &mut Recorder<'_, Known<'a, Project, Frontend>>,
     declarations: &[Declaration],
 ) -> Result<Vec<Imported>, Fault>
-    ensures { Tells ⟦<Round<'a> as Told>⟧.fits of.old of.new result (λ imports m.
+    ensures { Tells ⟦<Known<'a, Project, Frontend> as Told>⟧.fits of.old of.new result (λ imports m.
         imports.items ≡ flat_map (imported (asked_exports m)) declarations.now) }
 {
     let mut imports = Vec::new(alloc);
@@ -136,11 +136,11 @@ fn ask_imports<'a>(
 
 /// Appends the module that a declaration imports, with what it exports.
 fn ask_import<'a>(
-    of: &mut Recorder<'_, Round<'a>>,
+    of: &mut Recorder<'_, Known<'a, Project, Frontend>>,
     imports: &mut Vec<Imported>,
     declaration: &Declaration,
 ) -> Result<(), Fault>
-    ensures { Tells ⟦<Round<'a> as Told>⟧.fits of.old of.new result (λ _ m.
+    ensures { Tells ⟦<Known<'a, Project, Frontend> as Told>⟧.fits of.old of.new result (λ _ m.
         imports.new.items ≡ imports.old.items ++ imported (asked_exports m) declaration.now) }
 {
     match declaration {

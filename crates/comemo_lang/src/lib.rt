@@ -13,4 +13,3 @@ pub mod names;
 pub mod parse;
 pub mod project;
 pub mod question;
-pub mod round;

@@ -6,10 +6,10 @@ ghost use Rattle.comemo_lang.specs.Questions.{source_in, declarations_in, export
 
 use crate::declaration::Declaration;
 use crate::diagnostic::Diagnostic;
-use crate::project::{Source, SourceOf};
-use crate::round::Round;
+use crate::frontend::Frontend;
+use crate::project::{Project, Source, SourceOf};
 use comemo::internal::Told;
-use comemo::{Answer, At, Fault, MultiAnswer, MultiCall, Recorder};
+use comemo::{Answer, At, Fault, Known, MultiAnswer, MultiCall, Recorder};
 use comemo_text::{Items, Text};
 
 /// A question about a module, which a function answers.
@@ -83,8 +83,11 @@ fn into_exports(answer: Answered) -> Option<Items<Text>>
 }
 
 /// Asks the source of a module.
-pub fn ask_source<'a>(of: &mut Recorder<'_, Round<'a>>, name: &Text) -> Result<Source, Fault>
-    ensures { Tells ⟦<Round<'a> as Told>⟧.fits of.old of.new result
+pub fn ask_source<'a>(
+    of: &mut Recorder<'_, Known<'a, Project, Frontend>>,
+    name: &Text,
+) -> Result<Source, Fault>
+    ensures { Tells ⟦<Known<'a, Project, Frontend> as Told>⟧.fits of.old of.new result
         (λ source m. source ≡ asked_source m name.now) }
 {
     let name = name.clone()?;
@@ -94,10 +97,10 @@ pub fn ask_source<'a>(of: &mut Recorder<'_, Round<'a>>, name: &Text) -> Result<S
 
 /// Asks what a module declares.
 pub fn ask_declarations<'a>(
-    of: &mut Recorder<'_, Round<'a>>,
+    of: &mut Recorder<'_, Known<'a, Project, Frontend>>,
     name: &Text,
 ) -> Result<Option<Items<Declaration>>, Fault>
-    ensures { Tells ⟦<Round<'a> as Told>⟧.fits of.old of.new result
+    ensures { Tells ⟦<Known<'a, Project, Frontend> as Told>⟧.fits of.old of.new result
         (λ declarations m. declarations ≡ asked_declarations m name.now) }
 {
     let key = Question::DeclarationsOf(name.clone()?);
@@ -107,10 +110,10 @@ pub fn ask_declarations<'a>(
 
 /// Asks what a module exports.
 pub fn ask_exports<'a>(
-    of: &mut Recorder<'_, Round<'a>>,
+    of: &mut Recorder<'_, Known<'a, Project, Frontend>>,
     name: &Text,
 ) -> Result<Option<Items<Text>>, Fault>
-    ensures { Tells ⟦<Round<'a> as Told>⟧.fits of.old of.new result
+    ensures { Tells ⟦<Known<'a, Project, Frontend> as Told>⟧.fits of.old of.new result
         (λ exports m. exports ≡ asked_exports m name.now) }
 {
     let key = Question::ExportsOf(name.clone()?);

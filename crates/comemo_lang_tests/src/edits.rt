@@ -69,7 +69,7 @@ fn is_as_said(
     let Ok(names) = words(alloc, names) else {
         return false;
     };
-    let Ok(all) = frontend.check_all(alloc, project, names.as_slice()) else {
+    let Ok(all) = frontend.check_all(project, names.as_slice()) else {
         return false;
     };
     let mut found: usize = 0;

@@ -62,10 +62,7 @@ impl Session {
         for name in self.stamps.keys() {
             names.push(Text::from_str(alloc, name.as_str())?)?;
         }
-        let Ok(all) = self
-            .frontend
-            .check_all(alloc, &self.project, names.as_slice())
-        else {
+        let Ok(all) = self.frontend.check_all(&self.project, names.as_slice()) else {
             anyhow::bail!("out of memory");
         };
         if explains {

@@ -2,7 +2,7 @@ use Rattle.std.proofs.Common.{◌≡◌, ◌∙◌, sym, ap, Some}
 use Rattle.std.specs.List.{flat_map}
 use Rattle.comemo_lang.specs.Checking.{checked, diagnosed, imported}
 use Rattle.comemo_lang.specs.Questions.{asked_declarations, asked_exports}
-use Rattle.comemo_lang.proofs.functions.CheckRunRoundGlobal.run.Goals as goal
+use Rattle.comemo_lang.proofs.functions.CheckRunKnownProjectFrontendGlobal.run.Goals as goal
 
 pub returns-clause-right : goal.returns-clause-right
 returns-clause-right c = λ m f.
