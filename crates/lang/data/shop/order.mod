@@ -1,0 +1,4 @@
+# What an order costs.
+import price
+import tax
+total = goods + taxed + shipping

@@ -1,0 +1,3 @@
+import order
+goods = 40 + 2
+half = total + rebate

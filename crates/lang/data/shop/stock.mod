@@ -1,0 +1,2 @@
+import price
+left = goods + 1
