@@ -11,7 +11,9 @@ use crate::functions::{Check, Exports, Parse};
 use crate::names::push;
 use crate::project::Project;
 use crate::question::{Output, Question};
-use comemo::{CacheData, Fault, How, Known, Provider, Query, Round, Run, Track, Turn};
+use comemo::{
+    CacheData, Fault, How, Known, Provider, Query, Round, RoundError, Run, Track, Turn,
+};
 use comemo_text::{Items, Text};
 use std::alloc::Global;
 
@@ -109,7 +111,7 @@ impl Frontend {
         &mut self,
         project: &Project,
         names: &[Text],
-    ) -> Result<Vec<Items<Diagnostic>>, Fault>
+    ) -> Result<Vec<Items<Diagnostic>>, RoundError<Question>>
         ensures { IfOk result (λ all. all.items ≡ map (check_of (source_of project.now)) names.now) }
     {
         self.calls.clear();
@@ -129,7 +131,7 @@ impl Frontend {
         &mut self,
         round: &mut Round<'_, Project, Frontend>,
         names: &[Text],
-    ) -> Result<(), Fault>
+    ) -> Result<(), RoundError<Question>>
         ensures { round.new ≡ round.old }
     {
         for name in names {
@@ -143,7 +145,7 @@ impl Frontend {
         &mut self,
         round: &mut Round<'_, Project, Frontend>,
         name: &Text,
-    ) -> Result<Items<Diagnostic>, Fault>
+    ) -> Result<Items<Diagnostic>, RoundError<Question>>
         ensures same { round.new ≡ round.old }
         ensures right { IfOk result (λ all. all ≡ check_of (source_of round.old) name.now) }
     {
