@@ -42,27 +42,23 @@ module _ {C R : Type 0} (eq : C → C → Bool) (slots : List (Option (C × R)))
       nothing None h = refl
       nothing (Some p) h = absurd (h p refl)
 
-module _ {K C S T : Type 0} {eqk : K → K → Bool} {eqc : C → C → Bool} where
-  is_listed-keys : (o : Option (HashSet K S)) (k : K) → is_listed eqk (option_map (λ s. s.keys) o) k ≡ is_in eqk o k
-  is_listed-keys None k = refl
-  is_listed-keys (Some s) k = refl
+is_listed-keys : {K S : Type 0} (eq : K → K → Bool) (o : Option (HashSet K S)) (k : K) → is_listed eq (option_map (λ (s : HashSet K S). s.keys) o) k ≡ is_in eq o k
+is_listed-keys eq None k = refl
+is_listed-keys eq (Some s) k = refl
 
+module _ {K C S T : Type 0} (eqk : K → K → Bool) (eqc : C → C → Bool) where
   -- what a contract sees is what the sets have
   pub rests_on-index_of : (lists : HashMap C (HashSet K S) T) (k : K) (c : C) → rests_on eqk eqc (index_of lists) k c ≡ lists_key eqk eqc lists c k
   rests_on-index_of lists k c =
-      ap (λ o. is_listed eqk o k) (lookup-map_values (λ s. s.keys) (eqc c) lists.entries) ∙ is_listed-keys (get eqc lists c) k
-
-  is_in-cond : (b : Bool) (o p : Option (HashSet K S)) (k : K) → is_in eqk (cond b o p) k ≡ cond b (is_in eqk o k) (is_in eqk p k)
-  is_in-cond true o p k = refl
-  is_in-cond false o p k = refl
+      ap (λ o. is_listed eqk o k) (lookup-map_values (λ (s : HashSet K S). s.keys) (eqc c) lists.entries) ∙ is_listed-keys eqk (get eqc lists c) k
 
 module _ {K C S T : Type 0} {eqk : K → K → Bool} {eqc : C → C → Bool} (keys : IsEquivalence eqk) (calls : IsEquivalence eqc) (m n : HashMap C (HashSet K S) T) (call : C) (key : K) (o w : Option (HashSet K S)) (was : get eqc m call ≡ o) (is : (q : C) → get eqc n q ≡ cond (eqc call q) w (get eqc m q)) where
   -- the set of the call was o, and is w now
   at_call : (c : C) (k : K) → eqc c call ≡ true → (lists_key eqk eqc m c k ≡ is_in eqk o k) × (lists_key eqk eqc n c k ≡ is_in eqk w k)
   at_call c k e = (
-      ap (λ x. is_in eqk x k) (lookup_alike calls c call e m.entries ∙ was),
-      ap (λ x. is_in eqk x k) (is c ∙ ap (λ b. cond b w (get eqc m c)) (calls.symm call c ∙ e)),
-    )
+    ap (λ x. is_in eqk x k) (lookup_alike calls c call e m.entries ∙ was),
+    ap (λ x. is_in eqk x k) (is c ∙ ap (λ b. cond b w (get eqc m c)) (calls.symm call c ∙ e)),
+  )
 
   -- the set of another call stays
   elsewhere : (c : C) (k : K) → eqc c call ≡ false → lists_key eqk eqc n c k ≡ lists_key eqk eqc m c k

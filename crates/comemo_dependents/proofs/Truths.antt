@@ -19,7 +19,8 @@ push_step false false h = refl
 pub take_step : (a e h : Bool) → ((e || a) || h) ≡ (a || (e || h))
 take_step true true h = refl
 take_step true false h = refl
-take_step false e h = refl
+take_step false true h = refl
+take_step false false h = refl
 
 -- a key was listed under one more call
 pub link_step : (x b l h : Bool) → (((x && b) || l) || (b && h)) ≡ (l || (b && (x || h)))
@@ -59,6 +60,10 @@ pub note_step : (b l a : Bool) → (cond b false l || (b && a)) ≡ cond b a l
 note_step true l a = refl
 note_step false true a = refl
 note_step false false a = refl
+
+pub same_unless : (b x y : Bool) → (b ≡ false → x ≡ y) → cond b false x ≡ cond b false y
+same_unless true x y h = refl
+same_unless false x y h = h refl
 
 pub or_false : (b l a : Bool) → b ≡ false → (l || (b && a)) ≡ l
 or_false b true a e = refl

@@ -8,7 +8,7 @@ use Rattle.std.specs.HashSet.{HashSet, contains}
 
 -- the keys of each call, as lists
 abbrev pub index_of : {K C S T : Type 0} → HashMap C (HashSet K S) T → List (C × List K)
-index_of lists = map (λ e. (e.0, e.1.keys)) lists.entries
+index_of {K} {C} {S} lists = map (λ (e : C × HashSet K S). (e.0, e.1.keys)) lists.entries
 
 -- the key is in the set, if there is one
 abbrev pub is_in : {K S : Type 0} → (K → K → Bool) → Option (HashSet K S) → K → Bool

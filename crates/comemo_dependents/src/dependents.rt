@@ -65,11 +65,11 @@ impl<K: Clone + Eq + Hash + Drop, C: Call + Drop> Dependents<K, C> {
         self.remove(&key);
         let calls = calls_of(self.alloc, reads)?;
         self.calls.insert(key.clone()?, calls)?;
-        let noted = link_all(self.alloc, &mut self.lists, &key, reads);
-        if noted.is_err() {
+        if let Err(error) = link_all(self.alloc, &mut self.lists, &key, reads) {
             self.remove(&key);
+            return Err(error);
         }
-        noted
+        Ok(())
     }
 
     /// Forgets what was noted of a key. Takes time by the calls that were noted of it.
@@ -92,9 +92,10 @@ impl<K: Clone + Eq + Hash + Drop, C: Call + Drop> Dependents<K, C> {
     {
         let mut reached = HashSet::new(self.alloc);
         for call in calls {
-            if let Some(keys) = self.lists.get(call) {
-                take_in(&mut reached, keys)?;
-            }
+            let Some(keys) = self.lists.get(call) else {
+                continue;
+            };
+            take_in(&mut reached, keys)?;
         }
         Ok(reached)
     }

@@ -1,5 +1,5 @@
 //! The sets of keys of an index, one for each call that keys rest on.
-ghost use Rattle.std.specs.Prelude.{◌≡◌, ◌&&◌, ◌||◌, not, IsTrue, OnOk, OnErr, IfOk};
+ghost use Rattle.std.specs.Prelude.{◌≡◌, ◌&&◌, ◌||◌, not, true, false, IsTrue, OnOk, OnErr, IfOk};
 ghost use Rattle.std.specs.List.{list_any};
 ghost use Rattle.std.specs.HashSet.{contains, contains_by};
 ghost use Rattle.comemo_base.specs.Sequence.{held};
@@ -24,9 +24,10 @@ pub(crate) fn calls_of<C: Call + Drop, R>(
 {
     let mut calls = Vec::new(alloc);
     for slot in reads.slots() {
-        if let Some((call, _)) = slot {
-            calls.push(call.clone()?)?;
-        }
+        let Some((call, _)) = slot else {
+            continue;
+        };
+        calls.push(call.clone()?)?;
     }
     Ok(calls)
 }
@@ -63,14 +64,16 @@ pub(crate) fn link_all<K: Clone + Eq + Hash + Drop, C: Call + Drop, R>(
     requires clones_equal { (x y : K) → K.is_clone x y → IsTrue (K.eq x y) }
     ensures ok { OnOk result ((c : C) (k : K) → lists_key K.eq C.eq lists.new c k
         ≡ (lists_key K.eq C.eq lists.old c k || (K.eq k key.now && held C.eq reads.now.pairs c))) }
-    ensures within { (c : C) (k : K)
-        → (lists_key K.eq C.eq lists.new c k || (K.eq k key.now && held C.eq reads.now.pairs c))
-        ≡ (lists_key K.eq C.eq lists.old c k || (K.eq k key.now && held C.eq reads.now.pairs c)) }
+    ensures within { (c : C) (k : K) → lists_key K.eq C.eq lists.new c k ≡ true
+        → (lists_key K.eq C.eq lists.old c k || (K.eq k key.now && held C.eq reads.now.pairs c)) ≡ true }
+    ensures others { (c : C) (k : K) → K.eq k key.now ≡ false
+        → lists_key K.eq C.eq lists.new c k ≡ lists_key K.eq C.eq lists.old c k }
 {
     for slot in reads.slots() {
-        if let Some((call, _)) = slot {
-            link(alloc, lists, call, key.clone()?)?;
-        }
+        let Some((call, _)) = slot else {
+            continue;
+        };
+        link(alloc, lists, call, key.clone()?)?;
     }
     Ok(())
 }
