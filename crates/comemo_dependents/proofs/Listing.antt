@@ -2,8 +2,7 @@
 use Rattle.std.proofs.Common.{◌≡◌, ◌∙◌, ◌<◌, ◌+◌, ℕ, Bool, true, false, cond, ◌&&◌, ◌||◌, not, List, [], ◌∷◌, length, get_or, drop, Option, None, Some, is_some, refl, sym, ap, inl, inr}
 use Rattle.std.specs.Cmp.{IsEquivalence}
 use Rattle.std.specs.HashMap.{HashMap, get}
-use Rattle.std.specs.HashSet.{HashSet, contains}
-use Rattle.std.specs.List.{list_any}
+use Rattle.std.specs.HashSet.{HashSet}
 use Rattle.std.specs.Map.{lookup}
 use Rattle.std.specs.Option.{option_map}
 use Rattle.std.proofs.lemmas.Bool.{cases_Bool}
@@ -33,14 +32,6 @@ module _ {C R : Type 0} (eq : C → C → Bool) (slots : List (Option (C × R)))
   pub held_slot : (p : C × R) → slot ≡ Some p → (call : C) → held eq (remaining (drop i slots)) call ≡ (eq call p.0 || held eq (remaining (drop (i + 1) slots)) call)
   held_slot p there call =
       at_drop_more (λ s. held eq (remaining s) call) slots i slot l ∙ ap (λ s. held eq (remaining (s ∷ drop (i + 1) slots)) call) (sym is ∙ there) ∙ held-cons eq p (remaining (drop (i + 1) slots)) call
-
-  -- an empty slot has none
-  pub held_empty : ((p : C × R) → slot ≡ Some p → ⊥) → (call : C) → held eq (remaining (drop i slots)) call ≡ held eq (remaining (drop (i + 1) slots)) call
-  held_empty none call = at_drop_more (λ s. held eq (remaining s) call) slots i slot l ∙ ap (λ s. held eq (remaining (s ∷ drop (i + 1) slots)) call) (sym is) ∙ nothing slot none
-    where
-      nothing : (s : Option (C × R)) → ((p : C × R) → s ≡ Some p → ⊥) → held eq (remaining (s ∷ drop (i + 1) slots)) call ≡ held eq (remaining (drop (i + 1) slots)) call
-      nothing None h = refl
-      nothing (Some p) h = absurd (h p refl)
 
 is_listed-keys : {K S : Type 0} (eq : K → K → Bool) (o : Option (HashSet K S)) (k : K) → is_listed eq (option_map (λ (s : HashSet K S). s.keys) o) k ≡ is_in eq o k
 is_listed-keys eq None k = refl

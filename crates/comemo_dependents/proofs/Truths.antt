@@ -9,12 +9,6 @@ pub and-false : (a : Bool) → false ≡ (a && false)
 and-false true = refl
 and-false false = refl
 
--- a clone that is equal to a call was appended
-pub push_step : (a e h : Bool) → ((a || (e || false)) || h) ≡ (a || (e || h))
-push_step true e h = refl
-push_step false true h = refl
-push_step false false h = refl
-
 -- one key of a list was taken in
 pub take_step : (a e h : Bool) → ((e || a) || h) ≡ (a || (e || h))
 take_step true true h = refl
@@ -28,19 +22,6 @@ link_step true true true h = refl
 link_step true true false h = refl
 link_step true false l h = refl
 link_step false b l h = refl
-
-pub link_end : (b l : Bool) → (l || (b && false)) ≡ l
-link_end true true = refl
-link_end true false = refl
-link_end false true = refl
-link_end false false = refl
-
--- a key was taken from the list of one more call
-pub unlink_step : (x b l a : Bool) → ((l && not (x && b)) && not (b && a)) ≡ (l && not (b && (x || a)))
-unlink_step x b false a = refl
-unlink_step true true true a = refl
-unlink_step true false true a = refl
-unlink_step false b true a = refl
 
 pub unlink_end : (b l : Bool) → (l && not (b && false)) ≡ l
 unlink_end true true = refl

@@ -1,4 +1,4 @@
-use Rattle.std.proofs.Common.{◌≡◌, ◌&&◌, not, sym, ap, ◌∙◌}
+use Rattle.std.proofs.Common.{◌&&◌, not, sym, ap, ◌∙◌}
 use Rattle.std.specs.List.{list_any}
 use Rattle.comemo_dependents.specs.Lists.{is_noted, lists_key}
 use Rattle.comemo_dependents.proofs.Noting.{Forgets-index_of, forgot}
