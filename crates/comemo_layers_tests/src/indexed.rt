@@ -42,13 +42,7 @@ fn calls_of(alloc: Global, places: u32) -> Option<Vec<Get>> {
 }
 
 /// Notes reads of a key, in the index and in the list. Where memory is refused, nothing is noted of the key.
-fn note(
-    alloc: Global,
-    index: &mut Dependents<u64, Get>,
-    noted: &mut [u32],
-    key: usize,
-    places: u32,
-)
+fn note(alloc: Global, index: &mut Dependents<u64, Get>, noted: &mut [u32], key: usize, places: u32)
     requires { key < length noted.old }
 {
     if let Some(reads) = reads_of(alloc, places) {
@@ -98,7 +92,13 @@ fn an_index_reaches_what_a_list_does(rt: HostRuntime) {
             index.remove(&(key as u64));
             noted[key] = 0;
         } else {
-            note(alloc, &mut index, &mut noted, key, some_places(random >> 36));
+            note(
+                alloc,
+                &mut index,
+                &mut noted,
+                key,
+                some_places(random >> 36),
+            );
         }
         let asked = some_places(random >> 13);
         assert!(rt; is_exact(alloc, &index, &noted, asked), "step {step}");
