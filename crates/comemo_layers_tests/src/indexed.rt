@@ -59,17 +59,18 @@ fn is_exact(alloc: Global, index: &Dependents<u64, Get>, noted: &[u32], places: 
     let Ok(reached) = index.reached(calls.as_slice()) else {
         return true;
     };
-    let mut is_so = true;
-    let mut count = 0_usize;
+    let len = reached.len();
+    let mut found = 0_u64;
+    for key in reached {
+        found |= 1 << (*key % 64);
+    }
+    let mut wanted = 0_u64;
     for (key, own) in noted.iter().enumerate() {
-        let number = key as u64;
-        let rests = *own & places != 0;
-        is_so = is_so && reached.contains(&&number) == rests;
-        if rests {
-            count = count.wrapping_add(1);
+        if *own & places != 0 {
+            wanted |= 1 << (key % 64);
         }
     }
-    is_so && reached.len() == count
+    found == wanted && u32::try_from(len) == Ok(wanted.count_ones())
 }
 
 /// Some of the places, by a random number.

@@ -13,6 +13,7 @@ use comemo_site::site::{Site, SiteCall};
 use comemo_site::tally::Tally;
 use comemo_site::text::Text;
 use std::alloc::Global;
+use std::collections::BTreeSet;
 use std::sync::Wait;
 use std::test::Fail;
 use std::thread::Threads;
@@ -297,14 +298,7 @@ fn are_noted(index: &mut Asked, names: &[Text], pages: &[Result<Published, Fault
 }
 
 /// Whether a change reaches just these pages, each followed by a space.
-fn reaches(
-    alloc: Global,
-    index: &Asked,
-    names: &[Text],
-    is_title: bool,
-    name: &str,
-    expected: &str,
-) -> bool {
+fn reaches(alloc: Global, index: &Asked, is_title: bool, name: &str, expected: &str) -> bool {
     let Ok(changed) = Text::from_str(alloc, name) else {
         return false;
     };
@@ -316,14 +310,21 @@ fn reaches(
     let Ok(reached) = index.reached(changed.as_slice()) else {
         return false;
     };
-    let mut left = expected.as_bytes();
-    for name in names {
-        if reached.contains(&name) {
-            let Some(rest) = without(left, name.as_str().as_bytes(), SPACE) else {
-                return false;
-            };
-            left = rest;
+    let mut sorted = BTreeSet::new(alloc);
+    for name in reached {
+        let Ok(own) = name.clone() else {
+            return false;
+        };
+        if sorted.insert(own).is_err() {
+            return false;
         }
+    }
+    let mut left = expected.as_bytes();
+    for name in &sorted {
+        let Some(rest) = without(left, name.as_str().as_bytes(), SPACE) else {
+            return false;
+        };
+        left = rest;
     }
     left.is_empty()
 }
@@ -352,7 +353,7 @@ fn a_change_reaches_who_asked(rt: HostRuntime) -> Result<(), Fail> {
         (false, "other", ""),
     ];
     for (is_title, name, expected) in changes {
-        let is_so = reaches(alloc, &index, names, *is_title, *name, *expected);
+        let is_so = reaches(alloc, &index, *is_title, *name, *expected);
         assert!(rt; is_so, "{name}, its title: {is_title}");
     }
     Ok(())
