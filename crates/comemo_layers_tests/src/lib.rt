@@ -1,11 +1,13 @@
 //! Tests of the crates over `comemo`: branches of runs, in threads and in turn, values that keep their answers, functions
-//! that ask outputs of others, and the requests that the theorems are about.
+//! that ask outputs of others, an index of keys by their calls, and the requests that the theorems are about.
 #![tactic(auto)]
 
 #[cfg(test)]
 mod counted;
 #[cfg(test)]
 mod cutoff;
+#[cfg(test)]
+mod indexed;
 #[cfg(test)]
 mod rolls;
 #[cfg(test)]

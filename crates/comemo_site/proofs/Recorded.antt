@@ -1,6 +1,6 @@
--- What a recording has after a call within it, which changes what it tells outlives, and the warnings among writes.
+-- What a recording has after a call within it, with which answers that stays, and the warnings among writes.
 use Rattle.std.specs.Prelude.{⊤}
-use Rattle.std.proofs.Common.{◌≡◌, ◌∙◌, Bool, true, false, ℕ, ◌+◌, ◌<◌, List, [], ◌∷◌, ◌++◌, length, take, get_or, map, Result, Ok, Err, IfOk, rules, refl, sym, ap, subst}
+use Rattle.std.proofs.Common.{◌≡◌, ◌∙◌, Bool, true, false, ℕ, ◌+◌, ◌<◌, List, [], ◌∷◌, ◌++◌, length, take, get_or, map, IsTrue, Result, Ok, Err, IfOk, refl, sym, ap, subst}
 use Rattle.std.proofs.lemmas.List.{take_more}
 use Rattle.comemo.specs.Answers.{Respects, Agrees}
 use Rattle.comemo.specs.Function.{Fits}
@@ -10,9 +10,8 @@ use Rattle.comemo.specs.MultiLaws.{seconds-append}
 use Rattle.comemo.specs.Writing.{Done}
 use Rattle.comemo.specs.declared.MultiAnswer.{MultiAnswer}
 use Rattle.comemo.specs.declared.MultiCall.{MultiCall}
-use Rattle.comemo.specs.declared.MultiCall.TheVariants.{A, B}
 use Rattle.comemo.specs.declared.pending.Fault.{Fault}
-use Rattle.comemo_site.specs.Publishing.{DiffersAt, Outlives, answers_of, is_among, reaches}
+use Rattle.comemo_site.specs.Publishing.{Outlives, SameAt, answers_of}
 use Rattle.comemo_site.specs.Pages.{IsPrinted}
 use Rattle.comemo_site.specs.declared.log.Warning.{Warning}
 use Rattle.comemo_site.specs.declared.site.SiteAnswer.{SiteAnswer}
@@ -32,26 +31,21 @@ recorded_now {same = same} {wrote} {w} {touches} {answers} {s} {t} {P} (Ok x) co
     )
 recorded_now (Err f) complete none nothing a early = tt
 
--- answers that differ only at calls that are not among the reads agree with these too
-pub agrees_past : (same : MultiAnswer SiteAnswer ⊤ → MultiAnswer SiteAnswer ⊤ → Bool) (calls : List SiteCall) (m n : SiteCall → SiteAnswer) → DiffersAt calls m n → (reads : List (MultiCall SiteCall Warning × MultiAnswer SiteAnswer ⊤)) → reaches calls reads ≡ false → Agrees same (answers_of m) reads → Agrees same (answers_of n) reads
-agrees_past same calls m n differs [] none h = tt
-agrees_past same calls m n differs ((A call, answer) ∷ reads) none h =
-    let here : is_among calls (A call) ≡ false = search rules in
-    let rest : reaches calls reads ≡ false = search rules in
-    (rw (differs call here) h.0, agrees_past same calls m n differs reads rest h.1)
-agrees_past same calls m n differs ((B warning, answer) ∷ reads) none h =
-    let rest : reaches calls reads ≡ false = search rules in
-    (h.0, agrees_past same calls m n differs reads rest h.1)
+-- answers that are the same at the reads agree with these too
+agrees_same : (same : MultiAnswer SiteAnswer ⊤ → MultiAnswer SiteAnswer ⊤ → Bool) (m n : SiteCall → SiteAnswer) (reads : List (MultiCall SiteCall Warning × MultiAnswer SiteAnswer ⊤)) → SameAt m n reads → Agrees same (answers_of m) reads → Agrees same (answers_of n) reads
+agrees_same same m n [] alike h = tt
+agrees_same same m n (read ∷ reads) alike h =
+    (subst (λ answer. IsTrue (same answer read.1)) (sym alike.0) h.0, agrees_same same m n reads alike.1 h.1)
 
--- what such a call of a page printed outlives the changes that do not reach the reads
+-- what such a call of a page printed outlives the changes at all but its reads
 pub recorded_page : {V : Type 0} {eq : MultiCall SiteCall Warning → MultiCall SiteCall Warning → Bool} {same : MultiAnswer SiteAnswer ⊤ → MultiAnswer SiteAnswer ⊤ → Bool} {wrote : V → MultiCall SiteCall Warning → V → Type 0} {w : MultiCall SiteCall Warning → Bool} {touches : MultiCall SiteCall Warning → MultiCall SiteCall Warning → Bool} {answers : V → MultiCall SiteCall Warning → MultiAnswer SiteAnswer ⊤} → ((n : SiteCall → SiteAnswer) → Respects eq same (answers_of n)) → {s t : Lent V (MultiCall SiteCall Warning) (MultiAnswer SiteAnswer ⊤)} (html : (SiteCall → SiteAnswer) → List ℕ) (warnings : (SiteCall → SiteAnswer) → List Warning) (site : SiteCall → SiteAnswer) → answers s.value.now ≡ answers_of site → (x : List ℕ) → s.recording.now.complete ≡ true → s.recording.now.writes ≡ [] → s.recording.now.pairs ≡ [] → TellsWrites (Goes (Done wrote w touches same answers) eq touches same answers) (Fits eq same) s t (Ok x) (IsPrinted html warnings) → (t.recording.now.complete ≡ true → t.recording.now.late ≡ false) → Outlives t.recording.now.pairs site (λ n. (x ≡ html n) × (t.recording.now.writes ≡ map second_call (warnings n)))
-recorded_page {same = same} alike {s} {t} html warnings site is x complete none nothing a early =
+recorded_page {same = same} respects {s} {t} html warnings site is x complete none nothing a early =
     let all = recorded_now (Ok x) complete none nothing a early in
     let now : Agrees same (answers_of site) t.recording.now.pairs = subst (λ m. Agrees same m t.recording.now.pairs) is all.0 in (
-      let printed = all.1 (answers_of site) (alike site) now in (printed.1 site (λ call. refl), printed.0 site (λ call. refl)),
-      λ calls n differs past.
-          let still : Agrees same (answers_of n) t.recording.now.pairs = agrees_past same calls site n differs t.recording.now.pairs past now in
-          let printed = all.1 (answers_of n) (alike n) still in (printed.1 n (λ call. refl), printed.0 n (λ call. refl)),
+      let printed = all.1 (answers_of site) (respects site) now in (printed.1 site (λ call. refl), printed.0 site (λ call. refl)),
+      λ n alike.
+          let still : Agrees same (answers_of n) t.recording.now.pairs = agrees_same same site n t.recording.now.pairs alike now in
+          let printed = all.1 (answers_of n) (respects n) still in (printed.1 n (λ call. refl), printed.0 n (λ call. refl)),
     )
 
 pub seconds_of : (X : Type 0) {Y : Type 0} (xs : List Y) → seconds {X = X} {Y = Y} (map second_call xs) ≡ xs

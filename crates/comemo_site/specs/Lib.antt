@@ -3,6 +3,7 @@ pub mod Lines
 pub mod Pages
 pub mod Parsing
 pub mod Publishing
+pub mod PublishingLaws
 pub mod Reasons
 pub mod Reports
 pub mod Sites

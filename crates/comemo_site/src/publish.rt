@@ -3,7 +3,7 @@ ghost use Rattle.std.specs.Prelude.{◌≡◌, ℕ, ◌<◌, length, IfOk, slice
 ghost use Rattle.comemo.specs.Multi.{second_call, seconds};
 ghost use Rattle.comemo_site.specs.Html.{document_html};
 ghost use Rattle.comemo_site.specs.Pages.{page_html, page_warnings, title_or_name};
-ghost use Rattle.comemo_site.specs.Publishing.{IsBuilt, IsPublished, Outlives, StaysPublished, is_among, reaches};
+ghost use Rattle.comemo_site.specs.Publishing.{IsBuilt, IsPublished, Outlives, StaysPublished};
 ghost use Rattle.comemo_site.specs.Sites.{site_answer};
 
 use crate::build::{Build, built};
@@ -185,30 +185,6 @@ pub fn publish_page<B: Hold<Build>, T: Hold<Title>>(
         reads,
         tally,
     })
-}
-
-/// Whether a call is one of these.
-fn is_one_of(call: &MultiCall<SiteCall, Warning>, calls: &[SiteCall]) -> bool
-    ensures { result ≡ is_among calls.now call.now }
-{
-    match call {
-        MultiCall::A(call) => calls.contains(call),
-        MultiCall::B(_) => false,
-    }
-}
-
-/// Whether one of these calls is among the reads. If none is, what rests on the reads stays when their answers change.
-pub fn is_reached(reads: &Reads, calls: &[SiteCall]) -> bool
-    ensures { result ≡ reaches calls.now reads.now.pairs }
-{
-    for slot in reads.slots() {
-        if let Some((call, _)) = slot {
-            if is_one_of(call, calls) {
-                return true;
-            }
-        }
-    }
-    false
 }
 
 /// The document of a page of a site as it is, through caches that threads share.

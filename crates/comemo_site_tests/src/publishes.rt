@@ -3,15 +3,17 @@
 ghost use Rattle.std.specs.Prelude.{◌<◌};
 
 use crate::builds::is_set;
-use comemo::{Cache, Fault};
+use comemo::{Cache, Fault, MultiCall};
+use comemo_dependents::Dependents;
 use comemo_site::log::Warning;
 use comemo_site::names::{document_path, page_name};
-use comemo_site::publish::{Published, Settings, SharedBuilt, is_reached, publish_all};
+use comemo_site::publish::{Published, Settings, SharedBuilt, publish_all};
 use comemo_site::report::{Summary, is_changed, round_line, warning_line};
 use comemo_site::site::{Site, SiteCall};
 use comemo_site::tally::Tally;
 use comemo_site::text::Text;
 use std::alloc::Global;
+use std::collections::BTreeSet;
 use std::sync::Wait;
 use std::test::Fail;
 use std::thread::Threads;
@@ -276,34 +278,53 @@ fn an_edit_is_explained(rt: HostRuntime) {
     assert!(rt; anew == Some(Tally { runs: 15, hits: 2 }));
 }
 
-/// Whether a change reaches just these pages, each followed by a space.
-fn reaches(
-    alloc: Global,
-    names: &[Text],
-    pages: &[Result<Published, Fault>],
-    is_title: bool,
-    name: &str,
-    expected: &str,
-) -> bool {
-    let Ok(changed) = Text::from_str(alloc, name) else {
-        return false;
-    };
-    let changed = if is_title {
-        [SiteCall::TitleOf(changed)]
-    } else {
-        [SiteCall::BlocksOf(changed)]
-    };
-    let mut left = expected.as_bytes();
+/// Pages by what was asked of the site for them.
+type Asked = Dependents<Text, MultiCall<SiteCall, Warning>>;
+
+/// Notes what these pages rest on. Returns whether that worked.
+fn are_noted(index: &mut Asked, names: &[Text], pages: &[Result<Published, Fault>]) -> bool {
     for (name, page) in names.iter().zip(pages) {
         let Ok(page) = page else {
             return false;
         };
-        if is_reached(&page.reads, changed.as_slice()) {
-            let Some(rest) = without(left, name.as_str().as_bytes(), SPACE) else {
-                return false;
-            };
-            left = rest;
+        let Ok(own) = name.clone() else {
+            return false;
+        };
+        if index.note(own, &page.reads).is_err() {
+            return false;
         }
+    }
+    true
+}
+
+/// Whether a change reaches just these pages, each followed by a space.
+fn reaches(alloc: Global, index: &Asked, is_title: bool, name: &str, expected: &str) -> bool {
+    let Ok(changed) = Text::from_str(alloc, name) else {
+        return false;
+    };
+    let changed = if is_title {
+        [MultiCall::A(SiteCall::TitleOf(changed))]
+    } else {
+        [MultiCall::A(SiteCall::BlocksOf(changed))]
+    };
+    let Ok(reached) = index.reached(changed.as_slice()) else {
+        return false;
+    };
+    let mut sorted = BTreeSet::new(alloc);
+    for name in reached {
+        let Ok(own) = name.clone() else {
+            return false;
+        };
+        if sorted.insert(own).is_err() {
+            return false;
+        }
+    }
+    let mut left = expected.as_bytes();
+    for name in &sorted {
+        let Some(rest) = without(left, name.as_str().as_bytes(), SPACE) else {
+            return false;
+        };
+        left = rest;
     }
     left.is_empty()
 }
@@ -317,6 +338,11 @@ fn a_change_reaches_who_asked(rt: HostRuntime) -> Result<(), Fail> {
     let names = names.as_slice();
     let shared: SharedBuilt = (Cache::new(alloc), Cache::new(alloc));
     let pages = publish_all(&rt, alloc, &shared, &site, names, SETTINGS)?;
+    let mut index = Dependents::new(alloc);
+    // noted again, a page is reached as before
+    for _ in 0..2 {
+        assert!(rt; are_noted(&mut index, names, pages.as_slice()));
+    }
     let changes: &[(bool, &str, &str)] = &[
         (false, "footer", "about contact footer index "),
         (true, "footer", "index "),
@@ -327,7 +353,7 @@ fn a_change_reaches_who_asked(rt: HostRuntime) -> Result<(), Fail> {
         (false, "other", ""),
     ];
     for (is_title, name, expected) in changes {
-        let is_so = reaches(alloc, names, pages.as_slice(), *is_title, *name, *expected);
+        let is_so = reaches(alloc, &index, *is_title, *name, *expected);
         assert!(rt; is_so, "{name}, its title: {is_title}");
     }
     Ok(())

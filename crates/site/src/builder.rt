@@ -1,12 +1,13 @@
 //! Builds: from the files of pages to those of documents.
 ghost use Rattle.std.specs.Prelude.{◌<◌};
 
-use crate::basis::{Basis, Changed};
 use crate::command::Request;
 use crate::folder::{Found, Known};
 use crate::output;
 use anyhow::{Context, Result};
-use comemo::{Cache, Fault};
+use comemo::{Cache, Fault, MultiCall};
+use comemo_dependents::Dependents;
+use comemo_site::log::Warning;
 use comemo_site::names::page_name;
 use comemo_site::parse::parse;
 use comemo_site::publish::{Published, Settings, SharedBuilt, publish_all};
@@ -27,8 +28,11 @@ const LIMIT: u64 = 8;
 /// What is old is dropped after each page was published so many times, on average.
 const TIMES: usize = 4;
 
-/// After more changes than these all pages are published again.
-const FEW: usize = 16;
+/// For so many pages a thread is worth its start.
+const SHARE: usize = 8;
+
+/// Calls that the site answers otherwise than before, as the reads of pages have them.
+type Changed = Vec<MultiCall<SiteCall, Warning>>;
 
 /// A page that was read.
 #[derive(Drop)]
@@ -37,10 +41,6 @@ struct Owned {
     path: String,
     /// Its name.
     name: Text,
-    /// The question for its title, which its document shows too.
-    title: SiteCall,
-    /// What its text and warnings rest on; `None` if its document is not written.
-    basis: Option<Basis>,
 }
 
 /// The pages as they were last read, and what is kept of them.
@@ -56,6 +56,10 @@ pub struct Builder<'a> {
     broken: BTreeSet<String>,
     /// The pages by their names.
     pages: BTreeMap<String, Owned>,
+    /// The pages whose documents are not written, or may be others now.
+    due: BTreeSet<Text>,
+    /// What the text and the warnings of each document that is written rest on.
+    dependents: Dependents<Text, MultiCall<SiteCall, Warning>>,
     /// Whether there was a round.
     is_begun: bool,
     /// How many pages were published since what is old was dropped.
@@ -99,6 +103,8 @@ impl<'a> Builder<'a> {
             known: Known::new(alloc),
             broken: BTreeSet::new(alloc),
             pages: BTreeMap::new(alloc),
+            due: BTreeSet::new(alloc),
+            dependents: Dependents::new(alloc),
             is_begun: false,
             published: 0,
             summary: Summary::new(),
@@ -125,8 +131,10 @@ impl<'a> Builder<'a> {
             self.pages.remove(name);
             self.site.remove(name);
             let name = Text::from_str(alloc, name)?;
-            changed.push(SiteCall::TitleOf(name.clone()?))?;
-            changed.push(SiteCall::BlocksOf(name))?;
+            self.due.remove(&name);
+            self.dependents.remove(&name);
+            changed.push(MultiCall::A(SiteCall::TitleOf(name.clone()?)))?;
+            changed.push(MultiCall::A(SiteCall::BlocksOf(name)))?;
         }
         Ok(())
     }
@@ -184,21 +192,17 @@ impl<'a> Builder<'a> {
         let own = Text::from_str(alloc, name)?;
         let old = self.site.get(name);
         if !old.is_some_and(|old| old.title == page.title) {
-            changed.push(SiteCall::TitleOf(own.clone()?))?;
+            // The document shows it, but the text does not ask for it.
+            self.due.insert(own.clone()?)?;
+            changed.push(MultiCall::A(SiteCall::TitleOf(own.clone()?)))?;
         }
         if !old.is_some_and(|old| old.blocks == page.blocks) {
-            changed.push(SiteCall::BlocksOf(own.clone()?))?;
+            changed.push(MultiCall::A(SiteCall::BlocksOf(own.clone()?)))?;
         }
         self.site.set(String::from_str(alloc, name)?, page)?;
-        let basis = match self.pages.remove(name) {
-            Some(page) => page.basis,
-            None => None,
-        };
         let owned = Owned {
             path: String::from_str(alloc, path)?,
-            title: SiteCall::TitleOf(own.clone()?),
             name: own,
-            basis,
         };
         self.pages.insert(String::from_str(alloc, name)?, owned)?;
         Ok(())
@@ -229,32 +233,18 @@ impl<'a> Builder<'a> {
         Ok(changed)
     }
 
-    /// The names of the pages whose documents may be others after these calls changed, or were not written.
-    fn due<R: AllocGlobal>(&mut self, rt: &R, changed: &Changed) -> Result<Vec<Text>> {
+    /// The names of the pages whose documents are not written, or may be others after these calls changed.
+    fn names_due<R: AllocGlobal>(&mut self, rt: &R, changed: &Changed) -> Result<Vec<Text>> {
+        for name in self.dependents.reached(changed.as_slice())? {
+            self.due.insert(name.clone()?)?;
+        }
         let mut names = Vec::new(rt.alloc());
-        for page in self.pages.values() {
-            let is_due = match &page.basis {
-                Some(basis) => {
-                    changed.calls().len() > FEW
-                        || changed.calls().contains(&page.title)
-                        || basis.is_reached(changed)
-                }
-                None => true,
-            };
-            if is_due {
-                names.push(page.name.clone()?)?;
-            }
+        for name in &self.due {
+            names.push(name.clone()?)?;
         }
         let stay = self.pages.len().saturating_sub(names.len());
         self.summary.unchanged = u64::try_from(stay).unwrap_or(u64::MAX);
         Ok(names)
-    }
-
-    /// Keeps what the document of a page rests on; `None` if it is not written.
-    fn keep(&mut self, name: &str, basis: Option<Basis>) {
-        if let Some(page) = self.pages.get_mut(name) {
-            page.basis = basis;
-        }
     }
 
     /// Writes the document of a page, and says what is wrong with the page.
@@ -273,23 +263,22 @@ impl<'a> Builder<'a> {
             Ok(true) => self.summary.written = self.summary.written.saturating_add(1),
             Ok(false) => self.summary.unchanged = self.summary.unchanged.saturating_add(1),
             Err(error) => {
-                self.keep(name.as_str(), None);
                 let what = format!(in rt.alloc(); "{error:#}")?;
                 return self.fail(rt, what.as_str());
             }
         }
-        let basis = Basis::new(rt.alloc(), page.reads)?;
-        self.keep(name.as_str(), Some(basis));
+        self.dependents.note(name.clone()?, &page.reads)?;
+        self.due.remove(name);
         Ok(())
     }
 
-    /// How pages are published.
-    fn settings(&self, explains: bool) -> Settings
+    /// How so many pages are published.
+    fn settings(&self, pages: usize, explains: bool) -> Settings
         ensures { 0 < result.jobs }
     {
         Settings {
             limit: LIMIT,
-            jobs: self.request.jobs.max(1),
+            jobs: self.request.jobs.min(pages / SHARE).max(1),
             explains,
         }
     }
@@ -301,7 +290,7 @@ impl<'a> Builder<'a> {
         for page in self.pages.values() {
             names.push(page.name.clone()?)?;
         }
-        let settings = self.settings(false);
+        let settings = self.settings(names.len(), false);
         let names = names.as_slice();
         publish_all(rt, alloc, &self.shared, &self.site, names, settings)?;
         self.shared.0.evict(rt, 1);
@@ -317,14 +306,14 @@ impl<'a> Builder<'a> {
         changed: &Changed,
     ) -> Result<Tally> {
         let alloc = rt.alloc();
-        let names = self.due(rt, changed)?;
+        let names = self.names_due(rt, changed)?;
         let pages = publish_all(
             rt,
             alloc,
             &self.shared,
             &self.site,
             names.as_slice(),
-            self.settings(self.explains),
+            self.settings(names.len(), self.explains),
         )?;
         for (name, page) in names.iter().zip(&pages) {
             if let Ok(page) = page {
@@ -339,9 +328,7 @@ impl<'a> Builder<'a> {
                     self.write(rt, name, page)?;
                 }
                 Err(_) => {
-                    let name = name.as_str();
-                    self.keep(name, None);
-                    let what = format!(in alloc; "{name}: out of memory")?;
+                    let what = format!(in alloc; "{}: out of memory", name.as_str())?;
                     self.fail(rt, what.as_str())?;
                 }
             }

@@ -1,7 +1,6 @@
 //! The program `site`: builds a folder of pages, once or whenever they change.
 #![tactic(auto)]
 
-mod basis;
 mod builder;
 mod command;
 mod folder;

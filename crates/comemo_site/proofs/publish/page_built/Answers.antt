@@ -5,7 +5,7 @@ pub returns : goal.returns
 returns g c =
     let page = rw c.view.ensures at c.in_ok-html.ensures in (
       (page.0.0, rw (c.in_ok-warnings.ensures, c.as_slice.ensures.value, page.0.1) (seconds_of _ _)),
-      λ calls n differs past.
-          let still = page.1 calls n differs past in
+      λ n alike.
+          let still = page.1 n alike in
           (still.0, rw (c.in_ok-warnings.ensures, c.as_slice.ensures.value, still.1) (seconds_of _ _)),
     )

@@ -1,5 +1,4 @@
 use Rattle.std.proofs.Common.{refl}
-use Rattle.comemo_site.specs.declared.site.SiteCall.TheVariants.{TitleOf}
 use Rattle.comemo_site.proofs.publish.publish_page.Goals as goal
 
 pub returns : goal.returns
@@ -7,8 +6,7 @@ returns g c =
     let built = rw c.in_ok-own.ensures.cases at c.in_ok-html.ensures in
     record {
       published = (rw (c.in_ok-document.ensures, built.0.0) refl, built.0.1);
-      stays = λ calls n differs title past.
-          let still = built.1 calls n differs past in
-          let same = differs (TitleOf c.args.name.now) title in
-          (rw (c.in_ok-document.ensures, same, still.0) refl, still.1);
+      stays = λ n title alike.
+          let still = built.1 n alike in
+          (rw (c.in_ok-document.ensures, title, still.0) refl, still.1);
     }

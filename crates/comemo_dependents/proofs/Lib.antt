@@ -1,0 +1,5 @@
+mod Listing
+mod Loops
+mod Noting
+mod Reaching
+mod Truths
