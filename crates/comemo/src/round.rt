@@ -49,11 +49,7 @@ impl<K> From<AllocError> for RoundError<K> {
 /// The functions of a query, with their caches and needs.
 pub trait Provider<T: Track, Q: Query<T>> {
     /// Calls the function of a key by `Turn::call`. Fails if that does.
-    fn provide(
-        &mut self,
-        key: &Q::At,
-        turn: &Turn<'_, Known<'_, T, Q>>,
-    ) -> Result<Q::Output, Fault>
+    fn provide(&mut self, key: &Q::At, turn: &Turn<'_, Known<'_, T, Q>>) -> Result<Q::Output, Fault>
         ensures { IfOk result (λ output.
             IsTrue (Q.Output.eq (Q.gives key.now (T.answers turn.now)) output)) };
 }

@@ -3,8 +3,8 @@
 use ContextCall::{Location, Styles};
 use Step::{Says, Sums};
 use comemo::{Cache, CacheData, Explanation, Hold, Top, explain, memoized_with};
-use comemo_named::named::Sum;
 use comemo_examples::{Context, ContextCall};
+use comemo_named::named::Sum;
 use std::alloc::Global;
 
 /// A shortened explanation.

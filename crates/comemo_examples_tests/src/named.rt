@@ -1,8 +1,8 @@
 //! Tests of the functions that name their calls.
 
 use comemo::{CacheData, How, Top, memoized_with};
-use comemo_named::named::{IsOver, Sum};
 use comemo_examples::{Context, ContextCall};
+use comemo_named::named::{IsOver, Sum};
 use std::alloc::Global;
 
 /// A context's location and its styles.

@@ -11,9 +11,7 @@ use crate::functions::{Check, Exports, Parse};
 use crate::names::push;
 use crate::project::Project;
 use crate::question::{Output, Question};
-use comemo::{
-    CacheData, Fault, How, Known, Provider, Query, Round, RoundError, Run, Track, Turn,
-};
+use comemo::{CacheData, Fault, How, Known, Provider, Query, Round, RoundError, Run, Track, Turn};
 use comemo_text::{Items, Text};
 use std::alloc::Global;
 
@@ -112,7 +110,8 @@ impl Frontend {
         project: &Project,
         names: &[Text],
     ) -> Result<Vec<Items<Diagnostic>>, RoundError<Question>>
-        ensures { IfOk result (λ all. all.items ≡ map (check_of (source_of project.now)) names.now) }
+        ensures { IfOk result
+            (λ all. all.items ≡ map (check_of (source_of project.now)) names.now) }
     {
         self.calls.clear();
         let mut round = Round::new(self.alloc, project);

@@ -1,8 +1,7 @@
 //! Changes that leave an output as it is, and changes that don't.
 
 use comemo::{
-    At, Cache, CacheData, Fault, Hold, Known, MultiCall, Provider, Round, RoundError, Track,
-    Turn,
+    At, Cache, CacheData, Fault, Hold, Known, MultiCall, Provider, Round, RoundError, Track, Turn,
 };
 use comemo_cutoff::Cells;
 use comemo_cutoff::rounds::{Rounded, SumCache};

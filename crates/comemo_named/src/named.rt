@@ -4,8 +4,8 @@ ghost use Rattle.std.proofs.Common.{rules};
 ghost use Rattle.comemo.specs.Meaning.{names};
 ghost use Rattle.comemo_examples.specs.declared.contexts.ContextCall.TheVariants.{Location, Styles};
 
-use comemo_examples::{Context, ContextCall};
 use comemo::{CacheData, Fault, Function, Recorder, Run};
+use comemo_examples::{Context, ContextCall};
 
 /// The sum of a context's location and its styles, which wraps at 64 bits.
 ///
