@@ -1,57 +1,44 @@
 //! Rounds: while a value stays as it is, each output that is asked of it is looked up or computed once.
-ghost use Rattle.std.specs.Prelude.{◌≡◌, IsTrue, IfOk, IfSome};
-ghost use Rattle.comemo.specs.Rounds.{OnOutput};
+ghost use Rattle.std.specs.Prelude.{◌≡◌, [], IsTrue, IfOk, IfSome, OnOk};
+ghost use Rattle.comemo.specs.Trail.{IsTrail};
+ghost use Rattle.comemo.specs.Rounds.{Adds, OnTurned, known_answers};
 
-use crate::known::{Known, Query};
+use crate::known::{At, Known, Query};
 use crate::pending::Fault;
 use crate::turn::Turn;
 use comemo_track::answer::Answer;
+use comemo_track::multi::{MultiAnswer, MultiCall};
 use comemo_track::track::Track;
 use std::alloc::{AllocError, Global};
 use std::collections::HashMap;
 use std::hash::Hash;
 use std::marker::{Model, PhantomData};
 
-/// Why an output could not be made known.
-#[derive(Clone, Copy, Drop, Debug, PartialEq, Eq)]
-pub enum RoundError<K> {
-    /// A function failed, or memory ran out.
-    Fault(Fault),
-    /// The output at this key needs itself.
-    Circle(K),
-}
-
-/// Lets `?` pass on a fault.
-impl<K> From<Fault> for RoundError<K> {
-    ghost use Rattle.std.specs.Prelude.{◌≡◌};
-    ghost use Rattle.comemo.specs.declared.round.RoundError.TheVariants as error;
-
-    ghost from_gives = { λ fault e. e ≡ error.Fault fault };
-
-    fn from(fault: Fault) -> RoundError<K> {
-        RoundError::Fault(fault)
-    }
-}
-
-/// Lets `?` pass on a failure to allocate.
-impl<K> From<AllocError> for RoundError<K> {
-    ghost use Rattle.std.specs.Prelude.{◌≡◌};
-    ghost use Rattle.comemo.specs.declared.pending.Fault.TheVariants.{Memory};
-    ghost use Rattle.comemo.specs.declared.round.RoundError.TheVariants as error;
-
-    ghost from_gives = { λ _ e. e ≡ error.Fault Memory };
-
-    fn from(_error: AllocError) -> RoundError<K> {
-        RoundError::Fault(Fault::Memory)
-    }
-}
-
 /// The functions of a query, with their caches and needs.
 pub trait Provider<T: Track, Q: Query<T>> {
     /// Calls the function of a key by `Turn::call`. Fails if that does.
-    fn provide(&mut self, key: &Q::At, turn: &Turn<'_, Known<'_, T, Q>>) -> Result<Q::Output, Fault>
-        ensures { IfOk result (λ output.
-            IsTrue (Q.Output.eq (Q.gives key.now (T.answers turn.now)) output)) };
+    fn provide(
+        &mut self,
+        key: &Q::At,
+        turn: &mut Turn<'_, Known<'_, T, Q>>,
+    ) -> Result<Q::Output, Fault>
+        ensures same { turn.new ≡ turn.old }
+        ensures gives { IfOk result (λ output.
+            IsTrue (Q.Output.eq (Q.gives key.now (T.answers turn.old)) output)) };
+}
+
+/// A call that is made once in a round, and whose output no other function asks.
+pub trait Task<T: Track, Q: Query<T>> {
+    /// What the call returns.
+    type Out;
+
+    // what it may return, for these answers of the value
+    ghost right: { (T.Call → T.Answer) → Self.Out → Type 0 };
+
+    /// Makes the call by `Turn::call`. Fails if that does.
+    fn call(&mut self, turn: &mut Turn<'_, Known<'_, T, Q>>) -> Result<Self::Out, Fault>
+        ensures same { turn.new ≡ turn.old }
+        ensures right { IfOk result (right (T.answers turn.old)) };
 }
 
 /// A round: a value, which can't change while the round lasts, and the outputs of a query that are known at it.
@@ -78,52 +65,57 @@ impl<'a, T: Track, Q: Query<T>> Model for Round<'a, T, Q> {
         (λ at. Q.gives at (T.answers s.of.now)) s.table.entries };
 }
 
+/// A call that waits for an output, and what its look-up was answered so far.
+#[derive(Drop)]
+struct Waiting<K, C, R> {
+    key: K,
+    trail: Vec<(C, R)>,
+}
+
 /// What became of a turn of a call.
-enum Turned<K, O> {
+enum Turned<K, C, R, O> {
     /// It returned this output.
     Output(O),
     /// The output at this key has to be known first.
-    Needs(K),
+    Needs(K, Vec<(C, R)>),
 }
 
-/// The keys whose outputs wait for others in a round.
+/// The calls that wait for outputs in a round.
 #[derive(Drop)]
-struct Waiting<K: Eq + Hash> {
-    // the last one needs none of those before it
-    keys: Vec<K>,
-    // those that ever waited
+struct Queue<K: Eq + Hash, C, R> {
+    // the last one waits for none of those before it
+    calls: Vec<Waiting<K, C, R>>,
+    // the keys that ever waited
     seen: HashMap<K, ()>,
 }
 
-impl<K: Clone + Eq + Hash> Waiting<K> {
-    /// No key waits. Does not allocate.
-    fn new(alloc: Global) -> Self {
-        Waiting {
-            keys: Vec::new(alloc),
+impl<K: Clone + Eq + Hash + Drop, C: Drop, R: Drop> Queue<K, C, R> {
+    /// No call waits. Does not allocate.
+    fn new(alloc: Global) -> Self
+        ensures { result.calls.items ≡ [] }
+    {
+        Queue {
+            calls: Vec::new(alloc),
             seen: HashMap::new(alloc),
         }
     }
 
-    /// Has a key wait. Fails if it waited before, since its output then needs itself, or if out of memory.
-    fn add(&mut self, key: K) -> Result<(), RoundError<K>> {
+    /// Adds the call of a key, unless it was added before: then it needs its own output, and `Memory` is returned.
+    fn add(&mut self, alloc: Global, key: K) -> Result<(), AllocError>
+        ensures { OnOk result (Adds [] self.old.calls.items self.new.calls.items) }
+    {
         if self.seen.contains_key(&key) {
-            return Err(RoundError::Circle(key));
+            return Err(AllocError);
         }
-        self.note(key.clone()?)?;
-        self.again(key)?;
-        Ok(())
+        self.seen.insert(key.clone()?, ())?;
+        self.again(key, Vec::new(alloc))
     }
 
-    /// Notes that a key waited. Fails if out of memory.
-    fn note(&mut self, key: K) -> Result<(), AllocError> {
-        self.seen.insert(key, ())?;
-        Ok(())
-    }
-
-    /// Has a key wait that waited before. Fails if out of memory.
-    fn again(&mut self, key: K) -> Result<(), AllocError> {
-        self.keys.push(key)?;
-        Ok(())
+    /// Adds a call that waited before, with what it asked.
+    fn again(&mut self, key: K, trail: Vec<(C, R)>) -> Result<(), AllocError>
+        ensures { OnOk result (Adds trail.items self.old.calls.items self.new.calls.items) }
+    {
+        Ok(self.calls.push(Waiting { key, trail })?)
     }
 }
 
@@ -169,15 +161,26 @@ impl<'a, T: Track, Q: Query<T>> Round<'a, T, Q> {
         &self,
         provider: &mut P,
         key: &Q::At,
-    ) -> Result<Turned<Q::At, Q::Output>, Fault>
-        ensures { IfOk result (λ turned. OnOutput turned
-            (λ output. IsTrue (Q.Output.eq (Q.gives key.now (T.answers self.now)) output))) }
+        trail: Vec<(MultiCall<T::Call, At<Q::At>>, MultiAnswer<T::Answer, Q::Output>)>,
+    ) -> Result<
+        Turned<Q::At, MultiCall<T::Call, At<Q::At>>, MultiAnswer<T::Answer, Q::Output>, Q::Output>,
+        Fault,
+    >
+        requires { IsTrail ⟦<MultiAnswer<T::Answer, Q::Output> as PartialEq>⟧.eq
+            (known_answers Q.gives (T.answers self.now)) trail.items }
+        ensures { IfOk result (λ turned. OnTurned turned
+            (λ output. IsTrue (Q.Output.eq (Q.gives key.now (T.answers self.now)) output))
+            (IsTrail ⟦<MultiAnswer<T::Answer, Q::Output> as PartialEq>⟧.eq
+            (known_answers Q.gives (T.answers self.now)))) }
     {
         let known = Known::new(self.of, &self.table);
-        match provider.provide(key, &Turn::new(self.alloc, &known)) {
+        let mut turn = Turn::new(self.alloc, &known, trail);
+        let called = provider.provide(key, &mut turn);
+        let trail = turn.into_trail();
+        match called {
             Ok(output) => Ok(Turned::Output(output)),
             Err(fault) => match known.into_missing() {
-                Some(needed) => Ok(Turned::Needs(needed)),
+                Some(needed) => Ok(Turned::Needs(needed, trail)),
                 None => Err(fault),
             },
         }
@@ -185,13 +188,13 @@ impl<'a, T: Track, Q: Query<T>> Round<'a, T, Q> {
 
     /// The output at a key: it is known, or it is looked up or computed now, after each output that it needs.
     ///
-    /// Fails if a function does, if out of memory, or if an output needs itself. The keys that wait are on the heap, so
-    /// the stack doesn't grow with the depth of calls.
+    /// Fails if a function does, if out of memory, and also as `Memory` if an output needs itself. The calls that wait
+    /// are on the heap, so the stack doesn't grow with the depth of calls.
     pub fn output<P: Provider<T, Q>>(
         &mut self,
         provider: &mut P,
         key: Q::At,
-    ) -> Result<Q::Output, RoundError<Q::At>>
+    ) -> Result<Q::Output, Fault>
         ensures same { self.new ≡ self.old }
         ensures gives { IfOk result (λ output.
             IsTrue (Q.Output.eq (Q.gives key (T.answers self.old)) output)) }
@@ -199,26 +202,88 @@ impl<'a, T: Track, Q: Query<T>> Round<'a, T, Q> {
         if let Some(output) = self.get(&key) {
             return Ok(output.clone()?);
         }
-        let mut waiting: Waiting<Q::At> = Waiting::new(self.alloc);
+        let alloc = self.alloc;
+        let mut queue: Queue<
+            Q::At,
+            MultiCall<T::Call, At<Q::At>>,
+            MultiAnswer<T::Answer, Q::Output>,
+        > = Queue::new(alloc);
+        let mut own = Vec::new(alloc);
         for _i in 0..u64::MAX {
-            let Some(below) = waiting.keys.pop() else {
-                match self.take_turn(provider, &key)? {
+            let Some(call) = queue.calls.pop() else {
+                match self.take_turn(provider, &key, own)? {
                     Turned::Output(output) => {
                         self.learn(key, output.clone()?)?;
                         return Ok(output);
                     }
-                    Turned::Needs(needed) => waiting.add(needed)?,
+                    Turned::Needs(needed, trail) => {
+                        own = trail;
+                        queue.add(alloc, needed)?;
+                    }
                 }
                 continue;
             };
-            match self.take_turn(provider, &below)? {
+            let Waiting { key: below, trail } = call;
+            match self.take_turn(provider, &below, trail)? {
                 Turned::Output(output) => self.learn(below, output)?,
-                Turned::Needs(needed) => {
-                    waiting.again(below)?;
-                    waiting.add(needed)?;
+                Turned::Needs(needed, trail) => {
+                    queue.again(below, trail)?;
+                    queue.add(alloc, needed)?;
                 }
             }
         }
-        Err(RoundError::Fault(Fault::Memory))
+        Err(Fault::Memory)
+    }
+
+    /// Makes a call, again and again, until each output that it asks is known.
+    ///
+    /// Fails if the call does, or if an output that it asks can't be made known, as `output`.
+    pub fn attempt<P: Provider<T, Q>, A: Task<T, Q>>(
+        &mut self,
+        provider: &mut P,
+        task: &mut A,
+    ) -> Result<A::Out, Fault>
+        ensures same { self.new ≡ self.old }
+        ensures right { IfOk result (A.right (T.answers self.old)) }
+    {
+        let mut trail = Vec::new(self.alloc);
+        for _i in 0..u64::MAX {
+            match self.take_task(task, trail)? {
+                Turned::Output(output) => return Ok(output),
+                Turned::Needs(needed, asked) => {
+                    trail = asked;
+                    let _ = self.output(provider, needed)?;
+                }
+            }
+        }
+        Err(Fault::Memory)
+    }
+
+    /// A turn of a call, or which output it needs first.
+    fn take_task<A: Task<T, Q>>(
+        &self,
+        task: &mut A,
+        trail: Vec<(MultiCall<T::Call, At<Q::At>>, MultiAnswer<T::Answer, Q::Output>)>,
+    ) -> Result<
+        Turned<Q::At, MultiCall<T::Call, At<Q::At>>, MultiAnswer<T::Answer, Q::Output>, A::Out>,
+        Fault,
+    >
+        requires { IsTrail ⟦<MultiAnswer<T::Answer, Q::Output> as PartialEq>⟧.eq
+            (known_answers Q.gives (T.answers self.now)) trail.items }
+        ensures { IfOk result (λ turned. OnTurned turned (A.right (T.answers self.now))
+            (IsTrail ⟦<MultiAnswer<T::Answer, Q::Output> as PartialEq>⟧.eq
+            (known_answers Q.gives (T.answers self.now)))) }
+    {
+        let known = Known::new(self.of, &self.table);
+        let mut turn = Turn::new(self.alloc, &known, trail);
+        let called = task.call(&mut turn);
+        let trail = turn.into_trail();
+        match called {
+            Ok(output) => Ok(Turned::Output(output)),
+            Err(fault) => match known.into_missing() {
+                Some(needed) => Ok(Turned::Needs(needed, trail)),
+                None => Err(fault),
+            },
+        }
     }
 }
