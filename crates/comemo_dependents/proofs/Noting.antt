@@ -22,16 +22,6 @@ module _ {K C S T U : Type 0} {eqk : K → K → Bool} {eqc : C → C → Bool} 
     pub forgot : (k : K) (c : C) → lists_key eqk eqc n c k ≡ cond (eqk k key) false (lists_key eqk eqc m c k)
     forgot k c = taken c k ∙ forget_step (lists_key eqk eqc m c k) (eqk k key) (is_noted eqc (get eqk calls key) c) (was_noted c k)
 
-    -- the calls of the other keys stay
-    pub still_noted : ((k : K) → get eqk later k ≡ cond (eqk key k) None (get eqk calls k)) → AreNoted eqk eqc n later
-    still_noted stay = record {
-      noted = λ c k h. elim (cases_Bool (eqk k key)) [
-        | inl e ↦ (let two : true ≡ false = sym h ∙ forgot k c ∙ ap (λ b. cond b false (lists_key eqk eqc m c k)) e in cc)
-        | inr e ↦ (let was = sym (forgot k c ∙ ap (λ b. cond b false (lists_key eqk eqc m c k)) e) ∙ h in
-            ap (λ o. is_noted eqc o c) (stay k ∙ ap (λ b. cond b None (get eqk calls k)) (keys.symm key k ∙ e)) ∙ noted.noted c k was)
-      ];
-    }
-
   -- a key that was in no set was put in the sets of some of these calls, which were noted of it
   pub noted_more : (own : K) (v : Vec C) (asks : C → Bool) → eqk key own ≡ true → ((c : C) → list_any (eqc c) v.items ≡ asks c) → ((k : K) → get eqk later k ≡ cond (eqk own k) (Some v) (get eqk calls k)) → ((k : K) (c : C) → eqk k key ≡ true → lists_key eqk eqc m c k ≡ false) → ((c : C) (k : K) → lists_key eqk eqc n c k ≡ true → (lists_key eqk eqc m c k || (eqk k key && asks c)) ≡ true) → AreNoted eqk eqc n later
   noted_more own v asks clone has put free within = record {
@@ -44,10 +34,6 @@ module _ {K C S T U : Type 0} {eqk : K → K → Bool} {eqc : C → C → Bool} 
           ap (λ o. is_noted eqc o c) (put k ∙ ap (λ b. cond b (Some v) (get eqk calls k)) here) ∙ noted.noted c k was)
     ];
   }
-
--- the map of calls has the same entries
-pub noted_same : {K C S T U : Type 0} {eqk : K → K → Bool} {eqc : C → C → Bool} (lists : HashMap C (HashSet K S) T) (calls later : HashMap K (Vec C) U) → later.entries ≡ calls.entries → AreNoted eqk eqc lists calls → AreNoted eqk eqc lists later
-noted_same {eqk = eqk} {eqc} lists calls later same noted = record { noted = λ c k h. ap (λ es. is_noted eqc (lookup (eqk k) es) c) same ∙ noted.noted c k h }
 
 module _ {K C S T : Type 0} (eqk : K → K → Bool) (eqc : C → C → Bool) (key : K) where
   pub Forgets-index_of : (m n : HashMap C (HashSet K S) T) → ((k : K) (c : C) → lists_key eqk eqc n c k ≡ cond (eqk k key) false (lists_key eqk eqc m c k)) → Forgets eqk eqc key (index_of m) (index_of n)
