@@ -185,8 +185,8 @@ impl<'a, T: Track, Q: Query<T>> Round<'a, T, Q> {
 
     /// The output at a key: it is known, or it is looked up or computed now, after each output that it needs.
     ///
-    /// Fails if a function does, if out of memory, or if an output needs itself. The keys that wait are on the heap, so
-    /// the stack doesn't grow with the depth of calls.
+    /// Fails if a function does, if out of memory, or if an output needs itself; what became known stays known. The keys
+    /// that wait are on the heap, so the stack doesn't grow with the depth of calls.
     pub fn output<P: Provider<T, Q>>(
         &mut self,
         provider: &mut P,
