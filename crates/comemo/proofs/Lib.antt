@@ -16,6 +16,7 @@ pub mod Keeping
 pub mod Recursions
 pub mod RecursionsMut
 pub mod Texts
+pub mod Trails
 pub use Rattle.comemo_cache.proofs.Sendings
 pub use Rattle.comemo_cache.proofs.Entries
 pub use Rattle.comemo_cache.proofs.Writings

@@ -44,3 +44,4 @@ pub use Rattle.comemo_base.specs.Hash
 pub use Rattle.comemo_base.specs.Sequence
 pub use Rattle.comemo_base.specs.Sip
 pub mod Rounds
+pub mod Trail

@@ -286,7 +286,13 @@ where
 
 /// Runs a function under the cache's clone of the key. Not inlined, so that a hit makes no room for a run.
 #[inline(never)]
-fn run_kept<M: Run<T, N>, H: Hold<M>, N, T: Track, S: Sink<Call = T::Call, Answer = T::Answer>>(
+pub(crate) fn run_kept<
+    M: Run<T, N>,
+    H: Hold<M>,
+    N,
+    T: Track,
+    S: Sink<Call = T::Call, Answer = T::Answer>,
+>(
     alloc: Global,
     cache: &mut H,
     needs: &mut N,

@@ -174,6 +174,60 @@ impl<'r, T: Track, Q: Query<T>> Track for Known<'r, T, Q> {
     }
 }
 
+/// A tracked value joined with the outputs of a query, of which none is known. Contracts see the value.
+///
+/// It stands for a `Known` where no outputs are borrowed.
+#[derive(Drop)]
+pub(crate) struct Unknown<'a, T: Track, Q: Query<T>> {
+    of: &'a T,
+    query: PhantomData<Q>,
+}
+
+impl<'a, T: Track, Q: Query<T>> Model for Unknown<'a, T, Q> {
+    ghost Value = { T };
+
+    ghost coded = { T.code };
+
+    ghost view = { λ s. s.of.now };
+}
+
+impl<'a, T: Track, Q: Query<T>> Unknown<'a, T, Q> {
+    /// A value whose outputs aren't known. Does not allocate.
+    pub(crate) fn new(of: &'a T) -> Self
+        ensures { result ≡ of.now }
+    {
+        Unknown {
+            of,
+            query: PhantomData,
+        }
+    }
+}
+
+impl<'a, T: Track, Q: Query<T>> Track for Unknown<'a, T, Q> {
+    type Call = MultiCall<T::Call, At<Q::At>>;
+
+    type Answer = MultiAnswer<T::Answer, Q::Output>;
+
+    ghost use Rattle.comemo_track.specs.Multi.{part_answers};
+    ghost use Rattle.comemo_track.specs.MultiLaws.{by_parts};
+
+    ghost answers = { λ s. part_answers (T.answers s) (λ at. Q.gives at.key (T.answers s)) };
+
+    ghost alike = { λ s. by_parts _ (T.alike s)
+        (λ x y h. Q.alike x.key y.key (T.answers s) (T.alike s) h)
+        (λ c d h. Prim.search rules) (λ c d h. Prim.search rules) };
+
+    fn ask(
+        &self,
+        call: &MultiCall<T::Call, At<Q::At>>,
+    ) -> Result<MultiAnswer<T::Answer, Q::Output>, AllocError> {
+        match call {
+            MultiCall::A(call) => Ok(MultiAnswer::A(self.of.ask(call)?)),
+            MultiCall::B(_) => Err(AllocError),
+        }
+    }
+}
+
 impl<'b, T: Track, Q: Query<T>> Part<Known<'b, T, Q>, T>
     for First<T::Call, At<Q::At>, T::Answer, Q::Output> {
     ghost part = { λ _ whole. whole };

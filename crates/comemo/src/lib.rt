@@ -43,8 +43,10 @@ mod parts_mut;
 mod pending;
 mod recursive;
 mod recursive_mut;
+mod resumed;
 mod round;
 mod turn;
+mod waiting;
 
 pub use branch::Branch;
 pub use closure::memoize;

@@ -2,15 +2,17 @@
 ghost use Rattle.std.specs.Prelude.{◌≡◌, IsTrue, IfOk, IfSome};
 ghost use Rattle.comemo.specs.Rounds.{OnOutput};
 
-use crate::known::{Known, Query};
+use crate::known::{Known, Query, Unknown};
 use crate::pending::Fault;
 use crate::turn::Turn;
+use crate::waiting::{Queue, Trail, Waiting};
 use comemo_track::answer::Answer;
 use comemo_track::track::Track;
 use std::alloc::{AllocError, Global};
 use std::collections::HashMap;
 use std::hash::Hash;
 use std::marker::{Model, PhantomData};
+use std::mem;
 
 /// Why an output could not be made known.
 #[derive(Clone, Copy, Drop, Debug, PartialEq, Eq)]
@@ -49,9 +51,14 @@ impl<K> From<AllocError> for RoundError<K> {
 /// The functions of a query, with their caches and needs.
 pub trait Provider<T: Track, Q: Query<T>> {
     /// Calls the function of a key by `Turn::call`. Fails if that does.
-    fn provide(&mut self, key: &Q::At, turn: &Turn<'_, Known<'_, T, Q>>) -> Result<Q::Output, Fault>
-        ensures { IfOk result (λ output.
-            IsTrue (Q.Output.eq (Q.gives key.now (T.answers turn.now)) output)) };
+    fn provide(
+        &mut self,
+        key: &Q::At,
+        turn: &mut Turn<'_, Known<'_, T, Q>>,
+    ) -> Result<Q::Output, Fault>
+        ensures same { turn.new ≡ turn.old }
+        ensures gives { IfOk result (λ output.
+            IsTrue (Q.Output.eq (Q.gives key.now (T.answers turn.old)) output)) };
 }
 
 /// A round: a value, which can't change while the round lasts, and the outputs of a query that are known at it.
@@ -84,47 +91,6 @@ enum Turned<K, O> {
     Output(O),
     /// The output at this key has to be known first.
     Needs(K),
-}
-
-/// The keys whose outputs wait for others in a round.
-#[derive(Drop)]
-struct Waiting<K: Eq + Hash> {
-    // the last one needs none of those before it
-    keys: Vec<K>,
-    // those that ever waited
-    seen: HashMap<K, ()>,
-}
-
-impl<K: Clone + Eq + Hash> Waiting<K> {
-    /// No key waits. Does not allocate.
-    fn new(alloc: Global) -> Self {
-        Waiting {
-            keys: Vec::new(alloc),
-            seen: HashMap::new(alloc),
-        }
-    }
-
-    /// Has a key wait. Fails if it waited before, since its output then needs itself, or if out of memory.
-    fn add(&mut self, key: K) -> Result<(), RoundError<K>> {
-        if self.seen.contains_key(&key) {
-            return Err(RoundError::Circle(key));
-        }
-        self.note(key.clone()?)?;
-        self.again(key)?;
-        Ok(())
-    }
-
-    /// Notes that a key waited. Fails if out of memory.
-    fn note(&mut self, key: K) -> Result<(), AllocError> {
-        self.seen.insert(key, ())?;
-        Ok(())
-    }
-
-    /// Has a key wait that waited before. Fails if out of memory.
-    fn again(&mut self, key: K) -> Result<(), AllocError> {
-        self.keys.push(key)?;
-        Ok(())
-    }
 }
 
 impl<'a, T: Track, Q: Query<T>> Round<'a, T, Q> {
@@ -164,17 +130,24 @@ impl<'a, T: Track, Q: Query<T>> Round<'a, T, Q> {
         Ok(())
     }
 
-    /// Calls the function of a key, or says which output it needs first.
+    /// Calls the function of a key that waits, or says which output it needs first.
     fn take_turn<P: Provider<T, Q>>(
         &self,
         provider: &mut P,
-        key: &Q::At,
+        waiting: &mut Waiting<'a, T, Q>,
     ) -> Result<Turned<Q::At, Q::Output>, Fault>
-        ensures { IfOk result (λ turned. OnOutput turned
-            (λ output. IsTrue (Q.Output.eq (Q.gives key.now (T.answers self.now)) output))) }
+        requires { waiting.old.trail ≡ self.now }
+        ensures same { waiting.new ≡ waiting.old }
+        ensures gives { IfOk result (λ turned. OnOutput turned (λ output.
+            IsTrue (Q.Output.eq (Q.gives waiting.old.key (T.answers self.now)) output))) }
     {
         let known = Known::new(self.of, &self.table);
-        match provider.provide(key, &Turn::new(self.alloc, &known)) {
+        let nothing = Trail::new(Unknown::new(self.of), Vec::new(self.alloc));
+        let trail = mem::replace(&mut waiting.trail, nothing);
+        let mut turn = Turn::new(self.alloc, &known, trail.into_pairs());
+        let provided = provider.provide(&waiting.key, &mut turn);
+        waiting.trail = Trail::new(Unknown::new(self.of), turn.into_trail());
+        match provided {
             Ok(output) => Ok(Turned::Output(output)),
             Err(fault) => match known.into_missing() {
                 Some(needed) => Ok(Turned::Needs(needed)),
@@ -199,26 +172,23 @@ impl<'a, T: Track, Q: Query<T>> Round<'a, T, Q> {
         if let Some(output) = self.get(&key) {
             return Ok(output.clone()?);
         }
-        let mut waiting: Waiting<Q::At> = Waiting::new(self.alloc);
+        let mut queue = Queue::new(self.alloc, self.of);
+        queue.add(key.clone()?)?;
         for _i in 0..u64::MAX {
-            let Some(below) = waiting.keys.pop() else {
-                match self.take_turn(provider, &key)? {
-                    Turned::Output(output) => {
-                        self.learn(key, output.clone()?)?;
-                        return Ok(output);
-                    }
-                    Turned::Needs(needed) => waiting.add(needed)?,
-                }
-                continue;
+            let Some(mut waiting) = queue.pop() else {
+                break;
             };
-            match self.take_turn(provider, &below)? {
-                Turned::Output(output) => self.learn(below, output)?,
+            match self.take_turn(provider, &mut waiting)? {
+                Turned::Output(output) => self.learn(waiting.key, output)?,
                 Turned::Needs(needed) => {
-                    waiting.again(below)?;
-                    waiting.add(needed)?;
+                    queue.again(waiting)?;
+                    queue.add(needed)?;
                 }
             }
         }
-        Err(RoundError::Fault(Fault::Memory))
+        match self.get(&key) {
+            Some(output) => Ok(output.clone()?),
+            None => Err(RoundError::Fault(Fault::Memory)),
+        }
     }
 }

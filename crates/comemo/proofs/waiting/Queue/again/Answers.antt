@@ -1,0 +1,10 @@
+use Rattle.std.proofs.Common.{◌≡◌}
+use Rattle.std.proofs.lemmas.List.Elements.{All-push}
+use Rattle.comemo.specs.declared.waiting.Waiting.{Waiting}
+use Rattle.comemo.proofs.waiting.Queue.again.Goals as goal
+
+pub invariant_of-self : goal.invariant_of-self
+invariant_of-self g c = rw c.in_err-push.ensures.items c.self.invariant
+
+pub invariant_of-self-2 : goal.invariant_of-self-2
+invariant_of-self-2 g c = rw c.in_ok-push.ensures.items (All-push (λ (waits : Waiting _ _ _ _ _ _). waits.trail ≡ c.self.inside.of.now) c.self.inside.waiting.items c.args.waits c.self.invariant (rw c.self.view_is c.requires))
