@@ -17,6 +17,7 @@ pub mod Recursions
 pub mod RecursionsMut
 pub mod Texts
 pub mod Trails
+pub mod Rounds
 pub use Rattle.comemo_cache.proofs.Sendings
 pub use Rattle.comemo_cache.proofs.Entries
 pub use Rattle.comemo_cache.proofs.Writings

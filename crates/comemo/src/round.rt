@@ -1,6 +1,9 @@
 //! Rounds: while a value stays as it is, each output that is asked of it is looked up or computed once.
-ghost use Rattle.std.specs.Prelude.{◌≡◌, IsTrue, IfOk, IfSome};
-ghost use Rattle.comemo.specs.Rounds.{OnOutput};
+ghost use Rattle.std.specs.Prelude.{◌≡◌, [], IsTrue, IfOk, IfErr, OnOk, OnErr, option_copied, IfSome, ⊤};
+ghost use Rattle.std.specs.Map.{lookup};
+ghost use Rattle.comemo.specs.Rounds.{Learns, OnOutput, FailsBy};
+ghost use Rattle.comemo_base.specs.Sequence.{held};
+ghost use Rattle.comemo_track.specs.Answered.{StaysKnown};
 
 use crate::known::{Known, Query, Unknown};
 use crate::pending::Fault;
@@ -50,6 +53,11 @@ impl<K> From<AllocError> for RoundError<K> {
 
 /// The functions of a query, with their caches and needs.
 pub trait Provider<T: Track, Q: Query<T>> {
+    ghost use Rattle.comemo.specs.declared.pending.Fault.{Fault};
+
+    // the faults that the function of a key may have, besides want of memory
+    ghost fails: { Q.At → Fault → Type 0 } = { λ _ _. ⊤ };
+
     /// Calls the function of a key by `Turn::call`. Fails if that does.
     fn provide(
         &mut self,
@@ -58,11 +66,12 @@ pub trait Provider<T: Track, Q: Query<T>> {
     ) -> Result<Q::Output, Fault>
         ensures same { turn.new ≡ turn.old }
         ensures gives { IfOk result (λ output.
-            IsTrue (Q.Output.eq (Q.gives key.now (T.answers turn.old)) output)) };
+            IsTrue (Q.Output.eq (Q.gives key.now (T.answers turn.old)) output)) }
+        ensures fault { IfErr result (fails key.now) };
 }
 
 /// A round: a value, which can't change while the round lasts, and the outputs of a query that are known at it.
-/// Contracts see the value.
+/// Contracts see the value, and the known outputs by their keys.
 #[derive(Drop)]
 pub struct Round<'a, T: Track, Q: Query<T>> {
     alloc: Global,
@@ -72,14 +81,14 @@ pub struct Round<'a, T: Track, Q: Query<T>> {
 }
 
 impl<'a, T: Track, Q: Query<T>> Model for Round<'a, T, Q> {
-    ghost use Rattle.comemo_track.specs.Answered.{IsAnswered};
+    ghost use Rattle.comemo_track.specs.Answered.{Answered, answered_code, IsAnswered};
     ghost use Rattle.std.specs.Prelude.{false};
 
-    ghost Value = { T };
+    ghost Value = { Answered T Q.At Q.Output };
 
-    ghost coded = { T.code };
+    ghost coded = { answered_code T.code Q.At.code Q.Output.code };
 
-    ghost view = { λ s. s.of.now };
+    ghost view = { λ s. record { value = s.of.now; known = s.table.entries } };
 
     ghost invariant = { λ s. IsAnswered Q.At.eq (λ _. false) Q.Output.eq
         (λ at. Q.gives at (T.answers s.of.now)) s.table.entries };
@@ -96,7 +105,8 @@ enum Turned<K, O> {
 impl<'a, T: Track, Q: Query<T>> Round<'a, T, Q> {
     /// A round at a value, in which no output is known yet. Does not allocate.
     pub fn new(alloc: Global, of: &'a T) -> Self
-        ensures { result ≡ of.now }
+        ensures value { result.value ≡ of.now }
+        ensures known { result.known ≡ [] }
     {
         Round {
             alloc,
@@ -108,23 +118,26 @@ impl<'a, T: Track, Q: Query<T>> Round<'a, T, Q> {
 
     /// The value.
     pub fn value(&self) -> &'a T
-        ensures { result.now ≡ self.now }
+        ensures { result.now ≡ self.now.value }
     {
         self.of
     }
 
     /// The known output at a key, if there is one.
     pub fn get(&self, key: &Q::At) -> Option<&Q::Output>
-        ensures { IfSome result (λ output.
-            IsTrue (Q.Output.eq (Q.gives key.now (T.answers self.now)) output.now)) }
+        ensures known { option_copied result ≡ lookup (Q.At.eq key.now) self.now.known }
+        ensures right { IfSome result (λ output.
+            IsTrue (Q.Output.eq (Q.gives key.now (T.answers self.now.value)) output.now)) }
     {
         self.table.get(key)
     }
 
-    /// Makes the output at a key known. Fails if out of memory.
+    /// Makes the output at a key known. Fails if out of memory; then nothing changed.
     pub fn learn(&mut self, key: Q::At, output: Q::Output) -> Result<(), AllocError>
-        requires { IsTrue (Q.Output.eq (Q.gives key (T.answers self.old)) output) }
-        ensures { self.new ≡ self.old }
+        requires { IsTrue (Q.Output.eq (Q.gives key (T.answers self.old.value)) output) }
+        ensures value { self.new.value ≡ self.old.value }
+        ensures learns { OnOk result (Learns Q.At.eq self.old.known key output self.new.known) }
+        ensures err { OnErr result (self.new ≡ self.old) }
     {
         self.table.insert(key, output)?;
         Ok(())
@@ -136,10 +149,11 @@ impl<'a, T: Track, Q: Query<T>> Round<'a, T, Q> {
         provider: &mut P,
         waiting: &mut Waiting<'a, T, Q>,
     ) -> Result<Turned<Q::At, Q::Output>, Fault>
-        requires { waiting.old.trail ≡ self.now }
+        requires { waiting.old.trail ≡ self.now.value }
         ensures same { waiting.new ≡ waiting.old }
         ensures gives { IfOk result (λ turned. OnOutput turned (λ output.
-            IsTrue (Q.Output.eq (Q.gives waiting.old.key (T.answers self.now)) output))) }
+            IsTrue (Q.Output.eq (Q.gives waiting.old.key (T.answers self.now.value)) output))) }
+        ensures fault { IfErr result (P.fails waiting.old.key) }
     {
         let known = Known::new(self.of, &self.table);
         let nothing = Trail::new(Unknown::new(self.of), Vec::new(self.alloc));
@@ -165,9 +179,12 @@ impl<'a, T: Track, Q: Query<T>> Round<'a, T, Q> {
         provider: &mut P,
         key: Q::At,
     ) -> Result<Q::Output, RoundError<Q::At>>
-        ensures same { self.new ≡ self.old }
+        ensures value { self.new.value ≡ self.old.value }
         ensures gives { IfOk result (λ output.
-            IsTrue (Q.Output.eq (Q.gives key (T.answers self.old)) output)) }
+            IsTrue (Q.Output.eq (Q.gives key (T.answers self.old.value)) output)) }
+        ensures known { OnOk result (IsTrue (held Q.At.eq self.new.known key)) }
+        ensures stays { StaysKnown Q.At.eq self.old.known self.new.known }
+        ensures err { IfErr result (FailsBy P.fails) }
     {
         if let Some(output) = self.get(&key) {
             return Ok(output.clone()?);

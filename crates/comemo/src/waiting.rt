@@ -1,5 +1,6 @@
 //! The keys of a round whose outputs wait for others.
-ghost use Rattle.std.specs.Prelude.{◌≡◌, [], OnOk, IfSome};
+ghost use Rattle.std.specs.Prelude.{◌≡◌, IfErr, IfSome};
+ghost use Rattle.comemo.specs.Rounds.{FailsBy};
 ghost use Rattle.comemo.specs.Trail.{IsTrail};
 
 use crate::known::{Query, Unknown};
@@ -94,7 +95,8 @@ impl<'a, T: Track, Q: Query<T>> Queue<'a, T, Q> {
 
     /// Has a key wait. Fails if it waited before, since its output then needs itself, or if out of memory.
     pub(crate) fn add(&mut self, key: Q::At) -> Result<(), RoundError<Q::At>>
-        ensures { self.new ≡ self.old }
+        ensures same { self.new ≡ self.old }
+        ensures err { IfErr result (FailsBy (λ _ _. ⊥)) }
     {
         if self.seen.contains_key(&key) {
             return Err(RoundError::Circle(key));
