@@ -95,7 +95,8 @@ impl<'a, T: Track, Q: Query<T>> Model for Round<'a, T, Q> {
 }
 
 /// What became of a turn of a call.
-enum Turned<K, O> {
+#[derive(Drop)]
+pub enum Turned<K, O> {
     /// It returned this output.
     Output(O),
     /// The output at this key has to be known first.
@@ -123,6 +124,11 @@ impl<'a, T: Track, Q: Query<T>> Round<'a, T, Q> {
         self.of
     }
 
+    /// The allocator.
+    pub fn alloc(&self) -> Global {
+        self.alloc
+    }
+
     /// The known output at a key, if there is one.
     pub fn get(&self, key: &Q::At) -> Option<&Q::Output>
         ensures known { option_copied result ≡ lookup (Q.At.eq key.now) self.now.known }
@@ -143,8 +149,8 @@ impl<'a, T: Track, Q: Query<T>> Round<'a, T, Q> {
         Ok(())
     }
 
-    /// Calls the function of a key that waits, or says which output it needs first.
-    fn take_turn<P: Provider<T, Q>>(
+    /// Calls the function of a key that waits, or says which output it needs first. Fails if the function does.
+    pub fn take_turn<P: Provider<T, Q>>(
         &self,
         provider: &mut P,
         waiting: &mut Waiting<'a, T, Q>,

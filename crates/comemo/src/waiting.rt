@@ -51,9 +51,23 @@ impl<V: Track + Drop> Trail<V> {
 
 /// A key whose output isn't known yet, and what its look-up asked so far.
 #[derive(Drop)]
-pub(crate) struct Waiting<'a, T: Track, Q: Query<T>> {
-    pub(crate) key: Q::At,
+pub struct Waiting<'a, T: Track, Q: Query<T>> {
+    /// The key.
+    pub key: Q::At,
     pub(crate) trail: Trail<Unknown<'a, T, Q>>,
+}
+
+impl<'a, T: Track, Q: Query<T>> Waiting<'a, T, Q> {
+    /// A key of which nothing was looked up yet. Does not allocate.
+    pub fn new(alloc: Global, of: &'a T, key: Q::At) -> Self
+        ensures key { result.key ≡ key }
+        ensures at { result.trail ≡ of.now }
+    {
+        Waiting {
+            key,
+            trail: Trail::new(Unknown::new(of), Vec::new(alloc)),
+        }
+    }
 }
 
 /// The keys whose outputs wait for others. Contracts see the value that they are at.
@@ -102,8 +116,8 @@ impl<'a, T: Track, Q: Query<T>> Queue<'a, T, Q> {
             return Err(RoundError::Circle(key));
         }
         self.note(key.clone()?)?;
-        let trail = Trail::new(Unknown::new(self.of), Vec::new(self.alloc));
-        self.again(Waiting { key, trail })?;
+        let waits = Waiting::new(self.alloc, self.of, key);
+        self.again(waits)?;
         Ok(())
     }
 

@@ -3,7 +3,12 @@
 #![tactic(auto)]
 
 mod ended;
+mod lanes;
 mod spread;
+mod takes;
+mod waits;
+mod waves;
 
 pub use comemo::Branch;
 pub use spread::{map_in_threads, map_in_turn};
+pub use waves::outputs_in_threads;

@@ -1,0 +1,8 @@
+use Rattle.std.proofs.Common.{◌≡◌}
+use Rattle.comemo_branches.proofs.waits.Waits.wake_each.Given as goal
+
+abbrev pub invariant-loop-number : goal.invariant-loop-number
+invariant-loop-number g l =
+    (goal.iterator-loop-number g).can_next l.number-iterator
+    × (goal.iterator-loop-number g).is_finite l.number-iterator
+    × (l.self ≡ l.fn.self)
