@@ -69,7 +69,7 @@ impl<H: Hold<Rounded>> Provider<Cells, Rounded> for SumCache<H> {
     fn provide(
         &mut self,
         count: &u32,
-        turn: &Turn<'_, Known<'_, Cells, Rounded>>,
+        turn: &mut Turn<'_, Known<'_, Cells, Rounded>>,
     ) -> Result<u64, Fault> {
         let reply = turn.call(&mut self.cache, &mut (), *count)?;
         Ok(reply.output)

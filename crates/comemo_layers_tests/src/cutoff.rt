@@ -18,7 +18,7 @@ impl<H: Hold<Rounded>> Provider<Cells, Rounded> for Counted<H> {
     fn provide(
         &mut self,
         count: &u32,
-        turn: &Turn<'_, Known<'_, Cells, Rounded>>,
+        turn: &mut Turn<'_, Known<'_, Cells, Rounded>>,
     ) -> Result<u64, Fault> {
         self.turns = self.turns.wrapping_add(1);
         self.sums.provide(count, turn)
@@ -114,7 +114,7 @@ impl Provider<Cells, Rounded> for Circle {
     fn provide(
         &mut self,
         count: &u32,
-        turn: &Turn<'_, Known<'_, Cells, Rounded>>,
+        turn: &mut Turn<'_, Known<'_, Cells, Rounded>>,
     ) -> Result<u64, Fault> {
         let needed = if *count == 1 { 2 } else { 1 };
         let _ = turn.at().ask(&MultiCall::B(At { key: needed }))?;
