@@ -52,8 +52,8 @@ impl<'a> Run<Known<'a, Cells, Rounded>, ()> for Rounded {
         if *count == 0 {
             return Ok(0);
         }
-        let before = of.ask_part(Second::new(), At { key: *count - 1 })?;
         let number = of.ask_part(First::new(), Get { place: *count - 1 })?;
+        let before = of.ask_part(Second::new(), At { key: *count - 1 })?;
         Ok(before.wrapping_add(number / 10))
     }
 }
