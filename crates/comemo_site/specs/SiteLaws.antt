@@ -37,9 +37,7 @@ pub answer_refl : (x : SiteAnswer) → IsTrue (answer.ghosts.eq x x)
 answer_refl x = search (rules, nat_list_eq_equiv, blocks_refl)
 
 pub answer_same : (x y : SiteAnswer) → IsTrue (answer.ghosts.eq x y) → y ≡ x
-answer_same (Blocks xs) (Blocks ys) h =
-    let e : IsTrue ((items.ghosts block_type.the_row block.ghosts block.dict).eq xs ys) = search rules in
-    rw (blocks_same xs ys e) refl
+answer_same (Blocks xs) (Blocks ys) h = rw (blocks_same xs ys (search rules)) refl
 answer_same x y h = search (rules, same_text)
 
 pub any_alike : (m : SiteCall → SiteAnswer) → Respects call.ghosts.eq answer.ghosts.eq m
