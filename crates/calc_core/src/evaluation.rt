@@ -27,7 +27,7 @@ ghost use Rattle.comemo.specs.Begin.{IsRun};
 ghost use Rattle.comemo.specs.Begun.{OnBegun};
 ghost use Rattle.comemo.specs.Called.{IsReply};
 ghost use Rattle.comemo.specs.Finish.{BrokeOff};
-ghost use Rattle.comemo.specs.MeaningLaws.{none_alike};
+ghost use Rattle.comemo.specs.MeaningLaws.{reads_laws};
 ghost use Rattle.calc_core.specs.Kinds.{IsPart};
 ghost use Rattle.calc_core.specs.Meaning.{Deep, IsTooDeep};
 ghost use Rattle.calc_core.specs.ScriptCalls.{CallLeads, CallFails, PartLeads, PartFails, RunLeads, RunFails};
@@ -66,12 +66,11 @@ impl Function for Eval {
 
     ghost naming = { names EvalAsks };
 
-    ghost laws = { record {
-      outputs = λ key m a b writes r c h. (h.0, Prim.search (rules, h.1));
-      keys = λ j k m output writes r e h. (h.0, Prim.search (rules, h.1));
-      writes = λ key m output V W r same h. (none_alike _ V W same h.0, h.1);
+    ghost laws = { reads_laws (record {
+      outputs = λ key m a b r c h. Prim.search (rules, h);
+      keys = λ j k m output r e h. Prim.search (rules, h);
       key_clones = Prim.search rules;
-    } };
+    }) };
 }
 
 /// Why a script was not evaluated. The sink is incomplete after each fault.

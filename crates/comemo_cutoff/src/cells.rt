@@ -5,6 +5,7 @@ ghost use Rattle.std.proofs.Common.{rules};
 use comemo::{Call, Track};
 use std::alloc::{AllocError, Global};
 use std::hash::Hash;
+use std::sync::atomic::{AtomicU64, Ordering};
 
 /// A read of the number at a place.
 #[derive(Clone, Copy, Drop, Debug, PartialEq, Eq, Hash)]
@@ -34,6 +35,8 @@ impl Call for Get {
 pub struct Cells {
     /// The numbers, from place 0 on.
     pub numbers: Vec<u64>,
+    // how many numbers were asked
+    asked: AtomicU64,
 }
 
 impl Cells {
@@ -45,7 +48,10 @@ impl Cells {
         for place in 0..count {
             numbers.push(3 * u64::from(place) + 1)?;
         }
-        Ok(Cells { numbers })
+        Ok(Cells {
+            numbers,
+            asked: AtomicU64::new(0),
+        })
     }
 
     /// Puts a number at a place. Nothing changes if the place is after the last. Does not allocate.
@@ -53,6 +59,11 @@ impl Cells {
         if let Some(cell) = self.numbers.get_mut(place) {
             *cell = number;
         }
+    }
+
+    /// How many numbers were asked so far.
+    pub fn asked(&self) -> u64 {
+        self.asked.load(Ordering::SeqCst)
     }
 }
 
@@ -68,6 +79,7 @@ impl Track for Cells {
     ghost alike = { λ s x y h. Prim.search rules };
 
     fn ask(&self, get: &Get) -> Result<u64, AllocError> {
+        self.asked.fetch_add(1, Ordering::SeqCst);
         let place = get.place as usize;
         Ok(if place < self.numbers.len() {
             self.numbers[place]

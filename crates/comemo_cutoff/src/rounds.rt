@@ -52,8 +52,8 @@ impl<'a> Run<Known<'a, Cells, Rounded>, ()> for Rounded {
         if *count == 0 {
             return Ok(0);
         }
-        let before = of.ask_part(Second::new(), At { key: *count - 1 })?;
         let number = of.ask_part(First::new(), Get { place: *count - 1 })?;
+        let before = of.ask_part(Second::new(), At { key: *count - 1 })?;
         Ok(before.wrapping_add(number / 10))
     }
 }
@@ -69,7 +69,7 @@ impl<H: Hold<Rounded>> Provider<Cells, Rounded> for SumCache<H> {
     fn provide(
         &mut self,
         count: &u32,
-        turn: &Turn<'_, Known<'_, Cells, Rounded>>,
+        turn: &mut Turn<'_, Known<'_, Cells, Rounded>>,
     ) -> Result<u64, Fault> {
         let reply = turn.call(&mut self.cache, &mut (), *count)?;
         Ok(reply.output)

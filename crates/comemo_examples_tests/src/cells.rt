@@ -1,15 +1,11 @@
 //! Functions of a spreadsheet: what they return, and which calls are hits.
 
-use Step::{Kept, Number, Plain, Ranged, Row, Set, Show, Sum, Third, Total};
-use comemo::{Both, CacheData, How, Recorder, Top, Track, memoized, memoized_with};
-use comemo_sheet::number::NumberIn;
+use Step::{Plain, Ranged, Row, Set, Sum, Total};
+use comemo::{CacheData, How, Recorder, Track, memoized};
 use comemo_sheet::plain::{NoNumber, PlainNumber};
 use comemo_sheet::range::{Kept as Ranges, Range, range_total, ranged};
 use comemo_sheet::row::RowTotal;
-use comemo_sheet::settings::Settings;
 use comemo_sheet::sheet::{Content, Sheet};
-use comemo_sheet::shown::Shown;
-use comemo_sheet::value::{Value, value_now};
 use std::alloc::{AllocError, Global};
 
 /// Texts of these names.
@@ -48,23 +44,6 @@ fn is_filled(alloc: Global, sheet: &mut Sheet) -> bool {
         && is_sum(alloc, sheet, "C1", &["B1", "A1"])
 }
 
-/// Whether a call returns this number of A1 and ends as `how`.
-fn is_number(
-    alloc: Global,
-    cache: &mut CacheData<NumberIn>,
-    sheet: &Sheet,
-    number: i64,
-    how: How,
-) -> bool {
-    let Ok(key) = String::from_str(alloc, "A1") else {
-        return false;
-    };
-    match memoized(alloc, cache, key, sheet) {
-        Ok(reply) => reply.output == number && reply.how == how,
-        Err(_) => false,
-    }
-}
-
 /// Whether a call returns the plain number of a cell, or why it has none, and ends as `how`.
 fn is_plain(
     alloc: Global,
@@ -96,44 +75,6 @@ fn is_total(
     };
     match memoized(alloc, cache, row, sheet) {
         Ok(reply) => reply.output == total && reply.how == how,
-        Err(_) => false,
-    }
-}
-
-/// Whether settings show A1 as this number, and the call ends as `how`.
-fn is_shown(
-    alloc: Global,
-    cache: &mut CacheData<Shown<CacheData<NumberIn>>>,
-    numbers: &mut CacheData<NumberIn>,
-    (sheet, settings): (&Sheet, &Settings),
-    shown: i64,
-    how: How,
-) -> bool {
-    let Ok(key) = String::from_str(alloc, "A1") else {
-        return false;
-    };
-    let both = Both {
-        first: sheet.view(alloc),
-        second: settings.view(alloc),
-    };
-    match memoized_with(alloc, cache, numbers, key, &both, &mut Top::new(), true) {
-        Ok(reply) => reply.output == shown && reply.how == how,
-        Err(_) => false,
-    }
-}
-
-/// Whether this is the value of C1, up to a depth of 3.
-fn is_third(
-    alloc: Global,
-    cache: &mut CacheData<Value>,
-    sheet: &Sheet,
-    value: Option<i64>,
-) -> bool {
-    let Ok(name) = String::from_str(alloc, "C1") else {
-        return false;
-    };
-    match value_now(alloc, cache, sheet, name, 3) {
-        Ok(now) => now == value,
         Err(_) => false,
     }
 }
@@ -172,11 +113,8 @@ fn is_range_total(
 #[derive(Drop)]
 struct Desk {
     sheet: Sheet,
-    numbers: CacheData<NumberIn>,
     plain: CacheData<PlainNumber>,
     rows: CacheData<RowTotal>,
-    shown: CacheData<Shown<CacheData<NumberIn>>>,
-    values: CacheData<Value>,
     ranges: Ranges,
 }
 
@@ -185,11 +123,8 @@ impl Desk {
     fn new(alloc: Global) -> Desk {
         Desk {
             sheet: Sheet::new(alloc),
-            numbers: CacheData::new(alloc),
             plain: CacheData::new(alloc),
             rows: CacheData::new(alloc),
-            shown: CacheData::new(alloc),
-            values: CacheData::new(alloc),
             ranges: (CacheData::new(alloc), CacheData::new(alloc)),
         }
     }
@@ -202,18 +137,10 @@ enum Step<'a> {
     Set(&'a str, i64),
     /// Puts the sum of cells into the cell of a name.
     Sum(&'a str, &'a [&'a str]),
-    /// The number of A1.
-    Number(i64, How),
     /// The plain number of the cell of a name.
     Plain(&'a str, Result<i64, NoNumber>, How),
     /// The total of the row.
     Row(i64, How),
-    /// The number of A1 as it is shown with negative numbers hidden or not, at this width.
-    Show(bool, u64, i64, How),
-    /// This many numbers are kept.
-    Kept(usize),
-    /// The value of C1, and how many values are kept then.
-    Third(Option<i64>, usize),
     /// The value of the cell of a name by ranges, and how many values and totals are kept then.
     Ranged(&'a str, i64, usize, usize),
     /// The total of the range of these cells.
@@ -226,22 +153,8 @@ fn is_done(alloc: Global, desk: &mut Desk, step: Step<'_>) -> bool {
     match step {
         Set(name, number) => is_set(alloc, sheet, name, number),
         Sum(name, of) => is_sum(alloc, sheet, name, of),
-        Number(number, how) => is_number(alloc, &mut desk.numbers, sheet, number, how),
         Plain(name, number, how) => is_plain(alloc, &mut desk.plain, sheet, name, number, how),
         Row(total, how) => is_total(alloc, &mut desk.rows, sheet, total, how),
-        Show(hides_negative, width, shown, how) => {
-            let settings = Settings {
-                hides_negative,
-                width,
-            };
-            let numbers = &mut desk.numbers;
-            let of = (&*sheet, &settings);
-            is_shown(alloc, &mut desk.shown, numbers, of, shown, how)
-        }
-        Kept(numbers) => desk.numbers.len() == numbers,
-        Third(value, len) => {
-            is_third(alloc, &mut desk.values, sheet, value) && desk.values.len() == len
-        }
         Ranged(name, value, cells, ranges) => {
             is_ranged(alloc, &mut desk.ranges, sheet, name, value)
                 && desk.ranges.0.len() == cells
@@ -252,13 +165,8 @@ fn is_done(alloc: Global, desk: &mut Desk, step: Step<'_>) -> bool {
 }
 
 /// The index of the first step with another result; 0 also if the sheet could not be filled first.
-fn first_undone_on(
-    alloc: Global,
-    desk: &mut Desk,
-    fills: bool,
-    steps: &[Step<'_>],
-) -> Option<usize> {
-    if fills && !is_filled(alloc, &mut desk.sheet) {
+fn first_undone_on(alloc: Global, desk: &mut Desk, steps: &[Step<'_>]) -> Option<usize> {
+    if !is_filled(alloc, &mut desk.sheet) {
         return Some(0);
     }
     for (place, step) in steps.iter().enumerate() {
@@ -270,24 +178,9 @@ fn first_undone_on(
 }
 
 /// The same on a new sheet.
-fn first_undone(alloc: Global, fills: bool, steps: &[Step<'_>]) -> Option<usize> {
+fn first_undone(alloc: Global, steps: &[Step<'_>]) -> Option<usize> {
     let mut desk = Desk::new(alloc);
-    first_undone_on(alloc, &mut desk, fills, steps)
-}
-
-#[test]
-fn a_number_is_kept_while_its_cell_stays(rt: HostRuntime) {
-    let steps: &[Step<'_>] = &[
-        Set("A1", -7),
-        Number(-7, How::Stored),
-        Set("A2", 1),
-        Number(-7, How::Hit),
-        Set("A1", 8),
-        Number(8, How::Stored),
-        Set("A1", -7),
-        Number(-7, How::Hit),
-    ];
-    assert_eq!(rt; first_undone(rt.alloc(), false, steps), None);
+    first_undone_on(alloc, &mut desk, steps)
 }
 
 #[test]
@@ -299,8 +192,14 @@ fn a_reason_is_kept_as_a_number_is(rt: HostRuntime) {
         Plain("B1", Err(NoNumber::Sum), How::Hit),
         Set("A3", 5),
         Plain("A3", Ok(5), How::Stored),
+        // the cell of A1 is as it was, and then again
+        Plain("A1", Ok(1), How::Hit),
+        Set("A1", -7),
+        Plain("A1", Ok(-7), How::Stored),
+        Set("A1", 1),
+        Plain("A1", Ok(1), How::Hit),
     ];
-    assert_eq!(rt; first_undone(rt.alloc(), true, steps), None);
+    assert_eq!(rt; first_undone(rt.alloc(), steps), None);
 }
 
 #[test]
@@ -311,45 +210,7 @@ fn a_row_is_added_up(rt: HostRuntime) {
         Set("A1", 10),
         Row(12, How::Stored),
     ];
-    assert_eq!(rt; first_undone(rt.alloc(), true, steps), None);
-}
-
-#[test]
-fn a_width_that_was_not_asked_may_change(rt: HostRuntime) {
-    let steps: &[Step<'_>] = &[
-        Set("A1", -7),
-        Show(false, 8, -7, How::Stored),
-        Show(false, 9, -7, How::Hit),
-        Show(true, 9, 0, How::Stored),
-        Kept(1),
-    ];
-    assert_eq!(rt; first_undone(rt.alloc(), false, steps), None);
-}
-
-#[test]
-fn a_value_follows_what_its_cells_refer_to(rt: HostRuntime) {
-    let steps: &[Step<'_>] = &[
-        // C1 at 3, B1 and A1 at 2, A1 and A2 at 1
-        Third(Some(4), 5),
-        Third(Some(4), 5),
-        Set("A1", 10),
-        // all of them again but A2
-        Third(Some(22), 9),
-    ];
-    assert_eq!(rt; first_undone(rt.alloc(), true, steps), None);
-}
-
-#[test]
-fn a_circle_has_no_value(rt: HostRuntime) {
-    let steps: &[Step<'_>] = &[
-        Sum("A1", &["C1"]),
-        // C1 at 3, B1 and A1 at 2, A1, A2 and C1 at 1
-        Third(None, 6),
-        Set("A1", 1),
-        // all of them again but A2 and C1 at 1
-        Third(Some(4), 10),
-    ];
-    assert_eq!(rt; first_undone(rt.alloc(), true, steps), None);
+    assert_eq!(rt; first_undone(rt.alloc(), steps), None);
 }
 
 #[test]
@@ -367,7 +228,7 @@ fn two_functions_call_one_another(rt: HostRuntime) {
         // C1 at 4, B1 and A1 at 3, A1 at 2; their ranges at 3 and 2
         Ranged("C1", 22, 12, 5),
     ];
-    assert_eq!(rt; first_undone(rt.alloc(), true, steps), None);
+    assert_eq!(rt; first_undone(rt.alloc(), steps), None);
 }
 
 #[test]
@@ -377,5 +238,5 @@ fn a_range_in_a_circle_has_no_total(rt: HostRuntime) {
         Total(&["A1", "A2"], None),
         Total(&["A2", "A3"], Some(2)),
     ];
-    assert_eq!(rt; first_undone(rt.alloc(), true, steps), None);
+    assert_eq!(rt; first_undone(rt.alloc(), steps), None);
 }

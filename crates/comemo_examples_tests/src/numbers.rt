@@ -1,11 +1,11 @@
 //! A function that calls itself: each number is stored once, and each later call of it is a hit.
 
-use comemo::{Begun, Cache, CacheData, Fault, Hold, How, Recorder, Track};
+use comemo::{Begun, CacheData, Fault, How, Recorder, Track};
 use comemo_sheet::fibonacci::{Fib, numbered};
 use std::alloc::Global;
 
 /// Whether this is the number at a place.
-fn is_number<H: Hold<Fib>>(alloc: Global, cache: &mut H, place: u64, number: u64) -> bool {
+fn is_number(alloc: Global, cache: &mut CacheData<Fib>, place: u64, number: u64) -> bool {
     let mut recorder = Recorder::new(alloc, ().view(alloc));
     match numbered(cache, place, &mut recorder) {
         Ok(found) => found == number,
@@ -27,15 +27,6 @@ fn each_number_is_kept_once(rt: HostRuntime) {
     for (place, number, len) in numbers {
         assert!(rt; is_number(alloc, &mut cache, *place, *number), "at {place}");
         assert!(rt; cache.len() == *len, "at {place}");
-    }
-}
-
-#[test]
-fn a_shared_cache_keeps_them_too(rt: HostRuntime) {
-    let alloc = rt.alloc();
-    let cache: Cache<Fib> = Cache::new(alloc);
-    for _ in 0..2 {
-        assert!(rt; is_number(alloc, &mut cache.hold(&rt), 90, 2880067194370816120));
     }
 }
 

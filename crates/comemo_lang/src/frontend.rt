@@ -9,20 +9,33 @@ ghost use Rattle.comemo_lang.specs.QuestionLaws.{output_alike};
 use crate::diagnostic::Diagnostic;
 use crate::functions::{Check, Exports, Parse};
 use crate::names::push;
-use crate::project::Project;
+use crate::project::{Project, Source, SourceOf};
 use crate::question::{Output, Question};
-use comemo::{CacheData, Fault, How, Known, Provider, Query, Round, RoundError, Run, Track, Turn};
+use comemo::{
+    CacheData, Fault, How, Known, MultiAnswer, Provider, Query, Reasons, Round, RoundError, Run,
+    Track, Turn,
+};
 use comemo_text::{Items, Text};
 use std::alloc::Global;
 
-/// The caches of the functions, and how their calls ended.
+/// The caches of the functions, and a log of the last checks.
 #[derive(Drop)]
 pub struct Frontend {
     alloc: Global,
     parsed: CacheData<Parse>,
     exported: CacheData<Exports>,
     checked: CacheData<Check>,
+    log: Log,
+}
+
+/// Why calls were hits or runs, by the questions that they answered.
+pub type Why = Reasons<Question, SourceOf, MultiAnswer<Source, Output>>;
+
+/// How calls ended, and why, if that is asked for.
+#[derive(Drop)]
+struct Log {
     calls: Vec<Ended>,
+    reasons: Option<Why>,
 }
 
 /// A call that returned an output.
@@ -45,22 +58,26 @@ impl Query<Project> for Frontend {
 }
 
 /// Calls a function, and notes how the call ended.
-fn call<V: Track, M: Run<V, Global>>(
-    alloc: Global,
+fn call<'r, M: Run<Known<'r, Project, Frontend>, Global>>(
     cache: &mut CacheData<M>,
-    calls: &mut Vec<Ended>,
+    log: &mut Log,
     question: &Question,
     key: M::Key,
-    turn: &Turn<'_, V>,
+    turn: &mut Turn<'_, Known<'r, Project, Frontend>>,
 ) -> Result<M::Out, Fault>
     requires { WritesNone M.writes }
-    ensures { IfOk result (λ output. M.means key (V.answers turn.now) output) }
+    ensures same { turn.new ≡ turn.old }
+    ensures right { IfOk result (λ output. M.means key (⟦<Known<'r, Project, Frontend> as Track>⟧.answers turn.old) output) }
 {
     let question = question.clone()?;
-    let mut needs = alloc;
+    if let Some(reasons) = &mut log.reasons {
+        let reason = turn.explain(cache, &key)?;
+        reasons.note(question.clone()?, reason)?;
+    }
+    let mut needs = turn.alloc();
     let reply = turn.call(cache, &mut needs, key)?;
     let how = reply.how;
-    push(calls, Ended { question, how })?;
+    push(&mut log.calls, Ended { question, how })?;
     Ok(reply.output)
 }
 
@@ -68,24 +85,23 @@ impl Provider<Project, Frontend> for Frontend {
     fn provide(
         &mut self,
         question: &Question,
-        turn: &Turn<'_, Known<'_, Project, Frontend>>,
+        turn: &mut Turn<'_, Known<'_, Project, Frontend>>,
     ) -> Result<Output, Fault> {
-        let alloc = self.alloc;
-        let calls = &mut self.calls;
+        let log = &mut self.log;
         match question {
             Question::DeclarationsOf(name) => {
                 let name = name.clone()?;
-                let declarations = call(alloc, &mut self.parsed, calls, question, name, turn)?;
+                let declarations = call(&mut self.parsed, log, question, name, turn)?;
                 Ok(Output::Declarations(declarations))
             }
             Question::ExportsOf(name) => {
                 let name = name.clone()?;
-                let exports = call(alloc, &mut self.exported, calls, question, name, turn)?;
+                let exports = call(&mut self.exported, log, question, name, turn)?;
                 Ok(Output::Exports(exports))
             }
             Question::DiagnosticsOf(name) => {
                 let name = name.clone()?;
-                let diagnostics = call(alloc, &mut self.checked, calls, question, name, turn)?;
+                let diagnostics = call(&mut self.checked, log, question, name, turn)?;
                 Ok(Output::Diagnostics(diagnostics))
             }
         }
@@ -100,8 +116,18 @@ impl Frontend {
             parsed: CacheData::new(alloc),
             exported: CacheData::new(alloc),
             checked: CacheData::new(alloc),
-            calls: Vec::new(alloc),
+            log: Log {
+                calls: Vec::new(alloc),
+                reasons: None,
+            },
         }
+    }
+
+    /// As `new`, with explanations: `reasons` then tells why calls were hits or runs.
+    pub fn explaining(alloc: Global) -> Self {
+        let mut frontend = Frontend::new(alloc);
+        frontend.log.reasons = Some(Reasons::new(alloc));
+        frontend
     }
 
     /// Checks modules: lists what is wrong with each of these names, in order.
@@ -113,7 +139,10 @@ impl Frontend {
         ensures { IfOk result
             (λ all. all.items ≡ map (check_of (source_of project.now)) names.now) }
     {
-        self.calls.clear();
+        self.log.calls.clear();
+        if self.log.reasons.is_some() {
+            self.log.reasons = Some(Reasons::new(self.alloc));
+        }
         let mut round = Round::new(self.alloc, project);
         // A check begins anew at each output that isn't known, so the exports come first.
         self.export_all(&mut round, names)?;
@@ -131,7 +160,7 @@ impl Frontend {
         round: &mut Round<'_, Project, Frontend>,
         names: &[Text],
     ) -> Result<(), RoundError<Question>>
-        ensures { round.new ≡ round.old }
+        ensures { round.new.value ≡ round.old.value }
     {
         for name in names {
             let _ = round.output(self, Question::ExportsOf(name.clone()?))?;
@@ -145,8 +174,8 @@ impl Frontend {
         round: &mut Round<'_, Project, Frontend>,
         name: &Text,
     ) -> Result<Items<Diagnostic>, RoundError<Question>>
-        ensures same { round.new ≡ round.old }
-        ensures right { IfOk result (λ all. all ≡ check_of (source_of round.old) name.now) }
+        ensures same { round.new.value ≡ round.old.value }
+        ensures right { IfOk result (λ all. all ≡ check_of (source_of round.old.value) name.now) }
     {
         let question = Question::DiagnosticsOf(name.clone()?);
         match round.output(self, question)? {
@@ -157,7 +186,12 @@ impl Frontend {
 
     /// The calls of the last `check_all` that returned an output, in order.
     pub fn calls(&self) -> &[Ended] {
-        self.calls.as_slice()
+        self.log.calls.as_slice()
+    }
+
+    /// Why the calls of the last `check_all` were hits or runs, if the frontend explains.
+    pub fn reasons(&self) -> Option<&Why> {
+        self.log.reasons.as_ref()
     }
 
     /// Drops what was not used in the last checks, as many as `age`.

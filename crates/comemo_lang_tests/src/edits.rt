@@ -1,6 +1,6 @@
 //! Edits of modules, and the calls that run after each.
 
-use comemo::How;
+use comemo::{Explanation, How, MultiCall};
 use comemo_lang::frontend::Frontend;
 use comemo_lang::project::Project;
 use comemo_lang::question::Question;
@@ -147,4 +147,50 @@ fn modules_import_one_another(rt: HostRuntime) {
             said.0
         );
     }
+}
+
+/// Whether the call that answers `question` is no hit because the output at `cause` changed.
+fn is_caused(frontend: &Frontend, question: &Question, cause: &Question) -> bool {
+    match frontend.reasons() {
+        Some(reasons) => reasons.cause(question) == Some(cause),
+        None => false,
+    }
+}
+
+/// Whether the declarations of a module were parsed again because its text changed.
+fn is_text(frontend: &Frontend, name: &Text) -> Result<bool, AllocError> {
+    let Some(reasons) = frontend.reasons() else {
+        return Ok(false);
+    };
+    match reasons.get(&Question::DeclarationsOf(name.clone()?)) {
+        Some(
+            Explanation::Changed {
+                asked: _,
+                call: MultiCall::A(source),
+                answer: _,
+            },
+        ) => Ok(source.name == *name),
+        _ => Ok(false),
+    }
+}
+
+#[test]
+fn reasons_lead_to_the_text_that_changed(rt: HostRuntime) -> Result<(), AllocError> {
+    let alloc = rt.alloc();
+    let mut project = Project::new(alloc);
+    let mut frontend = Frontend::explaining(alloc);
+    let modules: &[(&str, &str)] = &[("b", "import c\ny = z"), ("c", "z = 1")];
+    assert!(rt; is_set(alloc, &mut project, modules));
+    let names = words(alloc, "b c")?;
+    assert!(rt; frontend.check_all(&project, names.as_slice()).is_ok());
+    assert!(rt; is_set(alloc, &mut project, &[("c", "q = 3")]));
+    assert!(rt; frontend.check_all(&project, names.as_slice()).is_ok());
+    let c = Text::from_str(alloc, "c")?;
+    let check = Question::DiagnosticsOf(Text::from_str(alloc, "b")?);
+    let exports = Question::ExportsOf(c.clone()?);
+    let declarations = Question::DeclarationsOf(c.clone()?);
+    assert!(rt; is_caused(&frontend, &check, &exports));
+    assert!(rt; is_caused(&frontend, &exports, &declarations));
+    assert!(rt; is_text(&frontend, &c)?);
+    Ok(())
 }

@@ -18,7 +18,7 @@ impl<H: Hold<Rounded>> Provider<Cells, Rounded> for Counted<H> {
     fn provide(
         &mut self,
         count: &u32,
-        turn: &Turn<'_, Known<'_, Cells, Rounded>>,
+        turn: &mut Turn<'_, Known<'_, Cells, Rounded>>,
     ) -> Result<u64, Fault> {
         self.turns = self.turns.wrapping_add(1);
         self.sums.provide(count, turn)
@@ -106,6 +106,29 @@ fn an_output_is_verified_once_in_a_round(rt: HostRuntime) -> Result<(), RoundErr
     Ok(())
 }
 
+#[test]
+fn a_look_up_asks_no_number_twice_in_a_round(rt: HostRuntime) -> Result<(), RoundError<u32>> {
+    let alloc = rt.alloc();
+    let mut cells = Cells::new(alloc, 40)?;
+    let mut counted: Counted<CacheData<Rounded>> = Counted {
+        sums: SumCache {
+            cache: CacheData::new(alloc),
+        },
+        turns: 0,
+    };
+    let _ = sum(alloc, &mut counted, &cells, 30)?;
+    // A place and its number, and how many numbers are asked: each by a look-up, and a changed one by the run, which
+    // begins anew once the sum before is known.
+    let rounds: &[(usize, u64, u64)] = &[(0, 1, 30), (0, 9, 30 + 2), (0, 9, 30), (7, 20, 30 + 2)];
+    for (place, number, asked) in rounds {
+        cells.set(*place, *number);
+        let before = cells.asked();
+        let _ = sum(alloc, &mut counted, &cells, 30)?;
+        assert_eq!(rt; cells.asked().wrapping_sub(before), *asked);
+    }
+    Ok(())
+}
+
 /// Asks the sum of one cell for that of two, and the other way round.
 #[derive(Drop)]
 struct Circle;
@@ -114,7 +137,7 @@ impl Provider<Cells, Rounded> for Circle {
     fn provide(
         &mut self,
         count: &u32,
-        turn: &Turn<'_, Known<'_, Cells, Rounded>>,
+        turn: &mut Turn<'_, Known<'_, Cells, Rounded>>,
     ) -> Result<u64, Fault> {
         let needed = if *count == 1 { 2 } else { 1 };
         let _ = turn.at().ask(&MultiCall::B(At { key: needed }))?;
@@ -127,6 +150,6 @@ fn an_output_that_needs_itself_is_told(rt: HostRuntime) -> Result<(), RoundError
     let alloc = rt.alloc();
     let cells = Cells::new(alloc, 4)?;
     let mut round = Round::new(alloc, &cells);
-    assert_eq!(rt; round.output(&mut Circle, 1), Err(RoundError::Circle(2)));
+    assert_eq!(rt; round.output(&mut Circle, 1), Err(RoundError::Circle(1)));
     Ok(())
 }

@@ -3,8 +3,6 @@ pub mod Sheets
 pub mod SheetLaws
 pub mod Totals
 pub mod TotalLaws
-pub mod Shown
-pub mod ShownLaws
 pub mod Values
 pub mod ValueLaws
 pub mod Plain

@@ -2,11 +2,8 @@
 #![tactic(auto)]
 
 pub mod fibonacci;
-pub mod number;
 pub mod plain;
 pub mod range;
 pub mod row;
-pub mod settings;
 pub mod sheet;
-pub mod shown;
 pub mod value;

@@ -43,7 +43,7 @@ impl Function for RangeTotal {
         (λ j k m r e. Prim.search (rules, range_alike m r j.limit j.names.items k.names.items)) };
 }
 
-/// The caches of both functions. The first also serves `valued`, which has the same meaning.
+/// The caches of both functions.
 pub type Kept = (CacheData<Value>, CacheData<RangeTotal>);
 
 /// The value of the cell of a name, through the caches, by the totals of ranges, up to a depth of `limit`.
@@ -91,6 +91,7 @@ pub fn range_total<H: Hold<Value>, G: Hold<RangeTotal>>(
         Begun::Hit(total) => return Ok(total),
         Begun::Run(run) => run,
     };
+    // The run's own recorder: what is asked through it is stored with the run.
     let recorder = &mut run.recorder;
     let mut total = Some(0);
     for name in &range.names {

@@ -1,7 +1,7 @@
 //! A sheet of cells by name, as a tracked value.
 ghost use Rattle.std.specs.Prelude.{◌≡◌, ℕ, List, false, string_bytes, bytes_eq, if◌then◌else◌, IsTrue, IfOk, OnOk, OnErr};
 ghost use Rattle.std.proofs.Common.{rules};
-ghost use Rattle.comemo_sheet.specs.Sheets.{content_of, number_in, names_in};
+ghost use Rattle.comemo_sheet.specs.Sheets.{content_of, number_in};
 
 use comemo::{Answer, Call, Track};
 use std::alloc::{AllocError, Global};
@@ -55,16 +55,6 @@ impl Content {
         match self {
             Content::Number(number) => *number,
             Content::Empty | Content::Sum(_) => 0,
-        }
-    }
-
-    /// The names of the cells whose sum it is; empty if it is no sum.
-    pub fn names(&self) -> &[String]
-        ensures { result.now ≡ names_in self.now }
-    {
-        match self {
-            Content::Sum(names) => names.as_slice(),
-            Content::Empty | Content::Number(_) => &[],
         }
     }
 }

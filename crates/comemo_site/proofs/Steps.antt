@@ -1,6 +1,6 @@
 -- Steps in turn that read a site, write a log and give a text.
 use Rattle.std.specs.Prelude.{⊤}
-use Rattle.std.proofs.Common.{◌≡◌, ◌∙◌, ℕ, Bool, List, ◌++◌, map, Ok, refl, sym, ap, append_assoc}
+use Rattle.std.proofs.Common.{◌∙◌, ℕ, Bool, List, ◌++◌, Ok, refl, sym, ap, append_assoc}
 use Rattle.std.proofs.lemmas.List.{map-append}
 use Rattle.comemo.specs.FunctionMut.{Lent, Goes, TellsWrites}
 use Rattle.comemo.specs.Multi.{second_call}

@@ -9,4 +9,3 @@ pub mod Reports
 pub mod Sites
 pub mod SiteLaws
 pub mod Sources
-pub mod Texts

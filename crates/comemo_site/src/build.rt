@@ -13,13 +13,13 @@ use crate::link::{entry_built, link_built};
 use crate::log::{Log, Warning};
 use crate::site::{Site, SiteAnswer, SiteCall};
 use crate::tally::Tally;
-use crate::text::Text;
 use crate::title::Title;
 use crate::warns::Warns;
 use comemo::{
     Begun, CacheData, Fault, First, Function, Hold, MultiAnswer, MultiCall, ReadAndWrite,
     RecorderMut, RunMut, Second,
 };
+use comemo_text::Text;
 use std::alloc::Global;
 
 /// The HTML of a page, with the pages that it includes down to a limit, and the warnings about them.

@@ -3,7 +3,7 @@ ghost use Rattle.std.specs.Prelude.{◌≡◌, ◌++◌, [], codes, unwrap_or, O
 ghost use Rattle.comemo_site.specs.Html.{escape, escaped, element, anchor_html, plain_html, upward, upwards, document_html};
 
 use crate::block::Plain;
-use crate::text::Text;
+use comemo_text::Text;
 use std::alloc::{AllocError, Global};
 use std::marker::Model;
 use std::sync::ArcSlice;

@@ -15,6 +15,5 @@ pub mod report;
 pub mod site;
 pub mod table;
 pub mod tally;
-pub mod text;
 pub mod title;
 pub mod warns;

@@ -11,13 +11,13 @@ ghost use Rattle.comemo_site.specs.declared.site.SiteCall.TheVariants.{TitleOf};
 use crate::html::Rendered;
 use crate::log::{Log, Warning};
 use crate::site::{Site, SiteAnswer, SiteCall};
-use crate::text::Text;
 use crate::title::Title;
 use crate::warns::Warns;
 use comemo::{
     CacheData, Fault, First, Function, Hold, MultiAnswer, MultiCall, ReadAndWrite, RecorderMut,
     RunMut, Second,
 };
+use comemo_text::Text;
 use std::alloc::Global;
 
 /// A link to the page of a name: its title, or the name and a warning if there is no such page.

@@ -2,8 +2,8 @@
 ghost use Rattle.std.specs.Prelude.{◌≡◌, [], refl, true, false};
 ghost use Rattle.std.proofs.Common.{rules};
 
-use crate::text::Text;
 use comemo::{Call, Track};
+use comemo_text::Text;
 use std::alloc::{AllocError, Global};
 use std::hash::Hash;
 use std::marker::Model;

@@ -13,13 +13,14 @@
 //!
 //! A page's name has no spaces: `include me too` is words. `specs/Lines.antt` defines the blocks of a source.
 ghost use Rattle.std.specs.Prelude.{◌≡◌, ℕ, List, [], ◌∷◌, ◌++◌, false, true, string_bytes, IfOk, MatchOption};
-ghost use Rattle.comemo_site.specs.Lines.{Part, Contents, Items, Words, begins, included, is_name, names, past, part_of, part_blocks, pages_of, blocks_of};
+ghost use Rattle.comemo_site.specs.Lines as lines;
+ghost use Rattle.comemo_site.specs.Lines.{Part, Contents, Words, begins, included, is_name, names, past, part_of, part_blocks, pages_of, blocks_of};
 ghost use Rattle.comemo_site.specs.Parsing.{part_in, ending, whole};
 ghost use Rattle.comemo_site.specs.Sources.{title_of};
 
-use crate::block::{Block, Blocks, Plain};
+use crate::block::{Block, Plain};
 use crate::site::Page;
-use crate::text::Text;
+use comemo_text::{Items, Text};
 use std::alloc::{AllocError, Global};
 
 /// What a line of a source says.
@@ -191,7 +192,8 @@ impl Parser {
     /// Appends an item, in a list.
     fn push_item(&mut self, words: &str) -> Result<(), AllocError>
         ensures { IfOk result (λ _. (pages : List (List ℕ)) (parts : List Part)
-            → whole pages self.new parts ≡ whole pages self.old (Items (words.now ∷ []) ∷ parts)) }
+            → whole pages self.new parts
+            ≡ whole pages self.old (lines.Items (words.now ∷ []) ∷ parts)) }
     {
         match self.unended {
             Unended::List => {}
@@ -294,6 +296,6 @@ pub fn parse(alloc: Global, name: &str, source: &str) -> Result<Page, AllocError
     parser.end()?;
     let Parser { blocks, .. } = parser;
     let title = title_in_blocks(alloc, name, blocks.as_slice())?;
-    let blocks = Blocks::new(blocks)?;
+    let blocks = Items::new(blocks)?;
     Ok(Page { title, blocks })
 }

@@ -12,13 +12,13 @@ use crate::log::{Log, Warning};
 use crate::reason::{Reason, reason_now};
 use crate::site::{Site, SiteAnswer, SiteCall};
 use crate::tally::Tally;
-use crate::text::Text;
 use crate::title::Title;
 use comemo::internal::CallSequence;
 use comemo::{
     Cache, Constraint, Fault, Hold, MultiAnswer, MultiCall, ReadAndWrite, RecorderMut, Track,
     memoized,
 };
+use comemo_text::Text;
 use std::alloc::{AllocError, Global};
 use std::sync::Wait;
 use std::thread::{Threads, for_each_mut};

@@ -10,9 +10,9 @@ ghost use Rattle.comemo_site.specs.Sites.{site_answer};
 use crate::build::Build;
 use crate::log::{Log, Warning};
 use crate::site::{Site, SiteAnswer, SiteCall};
-use crate::text::Text;
 use comemo::internal::Meant;
 use comemo::{Explanation, Hold, MultiAnswer, MultiCall, ReadAndWrite, Track, explain};
+use comemo_text::Text;
 use std::alloc::{AllocError, Global};
 
 /// Why a page is rendered again.

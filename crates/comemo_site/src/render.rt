@@ -9,10 +9,10 @@ ghost use Rattle.comemo_site.specs.Pages.{block_html, page_html};
 use crate::block::Block;
 use crate::html::{Html, Rendered};
 use crate::site::{Site, SiteAnswer, SiteCall};
-use crate::text::Text;
 use crate::title::Title;
 use comemo::internal::Told;
 use comemo::{Begun, CacheData, Fault, Function, Hold, Recorder, Track};
+use comemo_text::Text;
 use std::alloc::Global;
 
 /// The HTML of a page, with the pages that it includes. The key is a name and the depth up to which it goes.

@@ -3,9 +3,9 @@ ghost use Rattle.std.specs.Prelude.{◌≡◌, ℕ, List, None, Some, false, byt
 ghost use Rattle.std.proofs.Common.{rules};
 ghost use Rattle.comemo_site.specs.Sites.{page_of, title_answer, blocks_answer, title_in, blocks_in};
 
-use crate::block::{Block, Blocks};
-use crate::text::Text;
+use crate::block::Block;
 use comemo::{Answer, Call, Track};
+use comemo_text::{Items, Text};
 use std::alloc::{AllocError, Global};
 use std::collections::HashMap;
 
@@ -42,7 +42,7 @@ pub enum SiteAnswer {
     /// Its title.
     Title(Text),
     /// Its blocks.
-    Blocks(Blocks),
+    Blocks(Items<Block>),
 }
 
 impl Answer for SiteAnswer {
@@ -79,7 +79,7 @@ pub struct Page {
     /// Its title.
     pub title: Text,
     /// Its blocks.
-    pub blocks: Blocks,
+    pub blocks: Items<Block>,
 }
 
 /// A site: the pages by their names.

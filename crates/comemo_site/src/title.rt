@@ -5,8 +5,8 @@ ghost use Rattle.comemo_site.specs.Sites.{title_in};
 ghost use Rattle.comemo_site.specs.declared.site.SiteCall.TheVariants.{TitleOf};
 
 use crate::site::{Site, SiteAnswer, SiteCall};
-use crate::text::Text;
 use comemo::{Fault, Function, Recorder, Run};
+use comemo_text::Text;
 
 /// The title of the page of a name; `None` if there is no such page.
 pub struct Title;

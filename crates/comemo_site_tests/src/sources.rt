@@ -6,7 +6,7 @@ use comemo_site::html::{Html, Rendered};
 use comemo_site::parse::parse;
 use comemo_site::render::{Kept, page_now};
 use comemo_site::site::Site;
-use comemo_site::text::Text;
+use comemo_text::Text;
 use std::alloc::{AllocError, Global};
 use std::test::Fail;
 

@@ -1,104 +1,13 @@
-//! Memoized functions of several arguments, joined into one input.
+//! A memoized function of two inputs, joined into one, and no input. `size` of `calc_core` joins a key and a view.
 ghost use Rattle.std.proofs.Common.{rules};
 
-use comemo::internal::{Hashed, Input, Multi};
+use comemo::internal::{Input, Multi};
 use comemo::{
-    Begun, CacheData, Fault, First, Function, How, MultiAnswer, MultiCall, Reply, Second, Top,
-    Track, View, begin,
+    Begun, CacheData, Fault, First, Function, How, MultiAnswer, MultiCall, Second, Top, Track,
+    begin,
 };
 use comemo_examples::{Context, ContextCall};
 use std::alloc::Global;
-
-/// Whether a context holds a number. Any output is right; `size` of `calc_core` is a function of joined inputs whose
-/// outputs are proved.
-pub struct ContainsNumber;
-
-impl Function for ContainsNumber {
-    type Call = MultiCall<(), ContextCall>;
-
-    type Key = (u64, ());
-
-    type Answer = MultiAnswer<(), u64>;
-
-    type Out = bool;
-
-    ghost means = { λ _ _ _. Unit {0} };
-
-    ghost writes = { λ _ _ _ _. Unit {0} };
-
-    ghost laws = { Prim.search rules };
-}
-
-/// Whether a context holds a number, through a cache. Asks for the second of its numbers only if the first is another
-/// one.
-pub fn contains(
-    alloc: Global,
-    cache: &mut CacheData<ContainsNumber>,
-    number: u64,
-    context: &View<'_, Context>,
-) -> Result<Reply<bool>, Fault> {
-    let mut input = Multi((Hashed(number), context.fork(alloc)));
-    match begin(alloc, cache, &mut input, &mut Top::new(), true) {
-        Err(fault) => Err(fault),
-        Ok(Begun::Hit(output)) => Ok(Reply {
-            output,
-            how: How::Hit,
-        }),
-        Ok(Begun::Run(mut pending)) => {
-            let Multi((_, mut view)) = input;
-            let Ok(at) = view.ask_through(ContextCall::Location, Second::new(), pending.recording())
-            else {
-                pending.give_up(&mut Top::new());
-                return Err(Fault::Memory);
-            };
-            if at == number {
-                return pending.finish(cache, &mut Top::new(), true);
-            }
-            let Ok(by) = view.ask_through(ContextCall::Styles, Second::new(), pending.recording())
-            else {
-                pending.give_up(&mut Top::new());
-                return Err(Fault::Memory);
-            };
-            pending.finish(cache, &mut Top::new(), by == number)
-        }
-    }
-}
-
-/// Whether a call returns whether a context of the location 3 holds a number, and ends as `how`.
-fn says(
-    alloc: Global,
-    cache: &mut CacheData<ContainsNumber>,
-    number: u64,
-    styles: u64,
-    is_in: bool,
-    how: How,
-) -> bool {
-    let context = Context {
-        location: 3,
-        styles,
-    };
-    match contains(alloc, cache, number, &context.view(alloc)) {
-        Ok(reply) => reply.output == is_in && reply.how == how,
-        Err(_) => false,
-    }
-}
-
-#[test]
-fn a_number_is_looked_for_in_a_context(rt: HostRuntime) {
-    let alloc = rt.alloc();
-    let mut cache = CacheData::new(alloc);
-    let calls: &[(u64, u64, bool, How)] = &[
-        (3, 40, true, How::Stored),
-        (3, 41, true, How::Hit),
-        (40, 40, true, How::Stored),
-        (40, 41, false, How::Stored),
-    ];
-    for (number, styles, is_in, how) in calls {
-        let is_so = says(alloc, &mut cache, *number, *styles, *is_in, *how);
-        assert!(rt; is_so, "for {number} {styles}");
-    }
-    assert_eq!(rt; cache.len(), 3);
-}
 
 /// A function of two contexts, of which any output is right.
 pub struct AnythingOfTwo;

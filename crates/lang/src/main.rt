@@ -4,7 +4,7 @@
 //! |---|---|
 //! | `check FOLDER` | prints what is wrong; the status is 1 if anything is |
 //! | `watch FOLDER` | looks once a second, and prints what is wrong after a change |
-//! | `watch FOLDER --explain` | prints also which calls ran, and which were hits |
+//! | `watch FOLDER --explain` | prints also which calls ran and why, and which were hits |
 //!
 //! A module is a file whose name ends in `.mod`.
 #![tactic(auto)]
@@ -28,11 +28,11 @@ const USAGE: &str = "lang check FOLDER, or lang watch FOLDER [--explain]";
 
 /// Checks a folder whenever it changes.
 fn watch<R: Runtime + AllocGlobal + Wait>(rt: &R, folder: &str, explains: bool) -> Result<()> {
-    let mut session = Session::new(rt.alloc());
+    let mut session = Session::new(rt.alloc(), explains);
     for _ in 0..u64::MAX {
         match session.update(rt, folder) {
             Ok(true) => {
-                session.check(rt, explains)?;
+                session.check(rt)?;
             }
             Ok(false) => {}
             // A file may be gone before it is read. The next look tries again.
@@ -48,9 +48,9 @@ fn run<R: Runtime + AllocGlobal + Wait>(rt: &R) -> Result<u8> {
     let words: Vec<String> = std::env::args(rt)?.collect(rt.alloc())?;
     match words.as_slice() {
         [_, command, folder] if command.as_str() == "check" => {
-            let mut session = Session::new(rt.alloc());
+            let mut session = Session::new(rt.alloc(), false);
             session.update(rt, folder.as_str())?;
-            let count = session.check(rt, false)?;
+            let count = session.check(rt)?;
             Ok(if count == 0 { 0 } else { 1 })
         }
         [_, command, folder] if command.as_str() == "watch" => {

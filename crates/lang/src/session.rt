@@ -3,9 +3,9 @@
 use crate::folder;
 use crate::folder::Stamps;
 use anyhow::{Context, Result};
-use comemo::How;
+use comemo::{Explanation, How, MultiCall};
 use comemo_lang::diagnostic::Diagnostic;
-use comemo_lang::frontend::Frontend;
+use comemo_lang::frontend::{Frontend, Why};
 use comemo_lang::project::Project;
 use comemo_lang::question::Question;
 use comemo_text::Text;
@@ -25,12 +25,17 @@ pub struct Session {
 }
 
 impl Session {
-    /// Of an empty project.
-    pub fn new(alloc: Global) -> Self {
+    /// Of an empty project. Whether checks are explained.
+    pub fn new(alloc: Global, explains: bool) -> Self {
+        let frontend = if explains {
+            Frontend::explaining(alloc)
+        } else {
+            Frontend::new(alloc)
+        };
         Session {
             project: Project::new(alloc),
             stamps: BTreeMap::new(alloc),
-            frontend: Frontend::new(alloc),
+            frontend,
         }
     }
 
@@ -56,7 +61,7 @@ impl Session {
     }
 
     /// Checks all modules, prints what is wrong, and counts it.
-    pub fn check<R: Runtime + AllocGlobal>(&mut self, rt: &R, explains: bool) -> Result<usize> {
+    pub fn check<R: Runtime + AllocGlobal>(&mut self, rt: &R) -> Result<usize> {
         let alloc = rt.alloc();
         let mut names = Vec::new(alloc);
         for name in self.stamps.keys() {
@@ -65,7 +70,7 @@ impl Session {
         let Ok(all) = self.frontend.check_all(&self.project, names.as_slice()) else {
             anyhow::bail!("out of memory");
         };
-        if explains {
+        if self.frontend.reasons().is_some() {
             self.explain(rt)?;
         }
         let mut count: usize = 0;
@@ -79,18 +84,51 @@ impl Session {
         Ok(count)
     }
 
-    /// Prints which calls of the last checks ran, and which were hits.
+    /// Prints which calls of the last checks ran and why, and which were hits.
     fn explain<R: Runtime>(&self, rt: &R) -> Result<()> {
         for call in self.frontend.calls() {
-            let (what, name) = match &call.question {
-                Question::DeclarationsOf(name) => ("declarations", name),
-                Question::ExportsOf(name) => ("exports", name),
-                Question::DiagnosticsOf(name) => ("check", name),
-            };
             let how = if call.how == How::Hit { "hit" } else { "ran" };
-            println!(rt; "{how}: {what} of {}", name.as_str()).context("standard output")?;
+            let (what, name) = parts(&call.question);
+            print!(rt; "{how}: {what} of {name}").context("standard output")?;
+            if let Some(reasons) = self.frontend.reasons() {
+                print_reason(rt, reasons, &call.question)?;
+            }
+            println!(rt;).context("standard output")?;
         }
         Ok(())
+    }
+}
+
+/// What a question asks for, and of which module.
+fn parts(question: &Question) -> (&str, &str) {
+    match question {
+        Question::DeclarationsOf(name) => ("declarations", name.as_str()),
+        Question::ExportsOf(name) => ("exports", name.as_str()),
+        Question::DiagnosticsOf(name) => ("check", name.as_str()),
+    }
+}
+
+/// Prints why a call ran: from output to output, down to the text that changed.
+fn print_reason<R: Runtime>(rt: &R, reasons: &Why, question: &Question) -> Result<()> {
+    let mut at = question;
+    for _i in 0..u64::MAX {
+        let Some(cause) = reasons.cause(at) else {
+            break;
+        };
+        let (what, name) = parts(cause);
+        print!(rt; ": {what} of {name} changed").context("standard output")?;
+        at = cause;
+    }
+    match reasons.get(at) {
+        Some(Explanation::NeverKept) => print!(rt; ": never kept").context("standard output"),
+        Some(
+            Explanation::Changed {
+                asked: _,
+                call: MultiCall::A(source),
+                answer: _,
+            },
+        ) => print!(rt; ": text of {} changed", source.name.as_str()).context("standard output"),
+        _ => Ok(()),
     }
 }
 

@@ -14,7 +14,7 @@ use comemo_site::publish::{Published, Settings, SharedBuilt, publish_all};
 use comemo_site::report::{Summary, warning_line};
 use comemo_site::site::{Site, SiteCall};
 use comemo_site::tally::Tally;
-use comemo_site::text::Text;
+use comemo_text::Text;
 use std::alloc::Global;
 use std::collections::{BTreeMap, BTreeSet};
 use std::rt::Runtime;

@@ -7,7 +7,6 @@
 mod evictions;
 mod report;
 mod runs;
-mod scripts;
 mod sharing;
 mod stopwatch;
 mod sums;

@@ -1,7 +1,6 @@
 //! How the workloads are done. Each prepares its data, then times its operations.
 
 use crate::evictions::evict;
-use crate::scripts::evaluate_many;
 use crate::sharing::{Share, take_sums};
 use crate::stopwatch::{Seen, Stopwatch};
 use crate::sums::{SumKey, SumOfCells, sum};
@@ -42,7 +41,6 @@ pub fn run<R: Clock + Threads + Wait + Sync>(
         Workload::TextItself => text_itself(rt, alloc, operations),
         Workload::TextByNumber => text_by_number(rt, alloc, operations),
         Workload::TextByKeptNumber => text_by_kept_number(rt, alloc, operations),
-        Workload::ManyScripts => evaluate_many(rt, alloc, operations),
     }
 }
 

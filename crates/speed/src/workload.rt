@@ -29,8 +29,6 @@ pub enum Workload {
     TextByNumber,
     /// The cached length of a text, under its stored hash.
     TextByKeptNumber,
-    /// Different scripts of the program `calc`.
-    ManyScripts,
 }
 
 /// All workloads, in order.
@@ -69,7 +67,6 @@ pub const WORKLOADS: &[Workload] = &[
     Workload::TextItself,
     Workload::TextByNumber,
     Workload::TextByKeptNumber,
-    Workload::ManyScripts,
 ];
 
 /// How many entries there are when only the sum is wanted.
@@ -94,7 +91,6 @@ impl Workload {
             Workload::TextItself => String::from_str(alloc, "text 1 MiB as a key, kept itself"),
             Workload::TextByNumber => String::from_str(alloc, "text 1 MiB by its number"),
             Workload::TextByKeptNumber => String::from_str(alloc, "text 1 MiB by a number kept"),
-            Workload::ManyScripts => String::from_str(alloc, "calc, many"),
         }
     }
 
@@ -119,7 +115,6 @@ impl Workload {
             Workload::Evict(..) => 100_000,
             Workload::TextItself | Workload::TextByNumber => 20,
             Workload::TextByKeptNumber => 500_000,
-            Workload::ManyScripts => 400_000,
         }
     }
 
@@ -141,7 +136,6 @@ impl Workload {
     pub fn few(self) -> u64 {
         match self {
             Workload::TextItself | Workload::TextByNumber => 2,
-            Workload::ManyScripts => 100,
             _ => 10,
         }
     }

@@ -2,7 +2,7 @@
 ghost use Rattle.std.specs.Prelude.{◌≡◌, length, IfOk, IfErr, OnErr};
 ghost use Rattle.std.proofs.Common.{rules};
 ghost use Rattle.comemo.specs.Finish.{BrokeOff};
-ghost use Rattle.comemo.specs.MeaningLaws.{none_alike};
+ghost use Rattle.comemo.specs.MeaningLaws.{reads_laws};
 ghost use Rattle.calc_core.specs.Size.{IsSize, SizeReply};
 ghost use Rattle.calc_core.specs.Joined.{same_answer};
 ghost use Rattle.calc_core.specs.Files.{OnFiles, text_at, answers_of, with_key};
@@ -32,12 +32,11 @@ impl Function for FileSize {
 
     ghost means = { λ key answers out. OnFiles (λ m. IsSize key.0 m out) answers };
 
-    ghost laws = { record {
-      outputs = λ key m a b writes r c h. (h.0, λ part q. Prim.search (rules, h.1 part q));
-      keys = λ j k m output writes r e h. (h.0, size_alike j k m output r e h.1);
-      writes = λ key m output V W r same h. (none_alike _ V W same h.0, h.1);
+    ghost laws = { reads_laws (record {
+      outputs = λ key m a b r c h part q. Prim.search (rules, h part q);
+      keys = λ j k m output r e h. size_alike j k m output r e h;
       key_clones = Prim.search rules;
-    } };
+    }) };
 }
 
 /// The memoized size of the file at a path, in bytes, as the file is now.
