@@ -1,8 +1,7 @@
 -- What the branches of a run did.
-use Rattle.std.specs.Prelude.{◌≡◌, true, Result, Ok, Err, IfOk, OnOk, List}
+use Rattle.std.specs.Prelude.{◌≡◌, true, Result, Ok, Err, IfOk, OnOk}
 use Rattle.std.specs.Borrow.{Bor, MutBor}
 use Rattle.std.specs.Fn.{Shared}
-use Rattle.std.specs.List.{All}
 use Rattle.comemo.specs.Recording.{Recording}
 use Rattle.comemo.specs.Function.{Recorded}
 use Rattle.comemo.specs.Branch.{IsBranch}

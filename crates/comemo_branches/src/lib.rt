@@ -1,5 +1,9 @@
-//! Branches of a memoized function's run: a list of items, each done by a branch with a recorder of its own, in
-//! threads or in turn. The recordings are joined in the order of the items, whichever branch ended first.
+//! Threads in a run and in a round. Whichever ends first, the result is the same.
+//!
+//! A run can have branches: a list of items, each done by a branch with a recorder of its own, in threads or in turn. The
+//! recordings are joined in the order of the items.
+//!
+//! A round can have its turns taken by threads, in waves: a wave is the keys that wait for none.
 #![tactic(auto)]
 
 mod ended;

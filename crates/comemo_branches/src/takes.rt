@@ -20,6 +20,7 @@ pub struct Take<'a, T: Track, Q: Query<T>, P: Provider<T, Q>> {
     pub waiting: Waiting<'a, T, Q>,
     /// What became of its turn.
     pub ended: Option<Ended<Q::At, Q::Output>>,
+    /// The provider that calls its function.
     pub provider: PhantomData<P>,
 }
 
@@ -69,6 +70,7 @@ impl<'a, T: Track, Q: Query<T>, P: Provider<T, Q>> Take<'a, T, Q, P> {
 pub struct Takes<'a, T: Track, Q: Query<T>, P: Provider<T, Q>> {
     alloc: Global,
     of: &'a T,
+    /// The turns.
     pub items: Vec<Take<'a, T, Q, P>>,
 }
 

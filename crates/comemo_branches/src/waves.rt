@@ -16,10 +16,11 @@ use std::thread::Threads;
 /// output is looked up or computed once for all threads.
 ///
 /// The keys that wait for no output are a wave. The threads take the turns of a wave, while the round is only read; then
-/// this thread makes the outputs known. A wave of one key is taken in this thread.
+/// this thread makes the outputs known. A wave of one key is taken in this thread. So the turns are the same whichever
+/// thread ends first.
 ///
 /// Fails with the first fault in the order of a wave, if an output needs itself, or if out of memory; what became known
-/// stays known. Without a provider it fails as without memory, unless all is known.
+/// stays known. If there is no provider, and an output isn't known, it fails as if out of memory.
 pub fn outputs_in_threads<
     'a,
     R: Threads + Sync,

@@ -16,3 +16,5 @@ mod rounds;
 mod schedules;
 #[cfg(test)]
 mod sessions;
+#[cfg(test)]
+mod waves;

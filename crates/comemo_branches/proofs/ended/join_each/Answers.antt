@@ -1,10 +1,10 @@
-use Rattle.std.proofs.Common.{Vec, Global, arith, rules, ◌<◌, length, get_or, take, sym, ◌∙◌, refl}
+use Rattle.std.proofs.Common.{Vec, Global, arith, rules, ◌<◌, length, get_or, ◌∙◌}
 use Rattle.std.proofs.lemmas.List.{take_all, get_or_default, length_push}
 use Rattle.std.proofs.lemmas.Iterator.Consumers.{YieldsList-turn, YieldsList-end}
 use Rattle.std.proofs.lemmas.Iterator.Adapters.{YieldsList-from_vec}
 use Rattle.comemo.proofs.Recursions.{own_memory}
 use Rattle.comemo_branches.specs.Branches.{BranchTold}
-use Rattle.comemo_branches.proofs.Joining.{told_none, told_more, told_failed, some_item, ran_from, ended_by, gave_told}
+use Rattle.comemo_branches.proofs.Joining.{told_none, told_more, told_failed, some_item, ended_by, gave_told}
 use Rattle.comemo_branches.proofs.ended.join_each.Goals as goal
 
 pub loop-end-init : goal.loop-end-init

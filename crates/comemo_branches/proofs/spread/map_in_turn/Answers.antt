@@ -1,4 +1,4 @@
-use Rattle.std.proofs.Common.{Vec, Global, take, sym, ◌∙◌}
+use Rattle.std.proofs.Common.{Vec, Global, ◌∙◌}
 use Rattle.std.proofs.lemmas.List.{take_all}
 use Rattle.comemo.proofs.Recursions.{own_memory}
 use Rattle.comemo_branches.specs.Branches.{BranchTold}
