@@ -178,7 +178,7 @@ impl<'r, T: Track, Q: Query<T>> Track for Known<'r, T, Q> {
 ///
 /// It stands for a `Known` where no outputs are borrowed.
 #[derive(Drop)]
-pub(crate) struct Unknown<'a, T: Track, Q: Query<T>> {
+pub struct Unknown<'a, T: Track, Q: Query<T>> {
     of: &'a T,
     query: PhantomData<Q>,
 }

@@ -17,9 +17,10 @@ use std::marker::Model;
 pub(crate) struct Resumed<'a, 'b, K: Clone + Eq + Hash, T: Track> {
     key: &'b K,
     of: &'a T,
-    // what was asked, with the answers
+    // what was asked, with the answers: by this look-up from the start on
     trail: Vec<(T::Call, T::Answer)>,
-    // how many of these this look-up asked
+    start: usize,
+    // the place of the next call
     next: usize,
 }
 
@@ -39,8 +40,8 @@ impl<'a, 'b, K: Clone + Eq + Hash, T: Track> Model for Resumed<'a, 'b, K, T> {
 }
 
 impl<'a, 'b, K: Clone + Eq + Hash, T: Track> Resumed<'a, 'b, K, T> {
-    /// The key and the value, and what earlier look-ups asked.
-    pub(crate) fn new(key: &'b K, of: &'a T, trail: Vec<(T::Call, T::Answer)>) -> Self
+    /// The key and the value, and what earlier look-ups asked, of this call from the start on.
+    pub(crate) fn new(key: &'b K, of: &'a T, trail: Vec<(T::Call, T::Answer)>, start: usize) -> Self
         requires trail { IsTrail T.Answer.eq (T.answers of.now) trail.items }
         requires clones { (x y : K) → K.is_clone x y → IsTrue (K.eq x y) }
         ensures { result ≡ (key.now, of.now) }
@@ -49,14 +50,15 @@ impl<'a, 'b, K: Clone + Eq + Hash, T: Track> Resumed<'a, 'b, K, T> {
             key,
             of,
             trail,
-            next: 0,
+            start,
+            next: start,
         }
     }
 
     /// Where on the trail a look-up stands that asks this call: at the start, if it asks the first.
     fn place_of(&self, call: &T::Call) -> usize {
-        match self.trail.first() {
-            Some((first, _)) if first == call => 0,
+        match self.trail.get(self.start) {
+            Some((first, _)) if first == call => self.start,
             _ => self.next,
         }
     }
@@ -92,6 +94,7 @@ impl<'a, 'b, K: Clone + Eq + Hash, T: Track> Resumed<'a, 'b, K, T> {
             key: _,
             of: _,
             trail,
+            start: _,
             next: _,
         } = self;
         trail

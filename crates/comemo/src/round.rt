@@ -8,7 +8,7 @@ ghost use Rattle.comemo_track.specs.Answered.{StaysKnown};
 use crate::known::{Known, Query, Unknown};
 use crate::pending::Fault;
 use crate::turn::Turn;
-use crate::waiting::{Queue, Trail, Waiting};
+use crate::waiting::{Queue, Trail};
 use comemo_track::answer::Answer;
 use comemo_track::track::Track;
 use std::alloc::{AllocError, Global};
@@ -95,7 +95,7 @@ impl<'a, T: Track, Q: Query<T>> Model for Round<'a, T, Q> {
 }
 
 /// What became of a turn of a call.
-#[derive(Drop)]
+#[derive(Drop, Debug)]
 pub enum Turned<K, O> {
     /// It returned this output.
     Output(O),
@@ -149,24 +149,26 @@ impl<'a, T: Track, Q: Query<T>> Round<'a, T, Q> {
         Ok(())
     }
 
-    /// Calls the function of a key that waits, or says which output it needs first. Fails if the function does.
+    /// Calls the function of a key, or says which output it needs first. What its look-up asked is on the trail, from a
+    /// place on. Fails if the function does.
     pub fn take_turn<P: Provider<T, Q>>(
         &self,
         provider: &mut P,
-        waiting: &mut Waiting<'a, T, Q>,
+        key: &Q::At,
+        trail: &mut Trail<Unknown<'a, T, Q>>,
+        start: usize,
     ) -> Result<Turned<Q::At, Q::Output>, Fault>
-        requires { waiting.old.trail ≡ self.now.value }
-        ensures same { waiting.new ≡ waiting.old }
+        requires { trail.old ≡ self.now.value }
+        ensures same { trail.new ≡ trail.old }
         ensures gives { IfOk result (λ turned. OnOutput turned (λ output.
-            IsTrue (Q.Output.eq (Q.gives waiting.old.key (T.answers self.now.value)) output))) }
-        ensures fault { IfErr result (P.fails waiting.old.key) }
+            IsTrue (Q.Output.eq (Q.gives key.now (T.answers self.now.value)) output))) }
+        ensures fault { IfErr result (P.fails key.now) }
     {
         let known = Known::new(self.of, &self.table);
-        let nothing = Trail::new(Unknown::new(self.of), Vec::new(self.alloc));
-        let trail = mem::replace(&mut waiting.trail, nothing);
-        let mut turn = Turn::new(self.alloc, &known, trail.into_pairs());
-        let provided = provider.provide(&waiting.key, &mut turn);
-        waiting.trail = Trail::new(Unknown::new(self.of), turn.into_trail());
+        let pairs = mem::replace(trail, Trail::empty(self.alloc, self.of)).into_pairs();
+        let mut turn = Turn::new(self.alloc, &known, pairs, start);
+        let provided = provider.provide(key, &mut turn);
+        *trail = Trail::new(Unknown::new(self.of), turn.into_trail());
         match provided {
             Ok(output) => Ok(Turned::Output(output)),
             Err(fault) => match known.into_missing() {
@@ -195,17 +197,22 @@ impl<'a, T: Track, Q: Query<T>> Round<'a, T, Q> {
         if let Some(output) = self.get(&key) {
             return Ok(output.clone()?);
         }
-        let mut queue = Queue::new(self.alloc, self.of);
-        queue.add(key.clone()?)?;
+        // The keys wait one for the next, so their trails stand one after another.
+        let mut trail = Trail::empty(self.alloc, self.of);
+        let mut queue = Queue::new(self.alloc);
+        queue.add(key.clone()?, 0)?;
         for _i in 0..u64::MAX {
-            let Some(mut waiting) = queue.pop() else {
+            let Some(waiting) = queue.pop() else {
                 break;
             };
-            match self.take_turn(provider, &mut waiting)? {
-                Turned::Output(output) => self.learn(waiting.key, output)?,
+            match self.take_turn(provider, &waiting.key, &mut trail, waiting.start)? {
+                Turned::Output(output) => {
+                    trail.truncate(waiting.start);
+                    self.learn(waiting.key, output)?;
+                }
                 Turned::Needs(needed) => {
                     queue.again(waiting)?;
-                    queue.add(needed)?;
+                    queue.add(needed, trail.len())?;
                 }
             }
         }

@@ -28,8 +28,9 @@ use std::mem;
 pub struct Turn<'t, V: Track> {
     alloc: Global,
     at: &'t V,
-    // what the look-up asked, with the answers
+    // what look-ups asked, with the answers: this one from the start on
     trail: Vec<(V::Call, V::Answer)>,
+    start: usize,
 }
 
 impl<'t, V: Track> Model for Turn<'t, V> {
@@ -45,12 +46,22 @@ impl<'t, V: Track> Model for Turn<'t, V> {
 }
 
 impl<'t, V: Track> Turn<'t, V> {
-    /// A turn at a value, whose call asked this in earlier turns.
-    pub(crate) fn new(alloc: Global, at: &'t V, trail: Vec<(V::Call, V::Answer)>) -> Self
+    /// A turn at a value, whose call asked this in earlier turns, from the start on.
+    pub(crate) fn new(
+        alloc: Global,
+        at: &'t V,
+        trail: Vec<(V::Call, V::Answer)>,
+        start: usize,
+    ) -> Self
         requires { IsTrail V.Answer.eq (V.answers at.now) trail.items }
         ensures { result ≡ at.now }
     {
-        Turn { alloc, at, trail }
+        Turn {
+            alloc,
+            at,
+            trail,
+            start,
+        }
     }
 
     /// What the call asked so far, with the answers.
@@ -61,6 +72,7 @@ impl<'t, V: Track> Turn<'t, V> {
             alloc: _,
             at: _,
             trail,
+            start: _,
         } = self;
         trail
     }
@@ -103,7 +115,7 @@ impl<'t, V: Track> Turn<'t, V> {
         let alloc = self.alloc;
         let at = self.at;
         let trail = mem::replace(&mut self.trail, Vec::new(alloc));
-        let mut input = Resumed::new(&key, at, trail);
+        let mut input = Resumed::new(&key, at, trail, self.start);
         let found = look_up(cache, &mut input, &mut Top::new(), true);
         self.trail = input.into_trail();
         match found {
@@ -137,7 +149,7 @@ impl<'t, V: Track> Turn<'t, V> {
             × IsRefused V.Call.eq V.Answer.eq (under M.Key.eq es key.now) asked next)) }
     {
         let trail = mem::replace(&mut self.trail, Vec::new(self.alloc));
-        let mut input = Resumed::new(key, self.at, trail);
+        let mut input = Resumed::new(key, self.at, trail, self.start);
         let said = cache.explain(self.alloc, key, &mut input);
         self.trail = input.into_trail();
         said

@@ -1,20 +1,17 @@
 //! The keys of a round whose outputs wait for others.
-ghost use Rattle.std.specs.Prelude.{◌≡◌, IfErr, IfSome};
+ghost use Rattle.std.specs.Prelude.{◌≡◌, IfErr};
 ghost use Rattle.comemo.specs.Rounds.{FailsBy};
 ghost use Rattle.comemo.specs.Trail.{IsTrail};
 
 use crate::known::{Query, Unknown};
 use crate::round::RoundError;
-use comemo_track::answer::Answer;
 use comemo_track::track::Track;
 use std::alloc::{AllocError, Global};
-use std::collections::HashMap;
-use std::hash::Hash;
 use std::marker::Model;
 
-/// What a look-up asked of a value, with the answers. Contracts see the value.
+/// What look-ups asked of a value, with the answers. Contracts see the value.
 #[derive(Drop)]
-pub(crate) struct Trail<V: Track> {
+pub struct Trail<V: Track> {
     at: V,
     pairs: Vec<(V::Call, V::Answer)>,
 }
@@ -40,6 +37,18 @@ impl<V: Track + Drop> Trail<V> {
         Trail { at, pairs }
     }
 
+    /// How many calls were asked.
+    pub(crate) fn len(&self) -> usize {
+        self.pairs.len()
+    }
+
+    /// Forgets all but the first calls.
+    pub(crate) fn truncate(&mut self, len: usize)
+        ensures { self.new ≡ self.old }
+    {
+        self.pairs.truncate(len);
+    }
+
     /// What was asked, with the answers.
     pub(crate) fn into_pairs(self) -> Vec<(V::Call, V::Answer)>
         ensures { IsTrail V.Answer.eq (V.answers self) result.items }
@@ -49,100 +58,67 @@ impl<V: Track + Drop> Trail<V> {
     }
 }
 
-/// A key whose output isn't known yet, and what its look-up asked so far.
-#[derive(Drop)]
-pub struct Waiting<'a, T: Track, Q: Query<T>> {
-    /// The key.
-    pub key: Q::At,
-    pub(crate) trail: Trail<Unknown<'a, T, Q>>,
-}
-
-impl<'a, T: Track, Q: Query<T>> Waiting<'a, T, Q> {
-    /// A key of which nothing was looked up yet. Does not allocate.
-    pub fn new(alloc: Global, of: &'a T, key: Q::At) -> Self
-        ensures key { result.key ≡ key }
-        ensures at { result.trail ≡ of.now }
-    {
-        Waiting {
-            key,
-            trail: Trail::new(Unknown::new(of), Vec::new(alloc)),
-        }
-    }
-}
-
-/// The keys whose outputs wait for others. Contracts see the value that they are at.
-#[derive(Drop)]
-pub(crate) struct Queue<'a, T: Track, Q: Query<T>> {
-    alloc: Global,
-    of: &'a T,
-    // the last one needs none of those before it
-    waiting: Vec<Waiting<'a, T, Q>>,
-    // the keys that ever waited
-    seen: HashMap<Q::At, ()>,
-}
-
-impl<'a, T: Track, Q: Query<T>> Model for Queue<'a, T, Q> {
-    ghost use Rattle.std.specs.Prelude.{◌≡◌};
-    ghost use Rattle.std.specs.List.{All};
-
-    ghost Value = { T };
-
-    ghost coded = { T.code };
-
-    ghost view = { λ s. s.of.now };
-
-    ghost invariant = { λ s. All (λ waits. waits.trail ≡ s.of.now) s.waiting.items };
-}
-
-impl<'a, T: Track, Q: Query<T>> Queue<'a, T, Q> {
-    /// No key waits. Does not allocate.
-    pub(crate) fn new(alloc: Global, of: &'a T) -> Self
+impl<'a, T: Track, Q: Query<T>> Trail<Unknown<'a, T, Q>> {
+    /// Nothing was asked yet of a value, or of outputs at it. Does not allocate.
+    pub fn empty(alloc: Global, of: &'a T) -> Self
         ensures { result ≡ of.now }
     {
+        Trail {
+            at: Unknown::new(of),
+            pairs: Vec::new(alloc),
+        }
+    }
+}
+
+/// A key whose output isn't known yet.
+#[derive(Drop)]
+pub(crate) struct Waiting<K> {
+    pub(crate) key: K,
+    // where the trail of its look-up begins
+    pub(crate) start: usize,
+}
+
+/// The keys whose outputs wait for others: each needs the one after it.
+#[derive(Drop)]
+pub(crate) struct Queue<K> {
+    waiting: Vec<Waiting<K>>,
+}
+
+impl<K: Eq + Drop> Queue<K> {
+    /// No key waits. Does not allocate.
+    pub(crate) fn new(alloc: Global) -> Self {
         Queue {
-            alloc,
-            of,
             waiting: Vec::new(alloc),
-            seen: HashMap::new(alloc),
         }
     }
 
-    /// Has a key wait. Fails if it waited before, since its output then needs itself, or if out of memory.
-    pub(crate) fn add(&mut self, key: Q::At) -> Result<(), RoundError<Q::At>>
-        ensures same { self.new ≡ self.old }
-        ensures err { IfErr result (FailsBy (λ _ _. ⊥)) }
+    /// Has a key wait. Fails if out of memory.
+    ///
+    /// Fails also if the key waits already, since its output then needs itself: a search at each power of two finds such
+    /// a circle before the keys that wait are twice as many.
+    pub(crate) fn add(&mut self, key: K, start: usize) -> Result<(), RoundError<K>>
+        ensures { IfErr result (FailsBy (λ _ _. ⊥)) }
     {
-        if self.seen.contains_key(&key) {
+        if self.waiting.len().is_power_of_two() && self.waits(&key) {
             return Err(RoundError::Circle(key));
         }
-        self.note(key.clone()?)?;
-        let waits = Waiting::new(self.alloc, self.of, key);
-        self.again(waits)?;
+        self.again(Waiting { key, start })?;
         Ok(())
     }
 
-    /// Notes that a key waited. Fails if out of memory.
-    fn note(&mut self, key: Q::At) -> Result<(), AllocError>
-        ensures { self.new ≡ self.old }
-    {
-        self.seen.insert(key, ())?;
-        Ok(())
+    /// Whether a key waits.
+    fn waits(&self, key: &K) -> bool {
+        self.waiting.iter().any(|waiting| waiting.key == *key)
     }
 
     /// Has a key wait that waited before. Fails if out of memory.
-    pub(crate) fn again(&mut self, waits: Waiting<'a, T, Q>) -> Result<(), AllocError>
-        requires { waits.trail ≡ self.old }
-        ensures { self.new ≡ self.old }
-    {
-        self.waiting.push(waits)?;
+    pub(crate) fn again(&mut self, waiting: Waiting<K>) -> Result<(), AllocError> {
+        self.waiting.push(waiting)?;
         Ok(())
     }
 
     /// Takes out the key that waited last, if there is one.
-    pub(crate) fn pop(&mut self) -> Option<Waiting<'a, T, Q>>
-        ensures same { self.new ≡ self.old }
-        ensures at { IfSome result (λ waits. waits.trail ≡ self.old) }
-    {
+    pub(crate) fn pop(&mut self) -> Option<Waiting<K>> {
         self.waiting.pop()
     }
 }

@@ -1,8 +1,9 @@
 //! The turns of the keys of a wave.
-ghost use Rattle.std.specs.Prelude.{◌≡◌, IfOk};
+ghost use Rattle.std.specs.Prelude.{◌≡◌, IsTrue, IfErr, IfOk};
 ghost use Rattle.std.specs.List.{All};
+ghost use Rattle.comemo.specs.Rounds.{OnOutput};
 
-use comemo::internal::{Turned, Waiting};
+use comemo::internal::{Trail, Turned, Unknown};
 use comemo::{Fault, Provider, Query, Round, Track};
 use std::alloc::{AllocError, Global};
 use std::marker::{Model, PhantomData};
@@ -10,6 +11,43 @@ use std::mem;
 
 /// The result of a turn.
 pub type Ended<K, O> = Result<Turned<K, O>, Fault>;
+
+/// A key whose output isn't known yet, and what its look-up asked so far.
+#[derive(Drop)]
+pub struct Waiting<'a, T: Track, Q: Query<T>> {
+    /// The key.
+    pub key: Q::At,
+    /// What its look-up asked.
+    pub trail: Trail<Unknown<'a, T, Q>>,
+}
+
+impl<'a, T: Track, Q: Query<T>> Waiting<'a, T, Q> {
+    /// A key of which nothing was looked up yet. Does not allocate.
+    pub fn new(alloc: Global, of: &'a T, key: Q::At) -> Self
+        ensures key { result.key ≡ key }
+        ensures at { result.trail ≡ of.now }
+    {
+        Waiting {
+            key,
+            trail: Trail::empty(alloc, of),
+        }
+    }
+
+    /// Takes a turn of the key.
+    fn turn<P: Provider<T, Q>>(
+        &mut self,
+        round: &Round<'a, T, Q>,
+        provider: &mut P,
+    ) -> Ended<Q::At, Q::Output>
+        requires { self.old.trail ≡ round.now.value }
+        ensures same { self.new ≡ self.old }
+        ensures gives { IfOk result (λ turned. OnOutput turned (λ output.
+            IsTrue (Q.Output.eq (Q.gives self.old.key (T.answers round.now.value)) output))) }
+        ensures fault { IfErr result (P.fails self.old.key) }
+    {
+        round.take_turn(provider, &self.key, &mut self.trail, 0)
+    }
+}
 
 /// A key of a wave, and what became of its turn once that was taken. Contracts see the value that it is at.
 #[derive(Drop)]
@@ -58,7 +96,7 @@ impl<'a, T: Track, Q: Query<T>, P: Provider<T, Q>> Take<'a, T, Q, P> {
         requires { self.old ≡ round.now.value }
         ensures { self.new ≡ self.old }
     {
-        let ended = round.take_turn(provider, &mut self.waiting);
+        let ended = self.waiting.turn(round, provider);
         let is_ok = ended.is_ok();
         self.ended = Some(ended);
         is_ok

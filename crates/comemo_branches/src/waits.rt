@@ -4,8 +4,8 @@ ghost use Rattle.std.specs.List.{All};
 ghost use Rattle.comemo.specs.Rounds.{FailsBy};
 ghost use Rattle.comemo.specs.Answered.{StaysKnown};
 
-use crate::takes::{Take, Takes};
-use comemo::internal::{Turned, Waiting};
+use crate::takes::{Take, Takes, Waiting};
+use comemo::internal::Turned;
 use comemo::{Provider, Query, Round, RoundError, Track};
 use std::alloc::{AllocError, Global};
 use std::collections::HashMap;

@@ -5,8 +5,8 @@ use Rattle.comemo.proofs.round.Round.output.Goals.{in-Output+in_ok-learn-in-Outp
 
 pub loop-i-preserved : goal.loop-i-preserved
 loop-i-preserved g c = elim c.match-branch-5.branch [
-  | in-Output+in_ok-learn-in-Output w ↦ (ap (λ s. s.value) w.self-is ∙ w.learn.ensures.value ∙ c.loop-i.invariant.0, refl, w.queue-is ∙ c.pop.ensures.same ∙ c.loop-i.invariant.2, λ at is. rw w.self-is (learnt_stays g.Q.At.PartialEq.eq c.loop-i.self.known w.learn.new.self.known c.take_turn.new.waiting.key w.in-Output.output w.in_ok-learn-in-Output.ensures.learns at (c.loop-i.invariant.3 at is)))
-  | in-Needs+in_ok-again-in-Needs+in_ok-add-in-Needs w ↦ (ap (λ s. s.value) w.self-is ∙ c.loop-i.invariant.0, refl, w.queue-is ∙ w.add-in-Needs.ensures.same ∙ w.again.ensures ∙ c.pop.ensures.same ∙ c.loop-i.invariant.2, rw w.self-is c.loop-i.invariant.3)
+  | in-Output+in_ok-learn-in-Output w ↦ (ap (λ s. s.value) w.self-is ∙ w.learn.ensures.value ∙ c.loop-i.invariant.0, refl, w.trail-is ∙ w.truncate.ensures ∙ c.take_turn.ensures.same ∙ c.loop-i.invariant.2, λ at is. rw w.self-is (learnt_stays g.Q.At.PartialEq.eq c.loop-i.self.known w.learn.new.self.known c.in-Some-pop.waiting.key w.in-Output.output w.in_ok-learn-in-Output.ensures.learns at (c.loop-i.invariant.3 at is)))
+  | in-Needs+in_ok-again-in-Needs+in_ok-add-in-Needs w ↦ (ap (λ s. s.value) w.self-is ∙ c.loop-i.invariant.0, refl, w.trail-is ∙ c.take_turn.ensures.same ∙ c.loop-i.invariant.2, rw w.self-is c.loop-i.invariant.3)
 ]
 
 pub returns-in-Some-get-clause-gives : goal.returns-in-Some-get-clause-gives
@@ -15,7 +15,7 @@ returns-in-Some-get-clause-gives g c =
     g.met.Q.Output.Eq.laws.congr _ _ _ is ∙ g.met.Q.Output.Answer.clones _ _ c.in_ok-clone-in-Some-get.ensures.cases
 
 pub returns-in_err-add-clause-err : goal.returns-in_err-add-clause-err
-returns-in_err-add-clause-err g c = passed_on g.P.Provider.fails c.from_residual-in_err-add.result c.in_err-add.field-0.0 (search (rules, c.from_residual-in_err-add.ensures)) c.in_err-add.ensures.err
+returns-in_err-add-clause-err g c = passed_on g.P.Provider.fails c.from_residual-in_err-add.result c.in_err-add.field-0.0 (search (rules, c.from_residual-in_err-add.ensures)) c.in_err-add.ensures
 
 pub returns-in_err-add-in-Needs-clause-err : goal.returns-in_err-add-in-Needs-clause-err
-returns-in_err-add-in-Needs-clause-err g c = passed_on g.P.Provider.fails c.from_residual-in_err-add-in-Needs.result c.in_err-add-in-Needs.field-0.0 (search (rules, c.from_residual-in_err-add-in-Needs.ensures)) c.in_err-add-in-Needs.ensures.err
+returns-in_err-add-in-Needs-clause-err g c = passed_on g.P.Provider.fails c.from_residual-in_err-add-in-Needs.result c.in_err-add-in-Needs.field-0.0 (search (rules, c.from_residual-in_err-add-in-Needs.ensures)) c.in_err-add-in-Needs.ensures

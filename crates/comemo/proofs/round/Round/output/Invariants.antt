@@ -6,5 +6,5 @@ abbrev pub invariant-loop-i : goal.invariant-loop-i
 invariant-loop-i g l =
     (l.self.value ≡ l.fn.self.value)
     × (l.key ≡ l.fn.key)
-    × (l.queue ≡ l.fn.self.value)
+    × (l.trail ≡ l.fn.self.value)
     × StaysKnown g.Q.At.PartialEq.eq l.fn.self.known l.self.known

@@ -1,6 +1,6 @@
 use Rattle.std.proofs.Common.{◌≡◌, ◌∙◌, None, Option, IfSome}
 use Rattle.std.proofs.lemmas.List.Elements.{All-push}
-use Rattle.comemo.specs.declared.waiting.Waiting.{Waiting}
+use Rattle.comemo_branches.specs.declared.takes.Waiting.{Waiting}
 use Rattle.comemo_branches.proofs.waits.Waits.number_of.Goals as goal
 
 pub invariant_of-self-in_err-push-2 : goal.invariant_of-self-in_err-push-2

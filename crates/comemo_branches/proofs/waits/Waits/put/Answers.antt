@@ -1,6 +1,6 @@
 use Rattle.std.proofs.Common.{◌≡◌, Option, IfSome}
 use Rattle.std.proofs.lemmas.List.Elements.{All-set}
-use Rattle.comemo.specs.declared.waiting.Waiting.{Waiting}
+use Rattle.comemo_branches.specs.declared.takes.Waiting.{Waiting}
 use Rattle.comemo_branches.proofs.waits.Waits.put.Goals as goal
 
 pub invariant_of-self : goal.invariant_of-self
