@@ -149,48 +149,71 @@ fn modules_import_one_another(rt: HostRuntime) {
     }
 }
 
-/// Whether the call that answers `question` is no hit because the output at `cause` changed.
-fn is_caused(frontend: &Frontend, question: &Question, cause: &Question) -> bool {
-    match frontend.reasons() {
-        Some(reasons) => reasons.cause(question) == Some(cause),
-        None => false,
+/// The question for the exports of a module.
+fn exports_of(alloc: Global, name: &str) -> Option<Question> {
+    let name = Text::from_str(alloc, name).ok()?;
+    Some(Question::ExportsOf(name))
+}
+
+/// The question for the declarations of a module.
+fn declarations_of(alloc: Global, name: &str) -> Option<Question> {
+    let name = Text::from_str(alloc, name).ok()?;
+    Some(Question::DeclarationsOf(name))
+}
+
+/// The question for what is wrong with a module.
+fn diagnostics_of(alloc: Global, name: &str) -> Option<Question> {
+    let name = Text::from_str(alloc, name).ok()?;
+    Some(Question::DiagnosticsOf(name))
+}
+
+/// Whether the call that answers a question was no hit because an output changed.
+fn is_caused(frontend: &Frontend, question: Option<Question>, cause: Option<Question>) -> bool {
+    match (frontend.reasons(), &question, &cause) {
+        (Some(reasons), Some(question), Some(cause)) => reasons.cause(question) == Some(cause),
+        _ => false,
     }
 }
 
-/// Whether the declarations of a module were parsed again because its text changed.
-fn is_text(frontend: &Frontend, name: &Text) -> Result<bool, AllocError> {
-    let Some(reasons) = frontend.reasons() else {
-        return Ok(false);
-    };
-    match reasons.get(&Question::DeclarationsOf(name.clone()?)) {
-        Some(
-            Explanation::Changed {
-                asked: _,
-                call: MultiCall::A(source),
-                answer: _,
-            },
-        ) => Ok(source.name == *name),
-        _ => Ok(false),
+/// Whether the call that answers a question was no hit because the text of a module changed.
+fn is_text(frontend: &Frontend, question: Option<Question>, name: &str) -> bool {
+    match (frontend.reasons(), &question) {
+        (Some(reasons), Some(question)) => match reasons.get(question) {
+            Some(
+                Explanation::Changed {
+                    asked: _,
+                    call: MultiCall::A(source),
+                    answer: _,
+                },
+            ) => source.name.as_str() == name,
+            _ => false,
+        },
+        _ => false,
+    }
+}
+
+/// Checks modules of these names: whether that worked.
+fn is_checked(alloc: Global, project: &Project, frontend: &mut Frontend, names: &str) -> bool {
+    match words(alloc, names) {
+        Ok(names) => frontend.check_all(project, names.as_slice()).is_ok(),
+        Err(_) => false,
     }
 }
 
 #[test]
-fn reasons_lead_to_the_text_that_changed(rt: HostRuntime) -> Result<(), AllocError> {
+fn reasons_lead_to_the_text_that_changed(rt: HostRuntime) {
     let alloc = rt.alloc();
     let mut project = Project::new(alloc);
     let mut frontend = Frontend::explaining(alloc);
     let modules: &[(&str, &str)] = &[("b", "import c\ny = z"), ("c", "z = 1")];
     assert!(rt; is_set(alloc, &mut project, modules));
-    let names = words(alloc, "b c")?;
-    assert!(rt; frontend.check_all(&project, names.as_slice()).is_ok());
-    assert!(rt; is_set(alloc, &mut project, &[("c", "q = 3")]));
-    assert!(rt; frontend.check_all(&project, names.as_slice()).is_ok());
-    let c = Text::from_str(alloc, "c")?;
-    let check = Question::DiagnosticsOf(Text::from_str(alloc, "b")?);
-    let exports = Question::ExportsOf(c.clone()?);
-    let declarations = Question::DeclarationsOf(c.clone()?);
-    assert!(rt; is_caused(&frontend, &check, &exports));
-    assert!(rt; is_caused(&frontend, &exports, &declarations));
-    assert!(rt; is_text(&frontend, &c)?);
-    Ok(())
+    assert!(rt; is_checked(alloc, &project, &mut frontend, "b c"));
+    let edited: &[(&str, &str)] = &[("c", "q = 3")];
+    assert!(rt; is_set(alloc, &mut project, edited));
+    assert!(rt; is_checked(alloc, &project, &mut frontend, "b c"));
+    let check = diagnostics_of(alloc, "b");
+    assert!(rt; is_caused(&frontend, check, exports_of(alloc, "c")));
+    let exports = exports_of(alloc, "c");
+    assert!(rt; is_caused(&frontend, exports, declarations_of(alloc, "c")));
+    assert!(rt; is_text(&frontend, declarations_of(alloc, "c"), "c"));
 }
