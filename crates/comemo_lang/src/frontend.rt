@@ -67,7 +67,8 @@ fn call<'r, M: Run<Known<'r, Project, Frontend>, Global>>(
 ) -> Result<M::Out, Fault>
     requires { WritesNone M.writes }
     ensures same { turn.new ≡ turn.old }
-    ensures right { IfOk result (λ output. M.means key (⟦<Known<'r, Project, Frontend> as Track>⟧.answers turn.old) output) }
+    ensures right { IfOk result (λ output. M.means key
+        (⟦<Known<'r, Project, Frontend> as Track>⟧.answers turn.old) output) }
 {
     let question = question.clone()?;
     if let Some(reasons) = &mut log.reasons {
