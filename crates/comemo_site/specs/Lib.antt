@@ -1,4 +1,6 @@
+pub mod Addresses
 pub mod Html
+pub mod HtmlLaws
 pub mod Lines
 pub mod Pages
 pub mod Parsing

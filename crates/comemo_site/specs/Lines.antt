@@ -1,12 +1,13 @@
 -- The language of sources: what a line says, and which blocks the lines of a source give.
 use Rattle.std.specs.Prelude.{ℕ, ◌==◌, Bool, ◌&&◌, not, List, [], ◌∷◌, ◌++◌, map, length, drop, codes, bytes_eq, if◌then◌else◌}
 use Rattle.std.specs.Char.{is_whitespace}
-use Rattle.std.specs.List.{flat_map, list_any, starts_with}
+use Rattle.std.specs.List.{flat_map, list_any}
 use Rattle.std.specs.Str.{chars, trim, trim_start}
 use Rattle.std.specs.Str.Lines.{lines}
+use Rattle.comemo_site.specs.Addresses.{begins, is_outside}
 use Rattle.comemo_site.specs.declared.block.Block.{Block}
 use Rattle.comemo_site.specs.declared.block.Block.TheVariants.{Plain, Include, Link, Entry}
-use Rattle.comemo_site.specs.declared.block.Plain.TheVariants.{Heading, Subheading, Paragraph, ListStart, Item, ListEnd}
+use Rattle.comemo_site.specs.declared.block.Plain.TheVariants.{Heading, Subheading, Paragraph, Outside, ListStart, Item, ListEnd}
 
 -- what a line says, or neighbouring lines together: words of a paragraph, items of a list, or a block of its own
 pub data Part : Type 0 where
@@ -15,10 +16,6 @@ pub data Part : Type 0 where
   Items : List (List ℕ) → Part
   Contents : Part
   Single : Block → Part
-
--- a line begins with this mark
-abbrev pub begins : List ℕ → List ℕ → Bool
-begins mark line = starts_with ◌==◌ line mark
 
 -- what stands after the mark, without white space at its start
 abbrev pub past : List ℕ → List ℕ → List ℕ
@@ -32,6 +29,10 @@ is_name text = not (length text == 0) && not (list_any is_whitespace (chars text
 abbrev pub names : List ℕ → List ℕ → Bool
 names mark line = begins mark line && is_name (past mark line)
 
+-- a link to an address of another place, or else to the page of a name
+abbrev pub linked : List ℕ → Block
+linked target = if is_outside target then Plain (Outside target) else Link target
+
 -- what a line says that has no white space at its start and its end
 abbrev pub said : List ℕ → Part
 said line =
@@ -41,7 +42,7 @@ said line =
     else if begins (codes "## ") line then Single (Plain (Subheading (past (codes "## ") line)))
     else if begins (codes "- ") line then Items (past (codes "- ") line ∷ [])
     else if names (codes "include ") line then Single (Include (past (codes "include ") line))
-    else if names (codes "link ") line then Single (Link (past (codes "link ") line))
+    else if names (codes "link ") line then Single (linked (past (codes "link ") line))
     else Words line
 
 -- what a line says

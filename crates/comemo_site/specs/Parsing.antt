@@ -7,7 +7,7 @@ use Rattle.comemo_site.specs.declared.block.Block.{Block}
 use Rattle.comemo_site.specs.declared.block.Block.TheVariants as block
 use Rattle.comemo_site.specs.declared.block.Plain.TheVariants as plain
 use Rattle.comemo_site.specs.declared.parse.Line.{Line}
-use Rattle.comemo_site.specs.declared.parse.Line.TheVariants.{Empty, Heading, Subheading, Item, Include, Link, Contents, Words}
+use Rattle.comemo_site.specs.declared.parse.Line.TheVariants.{Empty, Heading, Subheading, Item, Include, Link, Outside, Contents, Words}
 use Rattle.comemo_site.specs.declared.parse.Unended.{Unended}
 use Rattle.comemo_site.specs.declared.parse.Unended.TheVariants as unended
 use Rattle.comemo_site.specs.declared.parse.Parser.{Parser}
@@ -20,6 +20,7 @@ part_in (Subheading words) = lines.Single (block.Plain (plain.Subheading words.n
 part_in (Item words) = lines.Items (words.now ∷ [])
 part_in (Include name) = lines.Single (block.Include name.now)
 part_in (Link name) = lines.Single (block.Link name.now)
+part_in (Outside address) = lines.Single (block.Plain (plain.Outside address.now))
 part_in Contents = lines.Contents
 part_in (Words words) = lines.Words words.now
 

@@ -2,13 +2,14 @@
 use Rattle.std.specs.Prelude.{ℕ, List, [], ◌∷◌, Option, None, Some, unwrap_or}
 use Rattle.comemo_site.specs.declared.block.Block.{Block}
 use Rattle.comemo_site.specs.declared.block.Block.TheVariants.{Plain, Include, Link, Entry}
-use Rattle.comemo_site.specs.declared.block.Plain.TheVariants.{Heading, Subheading, Paragraph, ListStart, Item, ListEnd}
+use Rattle.comemo_site.specs.declared.block.Plain.TheVariants.{Heading, Subheading, Paragraph, Outside, ListStart, Item, ListEnd}
 
 -- the words of a heading
 abbrev pub heading_of : Block → Option (List ℕ)
 heading_of (Plain (Heading words)) = Some words
 heading_of (Plain (Subheading words)) = None
 heading_of (Plain (Paragraph words)) = None
+heading_of (Plain (Outside address)) = None
 heading_of (Plain ListStart) = None
 heading_of (Plain (Item words)) = None
 heading_of (Plain ListEnd) = None

@@ -27,6 +27,8 @@ pub enum Plain {
     Subheading(Text),
     /// Lines of words.
     Paragraph(Text),
+    /// A link to an address of another place than the site, which prints it.
+    Outside(Text),
     /// The start of a list.
     ListStart,
     /// An item of a list.

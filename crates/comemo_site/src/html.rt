@@ -1,24 +1,42 @@
 //! HTML, and what blocks, links and documents are in it.
 ghost use Rattle.std.specs.Prelude.{◌≡◌, ◌++◌, [], codes, unwrap_or, OnOk, OnErr, IfOk};
-ghost use Rattle.comemo_site.specs.Html.{escape, escaped, element, anchor_html, plain_html, upward, upwards, document_html};
+ghost use Rattle.comemo_site.specs.Addresses.{encode, encoded};
+ghost use Rattle.comemo_site.specs.Html.{escape, escaped, element, anchor_html, outside_html, plain_html, upward, upwards, is_marked, document_html};
 
+use crate::address::{is_unreserved, leads_out};
 use crate::block::Plain;
 use comemo_text::Text;
+use percent_encoding::percent_encode_byte;
 use std::alloc::{AllocError, Global};
 use std::marker::Model;
 use std::sync::ArcSlice;
 
+/// The first lines of each document, by which it is known.
+const MARK: &[u8] = b"<!DOCTYPE html>\n<!-- Made by site -->\n";
+
 /// A document up to the way to the folder of its site.
-const HEAD: &[u8] = b"<!DOCTYPE html>\n<html>\n<head>\n<meta charset=\"utf-8\">\n<base href=\"./";
+const HEAD: &[u8] =
+    b"<!DOCTYPE html>\n<!-- Made by site -->\n<html lang=\"en\">\n<head>\n<meta charset=\"utf-8\">\n\
+    <meta name=\"viewport\" content=\"width=device-width, initial-scale=1\">\n\
+    <style>\n:root { color-scheme: light dark; }\n\
+    body { max-width: 42rem; margin: auto; padding: 1rem; font-family: system-ui, sans-serif; \
+    line-height: 1.5; overflow-wrap: break-word; }\n</style>\n<base href=\"./";
 
 /// What follows, up to the title.
 const TITLE: &[u8] = b"\">\n<title>";
 
 /// What follows, up to the page.
-const BODY: &[u8] = b"</title>\n</head>\n<body>\n";
+const BODY: &[u8] = b"</title>\n</head>\n<body>\n<main>\n";
 
 /// The end of a document.
-const END: &[u8] = b"</body>\n</html>\n";
+const END: &[u8] = b"</main>\n</body>\n</html>\n";
+
+/// Whether bytes begin as a document does.
+pub fn is_marked(bytes: &[u8]) -> bool
+    ensures { result ≡ is_marked bytes.now }
+{
+    bytes.starts_with(MARK)
+}
 
 /// HTML that grows. Contracts see its bytes.
 #[derive(Drop)]
@@ -168,6 +186,26 @@ impl Html {
         }
     }
 
+    /// Appends a name as it stands in an address. Fails if out of memory; then a part of it is appended.
+    fn push_name(&mut self, name: &str) -> Result<(), AllocError>
+        ensures { OnOk result (self.new ≡ self.old ++ encoded name.now) }
+    {
+        for byte in name.as_bytes() {
+            self.push_name_byte(*byte)?;
+        }
+        Ok(())
+    }
+
+    /// Appends a byte of a name as it stands in an address. Fails if out of memory.
+    fn push_name_byte(&mut self, byte: u8) -> Result<(), AllocError>
+        ensures { OnOk result (self.new ≡ self.old ++ encode byte) }
+    {
+        if is_unreserved(byte) {
+            return self.push(&[byte]);
+        }
+        self.push(percent_encode_byte(byte).as_bytes())
+    }
+
     /// An element of this name around HTML, on lines of its own.
     fn tagged(alloc: Global, name: &str, inner: &Html) -> Result<Self, AllocError>
         ensures { IfOk result (λ html. html ≡ element name.now inner.now) }
@@ -199,6 +237,7 @@ impl Html {
             Plain::Heading(words) => Html::of_words(alloc, "h1", words),
             Plain::Subheading(words) => Html::of_words(alloc, "h2", words),
             Plain::Paragraph(words) => Html::of_words(alloc, "p", words),
+            Plain::Outside(address) => Html::of_outside(alloc, address),
             Plain::ListStart => Html::of_markup(alloc, b"<ul>\n"),
             Plain::Item(words) => Html::of_words(alloc, "li", words),
             Plain::ListEnd => Html::of_markup(alloc, b"</ul>\n"),
@@ -214,13 +253,30 @@ impl Html {
         Ok(html)
     }
 
-    /// A link to the page of a name that prints this title.
-    fn anchor(alloc: Global, title: &Text, name: &Text) -> Result<Self, AllocError>
-        ensures { IfOk result (λ html. html ≡ anchor_html title.now name.now) }
+    /// A paragraph of a link to an address, which prints it.
+    fn of_outside(alloc: Global, address: &Text) -> Result<Self, AllocError>
+        ensures { IfOk result (λ html. html
+            ≡ element (codes "p") (outside_html address.now)) }
     {
         let mut html = Html::new(alloc);
         html.push(b"<a href=\"")?;
-        html.push_text(name.as_str())?;
+        html.push_text(address.as_str())?;
+        html.push(b"\">")?;
+        html.push_text(address.as_str())?;
+        html.push(b"</a>")?;
+        Html::tagged(alloc, "p", &html)
+    }
+
+    /// A link to the page of a name that prints this title. If the name leads out of the site, the title alone.
+    fn anchor(alloc: Global, title: &Text, name: &Text) -> Result<Self, AllocError>
+        ensures { IfOk result (λ html. html ≡ anchor_html title.now name.now) }
+    {
+        if leads_out(name.as_str()) {
+            return Html::of_text(alloc, title.as_str());
+        }
+        let mut html = Html::new(alloc);
+        html.push(b"<a href=\"")?;
+        html.push_name(name.as_str())?;
         html.push(b".html\">")?;
         html.push_text(title.as_str())?;
         html.push(b"</a>")?;

@@ -1,6 +1,7 @@
 //! A small site builder: pages that include and link one another, rendered by memoized functions.
 #![tactic(auto)]
 
+pub mod address;
 pub mod block;
 pub mod build;
 pub mod html;

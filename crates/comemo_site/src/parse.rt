@@ -7,17 +7,20 @@
 //! | `- ITEM` | an item of a list, which goes on with the next such line |
 //! | `include PAGE` | that page, in this place |
 //! | `link PAGE` | a link to that page |
+//! | `link ADDRESS` | a link to an address that begins with `https:`, `http:` or `mailto:` |
 //! | `toc` | a list of links to the pages that this page includes |
 //! | an empty line | the end of a paragraph or of a list |
 //! | any other | words of a paragraph |
 //!
 //! A page's name has no spaces: `include me too` is words. `specs/Lines.antt` defines the blocks of a source.
 ghost use Rattle.std.specs.Prelude.{◌≡◌, ℕ, List, [], ◌∷◌, ◌++◌, false, true, string_bytes, IfOk, MatchOption};
+ghost use Rattle.comemo_site.specs.Addresses.{begins};
 ghost use Rattle.comemo_site.specs.Lines as lines;
-ghost use Rattle.comemo_site.specs.Lines.{Part, Contents, Words, begins, included, is_name, names, past, part_of, part_blocks, pages_of, blocks_of};
+ghost use Rattle.comemo_site.specs.Lines.{Part, Contents, Single, Words, included, is_name, linked, names, past, part_of, part_blocks, pages_of, blocks_of};
 ghost use Rattle.comemo_site.specs.Parsing.{part_in, ending, whole};
 ghost use Rattle.comemo_site.specs.Sources.{title_of};
 
+use crate::address::is_outside;
 use crate::block::{Block, Plain};
 use crate::site::Page;
 use comemo_text::{Items, Text};
@@ -33,6 +36,7 @@ enum Line<'a> {
     Item(&'a str),
     Include(&'a str),
     Link(&'a str),
+    Outside(&'a str),
     Contents,
     Words(&'a str),
 }
@@ -65,6 +69,17 @@ fn name_after<'a>(line: &'a str, mark: &str) -> Option<&'a str>
     Some(name)
 }
 
+/// What a line says that links to this page or address.
+fn link_to(target: &str) -> Line<'_>
+    ensures { part_in result ≡ Single (linked target.now) }
+{
+    if is_outside(target) {
+        Line::Outside(target)
+    } else {
+        Line::Link(target)
+    }
+}
+
 /// What a line says.
 fn line_of(line: &str) -> Line<'_>
     ensures { part_in result ≡ part_of line.now }
@@ -88,8 +103,8 @@ fn line_of(line: &str) -> Line<'_>
     if let Some(name) = name_after(line, "include ") {
         return Line::Include(name);
     }
-    if let Some(name) = name_after(line, "link ") {
-        return Line::Link(name);
+    if let Some(target) = name_after(line, "link ") {
+        return link_to(target);
     }
     Line::Words(line)
 }
@@ -265,6 +280,10 @@ impl Parser {
             Line::Link(name) => {
                 let name = Text::from_str(self.alloc, name)?;
                 self.push_single(Block::Link(name))
+            }
+            Line::Outside(address) => {
+                let address = Text::from_str(self.alloc, address)?;
+                self.push_single(Block::Plain(Plain::Outside(address)))
             }
             Line::Item(words) => self.push_item(words),
             Line::Words(words) => self.push_words(words),

@@ -1,20 +1,39 @@
 //! What is written and printed of a build.
-ghost use Rattle.std.specs.Prelude.{◌≡◌, ◌≢◌, ◌↔◌, IsTrue, IfOk, Some, option_copied, string_bytes};
-ghost use Rattle.comemo_site.specs.Reports.{round_text, summary_text, warning_text};
+ghost use Rattle.std.specs.Prelude.{◌≡◌, IfOk, option_copied, string_bytes};
+ghost use Rattle.comemo_site.specs.Reports.{fate_of, round_text, summary_text, warning_text};
 
-use crate::html::Html;
+use crate::html::{Html, is_marked};
 use crate::log::Warning;
 use crate::tally::Tally;
 use std::alloc::{AllocError, Global};
 
-/// Whether a document has to be written over what its file holds: `None` if there is no such file.
-pub fn is_changed(there: Option<&[u8]>, document: &Html) -> bool
-    ensures { IsTrue result ↔ (option_copied there.entry ≢ Some document.now) }
+/// What becomes of the file of a document.
+#[derive(Clone, Copy, PartialEq, Eq)]
+pub enum Fate {
+    /// It holds the document already.
+    Unchanged,
+    /// The document is written to it.
+    Written,
+    /// It is no document, and stays.
+    Kept,
+}
+
+/// What becomes of the file of a document, which holds these bytes: `None` if there is no such file.
+///
+/// A file that is no document is replaced only if that is forced.
+pub fn fate_of(there: Option<&[u8]>, document: &Html, is_forced: bool) -> Fate
+    ensures { result ≡ fate_of (option_copied there.entry) document.now is_forced }
 {
-    match there {
-        Some(bytes) => bytes != document.as_bytes(),
-        None => true,
+    let Some(bytes) = there else {
+        return Fate::Written;
+    };
+    if bytes == document.as_bytes() {
+        return Fate::Unchanged;
     }
+    if is_forced || is_marked(bytes) {
+        return Fate::Written;
+    }
+    Fate::Kept
 }
 
 /// The line about a warning of a page.

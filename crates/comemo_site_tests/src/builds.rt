@@ -239,10 +239,12 @@ fn a_hit_warns_again(rt: HostRuntime) {
     let mut kept = (CacheData::new(alloc), (alloc, CacheData::new(alloc)));
     let about: &[u8] = b"<p><a href=\"about.html\">About us</a></p>\n";
     let lost: &[u8] = b"<p><a href=\"lost.html\">lost</a></p>\n";
+    let out: &[u8] = b"<p>../about</p>\n";
     let calls: &[(&str, &[u8], How, usize)] = &[
         ("about", about, How::Stored, 0),
-        ("lost", lost, How::Stored, 1),
-        ("lost", lost, How::Hit, 2),
+        ("../about", out, How::Stored, 1),
+        ("lost", lost, How::Stored, 2),
+        ("lost", lost, How::Hit, 3),
     ];
     for (name, html, how, warnings) in calls {
         let is_so = links(

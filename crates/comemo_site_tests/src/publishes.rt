@@ -3,12 +3,14 @@
 ghost use Rattle.std.specs.Prelude.{◌<◌};
 
 use crate::builds::is_set;
+use crate::sources::is_framed;
 use comemo::{Cache, Fault, MultiCall};
 use comemo_dependents::Dependents;
+use comemo_site::html::Html;
 use comemo_site::log::Warning;
 use comemo_site::names::{document_path, page_name};
 use comemo_site::publish::{Published, Settings, SharedBuilt, publish_all};
-use comemo_site::report::{Summary, is_changed, round_line, warning_line};
+use comemo_site::report::{Fate, Summary, fate_of, round_line, warning_line};
 use comemo_site::site::{Site, SiteCall};
 use comemo_site::tally::Tally;
 use comemo_text::Text;
@@ -38,29 +40,17 @@ const PAGES: &[(&str, &str)] = &[
     ("news", "## March\nIt rained.\n"),
 ];
 
-/// The document of `index`.
-const INDEX: &[u8] =
-    b"<!DOCTYPE html>\n<html>\n<head>\n<meta charset=\"utf-8\">\n<base href=\"./\">\n\
-    <title>The rain gauge</title>\n</head>\n<body>\n<h1>The rain gauge</h1>\n<ul>\n\
+/// The content of `index`.
+const INDEX: &[u8] = b"<h1>The rain gauge</h1>\n<ul>\n\
     <li><a href=\"news.html\">news</a></li>\n<li><a href=\"footer.html\">footer</a></li>\n</ul>\n\
     <h2>March</h2>\n<p>It rained.</p>\n<p><a href=\"about.html\">About us</a></p>\n\
-    <p>Made by hand.</p>\n<p><a href=\"index.html\">The rain gauge</a></p>\n</body>\n</html>\n";
+    <p>Made by hand.</p>\n<p><a href=\"index.html\">The rain gauge</a></p>\n";
 
-/// The document of `guide/start`.
-const START: &[u8] =
-    b"<!DOCTYPE html>\n<html>\n<head>\n<meta charset=\"utf-8\">\n<base href=\"./../\">\n\
-    <title>Start here</title>\n</head>\n<body>\n<h1>Start here</h1>\n\
-    <p><a href=\"guide/units.html\">Units</a></p>\n</body>\n</html>\n";
+/// The content of `guide/start`.
+const START: &[u8] = b"<h1>Start here</h1>\n<p><a href=\"guide/units.html\">Units</a></p>\n";
 
-/// The document of `loop`, which is in itself down to the limit.
-const LOOP: &[u8] =
-    b"<!DOCTYPE html>\n<html>\n<head>\n<meta charset=\"utf-8\">\n<base href=\"./\">\n\
-    <title>Loop</title>\n</head>\n<body>\n<h1>Loop</h1>\n<h1>Loop</h1>\n<h1>Loop</h1>\n</body>\n</html>\n";
-
-/// The document of `empty`.
-const EMPTY: &[u8] =
-    b"<!DOCTYPE html>\n<html>\n<head>\n<meta charset=\"utf-8\">\n<base href=\"./\">\n\
-    <title>empty</title>\n</head>\n<body>\n</body>\n</html>\n";
+/// The content of `loop`, which is in itself down to the limit.
+const LOOP: &[u8] = b"<h1>Loop</h1>\n<h1>Loop</h1>\n<h1>Loop</h1>\n";
 
 /// Fills a new site with the ten pages, and a list with their names. Returns whether that worked.
 fn are_filled(alloc: Global, site: &mut Site, names: &mut Vec<Text>) -> bool {
@@ -122,10 +112,16 @@ fn tally_of(pages: &[Result<Published, Fault>]) -> Tally {
     tally
 }
 
-/// Whether the document of the page at a place is this.
-fn is_document(pages: &[Result<Published, Fault>], place: usize, document: &[u8]) -> bool {
+/// Whether the document of the page at a place has this base, title and content.
+fn is_document(
+    pages: &[Result<Published, Fault>],
+    place: usize,
+    base: &[u8],
+    title: &[u8],
+    content: &[u8],
+) -> bool {
     match pages.get(place) {
-        Some(Ok(page)) => page.document.as_bytes() == document,
+        Some(Ok(page)) => is_framed(page.document.as_bytes(), base, title, content),
         _ => false,
     }
 }
@@ -167,8 +163,10 @@ const WARNINGS: &str = "broken: no page is named nowhere\nbroken: no page is nam
 
 /// Whether these are the documents and the warnings of the ten pages.
 fn are_ten(alloc: Global, names: &[Text], pages: &[Result<Published, Fault>]) -> bool {
-    let are_first = is_document(pages, 3, EMPTY) && is_document(pages, 5, START);
-    let are_last = is_document(pages, 7, INDEX) && is_document(pages, 8, LOOP);
+    let are_first = is_document(pages, 3, b"./", b"empty", b"")
+        && is_document(pages, 5, b"./../", b"Start here", START);
+    let are_last = is_document(pages, 7, b"./", b"The rain gauge", INDEX)
+        && is_document(pages, 8, b"./", b"Loop", LOOP);
     pages.len() == 10 && are_first && are_last && is_said(alloc, names, pages, WARNINGS)
 }
 
@@ -359,14 +357,38 @@ fn a_change_reaches_who_asked(rt: HostRuntime) -> Result<(), Fail> {
     Ok(())
 }
 
-/// Whether a document is written where there was none or another, and not where it was there.
+/// Files of other bytes than those of a document: whether any may be replaced, and what becomes of them.
+const FATES: &[(&[u8], bool, Fate)] = &[
+    (b"", false, Fate::Kept),
+    (b"", true, Fate::Written),
+    (b"<!DOCTYPE html>\n<html>\n", false, Fate::Kept),
+    (b"<!DOCTYPE html>\n<html>\n", true, Fate::Written),
+    (b"<!-- Made by site -->\n", false, Fate::Kept),
+    (b"<!DOCTYPE html>\n<!-- Made by site -->\n", false, Fate::Written),
+];
+
+/// Whether the file of a document becomes what it should.
+fn has_fates(document: &Html, other: &Html) -> bool {
+    let is_new = fate_of(None, document, false) == Fate::Written;
+    let is_same = fate_of(Some(document.as_bytes()), document, true) == Fate::Unchanged;
+    let is_next = fate_of(Some(other.as_bytes()), document, false) == Fate::Written;
+    let mut are_so = is_new && is_same && is_next;
+    for (bytes, is_forced, fate) in FATES {
+        let came = fate_of(Some(*bytes), document, *is_forced);
+        are_so = are_so && came == *fate;
+    }
+    are_so
+}
+
+/// Whether the file of the fourth of these pages becomes what it should.
 fn is_written_if_new(pages: &[Result<Published, Fault>]) -> bool {
     let Some(Ok(page)) = pages.get(3) else {
         return false;
     };
-    let is_new = is_changed(None, &page.document);
-    let is_other = is_changed(Some(b""), &page.document);
-    is_new && is_other && !is_changed(Some(EMPTY), &page.document)
+    let Some(Ok(other)) = pages.get(5) else {
+        return false;
+    };
+    has_fates(&page.document, &other.document)
 }
 
 #[test]

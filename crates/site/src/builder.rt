@@ -17,6 +17,7 @@ use comemo_site::tally::Tally;
 use comemo_text::Text;
 use std::alloc::Global;
 use std::collections::{BTreeMap, BTreeSet};
+use std::path::Path;
 use std::rt::Runtime;
 use std::sync::Wait;
 use std::thread::Threads;
@@ -140,11 +141,16 @@ impl<'a> Builder<'a> {
     }
 
     /// What is wrong with a file whose page is another file's; `None` if it isn't.
-    fn taken<R: AllocGlobal>(&self, rt: &R, path: &str, name: &str) -> Result<Option<String>> {
-        let source = self.request.source;
+    fn taken<R: AllocGlobal>(
+        &self,
+        rt: &R,
+        file: &str,
+        path: &str,
+        name: &str,
+    ) -> Result<Option<String>> {
         match self.pages.get(name) {
             Some(page) if page.path.as_str() != path => Ok(Some(format!(in rt.alloc();
-                "{source}/{path}: the page {name} is in {} already",
+                "{file}: the page {name} is in {} already",
                 page.path.as_str()
             )?)),
             _ => Ok(None),
@@ -158,14 +164,15 @@ impl<'a> Builder<'a> {
         path: &str,
         name: &str,
     ) -> Result<Option<String>> {
-        if let Some(what) = self.taken(rt, path, name)? {
+        let file = Path::new(self.request.source).join(rt.alloc(), path)?;
+        let file = file.as_str();
+        if let Some(what) = self.taken(rt, file, path, name)? {
             self.fail(rt, what.as_str())?;
             return Ok(None);
         }
-        let file = format!(in rt.alloc(); "{}/{path}", self.request.source)?;
-        let what = match fs::read_to_string(rt, file.as_str()) {
+        let what = match fs::read_to_string(rt, file) {
             Ok(text) => return Ok(Some(text)),
-            Err(error) => unread(rt, file.as_str(), &error)?,
+            Err(error) => unread(rt, file, &error)?,
         };
         self.fail(rt, what.as_str())?;
         Ok(None)
@@ -259,7 +266,8 @@ impl<'a> Builder<'a> {
             complain(rt, line.as_str())?;
             self.summary.warnings = self.summary.warnings.saturating_add(1);
         }
-        match output::write(rt, self.request.output, name.as_str(), &page.document) {
+        let request = self.request;
+        match output::write(rt, request, name.as_str(), &page.document) {
             Ok(true) => self.summary.written = self.summary.written.saturating_add(1),
             Ok(false) => self.summary.unchanged = self.summary.unchanged.saturating_add(1),
             Err(error) => {
@@ -340,6 +348,16 @@ impl<'a> Builder<'a> {
         Ok(tally)
     }
 
+    /// Says that no page was found, if so.
+    fn say_if_empty<R: Runtime + AllocGlobal>(&self, rt: &R) -> Result<()> {
+        if !self.pages.is_empty() || self.summary.failed != 0 {
+            return Ok(());
+        }
+        let source = self.request.source;
+        let what = format!(in rt.alloc(); "no page found in {source}")?;
+        complain(rt, what.as_str())
+    }
+
     /// Builds what changed. Gives how many files did and how many calls ran; `None` if nothing changed.
     pub fn round<R: Runtime + AllocGlobal + Threads + Wait + Sync>(
         &mut self,
@@ -358,6 +376,7 @@ impl<'a> Builder<'a> {
         let changed = self.update(rt, &found)?;
         self.known.keep(found)?;
         let tally = self.publish(rt, &changed)?;
+        self.say_if_empty(rt)?;
         Ok(Some((u64::try_from(count).unwrap_or(u64::MAX), tally)))
     }
 }

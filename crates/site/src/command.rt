@@ -1,7 +1,11 @@
 //! The command line.
 
+use clap::builder::ValueParser;
 use clap::{Arg, ArgAction, ArgMatches, Command, Error, value_parser};
 use std::alloc::Global;
+
+/// The version of the library's original, which is the program's too.
+const VERSION: &str = "0.5.1";
 
 /// What the program is to do.
 #[derive(Clone, Copy)]
@@ -10,6 +14,8 @@ pub struct Request<'a> {
     pub source: &'a str,
     /// The folder of the documents.
     pub output: &'a str,
+    /// Whether a document may replace a file that is no document.
+    pub is_forced: bool,
     /// How many threads there are.
     pub jobs: usize,
     /// What is done with them.
@@ -34,12 +40,18 @@ pub enum Work {
 fn with_folders<'a>(alloc: Global, command: Command<'a>) -> Result<Command<'a>, Error> {
     let source = Arg::new(alloc, "SOURCE")
         .help("The folder of the pages, which are its .md and .txt files")
+        .value_parser(ValueParser::NonEmptyString)
         .required(true);
     let output = Arg::new(alloc, "OUTPUT")
         .help(
             "The folder of the documents, which is made if it is missing. Documents of pages that are gone stay",
         )
+        .value_parser(ValueParser::NonEmptyString)
         .required(true);
+    let force = Arg::new(alloc, "force")
+        .long("force")
+        .help("Replaces files that site did not write, too")
+        .action(ArgAction::SetTrue);
     let jobs = Arg::new(alloc, "jobs")
         .long("jobs")
         .short('j')
@@ -47,7 +59,7 @@ fn with_folders<'a>(alloc: Global, command: Command<'a>) -> Result<Command<'a>, 
         .help("Renders pages by N threads")
         .value_parser(value_parser!(u16).range(1..=256))
         .default_value("4");
-    Ok(command.arg(source)?.arg(output)?.arg(jobs)?)
+    Ok(command.arg(source)?.arg(output)?.arg(force)?.arg(jobs)?)
 }
 
 /// The whole command.
@@ -66,6 +78,7 @@ pub fn command<'a>(alloc: Global) -> Result<Command<'a>, Error> {
     let watch = with_folders(alloc, watch)?.arg(explain)?.arg(rounds)?;
     let command = Command::new(alloc, "site")
         .about("Builds the pages of a folder as HTML")
+        .version(VERSION)
         .subcommand_required(true)
         .subcommand(with_folders(alloc, build)?)?
         .subcommand(watch)?;
@@ -88,6 +101,7 @@ impl<'a> Request<'a> {
         Some(Request {
             source: matches.get_str("SOURCE")?,
             output: matches.get_str("OUTPUT")?,
+            is_forced: matches.get_flag("force"),
             jobs: usize::from(jobs.max(1)),
             work,
         })

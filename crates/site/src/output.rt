@@ -1,48 +1,101 @@
 //! The files of documents.
 
-use anyhow::{Context, Result};
+use crate::command::Request;
+use anyhow::{Context, Error, Result};
 use comemo_site::html::Html;
 use comemo_site::names::document_path;
-use comemo_site::report::is_changed;
+use comemo_site::report::{Fate, fate_of};
+use std::fs::File;
+use std::io::Write;
 use std::path::Path;
 use std::rt::Runtime;
 use std::{fs, io};
 
-/// Writes bytes to a file of its own and gives it the name of another. Fails before that one changes.
-fn replace<R: Runtime + AllocGlobal>(
-    rt: &R,
-    path: &str,
-    beside: &str,
-    bytes: &[u8],
-) -> io::Result<()> {
-    let written = match fs::write(rt, beside, bytes) {
-        Ok(()) => fs::rename(rt, beside, path),
+/// How many names are tried for a file beside another.
+const NAMES: u32 = 16;
+
+/// The bytes of a file; `None` if there is none. A link that leads nowhere is there, and cannot be read.
+fn bytes_at<R: Runtime + AllocGlobal>(rt: &R, path: &str) -> io::Result<Option<Vec<u8>>> {
+    match fs::read(rt, path) {
+        Ok(bytes) => Ok(Some(bytes)),
+        Err(error) => {
+            if error.kind() == io::ErrorKind::NotFound && fs::symlink_metadata(rt, path).is_err() {
+                return Ok(None);
+            }
+            Err(error)
+        }
+    }
+}
+
+/// Makes a new file beside another. Gives it with its path.
+fn file_beside<R: Runtime + AllocGlobal>(rt: &R, path: &str) -> io::Result<(R::File, String)> {
+    for number in 0..NAMES {
+        let beside = format!(in rt.alloc(); "{path}.new{number}")?;
+        match File::create_new(rt, beside.as_str()) {
+            Ok(file) => return Ok((file, beside)),
+            Err(error) => {
+                if error.kind() != io::ErrorKind::AlreadyExists {
+                    return Err(error);
+                }
+            }
+        }
+    }
+    Err(io::Error::from(io::ErrorKind::AlreadyExists))
+}
+
+/// Writes bytes to a new file and gives it the name of another. Fails before that one changes.
+fn replace<R: Runtime + AllocGlobal>(rt: &R, path: &str, bytes: &[u8]) -> io::Result<()> {
+    let (mut file, beside) = file_beside(rt, path)?;
+    let written = match file.write_all(bytes) {
+        Ok(()) => fs::rename(rt, beside.as_str(), path),
         Err(error) => Err(error),
     };
     if written.is_err() {
-        let _ = fs::remove_file(rt, beside);
+        let _ = fs::remove_file(rt, beside.as_str());
     }
     written
 }
 
-/// Writes a document if its file holds another, and says whether it did.
+/// Writes a document to the file of a path if that holds another, and says whether it did. Fails if the file is no
+/// document and may not be replaced.
+fn write_at<R: Runtime + AllocGlobal>(
+    rt: &R,
+    path: &str,
+    document: &Html,
+    is_forced: bool,
+) -> Result<bool> {
+    let there = match bytes_at(rt, path) {
+        Ok(there) => there,
+        Err(error) => {
+            if !is_forced {
+                return Err(Error::from(error));
+            }
+            None
+        }
+    };
+    let there = there.as_ref().map(|bytes| bytes.as_slice());
+    match fate_of(there, document, is_forced) {
+        Fate::Unchanged => return Ok(false),
+        Fate::Kept => return Err(Error::msg("site did not write it, and --force replaces it")),
+        Fate::Written => {}
+    }
+    if let Some(parent) = Path::new(path).parent() {
+        fs::create_dir_all(rt, parent)?;
+    }
+    replace(rt, path, document.as_bytes())?;
+    Ok(true)
+}
+
+/// Writes the document of a page if its file holds another, and says whether it did. Fails if the file is no document
+/// and may not be replaced.
 pub fn write<R: Runtime + AllocGlobal>(
     rt: &R,
-    folder: &str,
+    request: Request<'_>,
     name: &str,
     document: &Html,
 ) -> Result<bool> {
     let below = document_path(rt.alloc(), name)?;
-    let path = format!(in rt.alloc(); "{folder}/{below}")?;
+    let path = Path::new(request.output).join(rt.alloc(), below.as_str())?;
     let path = path.as_str();
-    let there = fs::read(rt, path).ok();
-    if !is_changed(there.as_ref().map(|bytes| bytes.as_slice()), document) {
-        return Ok(false);
-    }
-    if let Some(parent) = Path::new(path).parent() {
-        fs::create_dir_all(rt, parent).context(format_args!("{path}"))?;
-    }
-    let beside = format!(in rt.alloc(); "{path}.new")?;
-    replace(rt, path, beside.as_str(), document.as_bytes()).context(format_args!("{path}"))?;
-    Ok(true)
+    write_at(rt, path, document, request.is_forced).context(format_args!("{path}"))
 }
