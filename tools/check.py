@@ -7,7 +7,8 @@
   original's items, and are left out.
 - docs/ARCHITECTURE.md names each crate of crates.txt, and no crate or module names in its code what the table of layers there forbids.
 - Each module of a crate has a comment at its head.
-- Each README.md of crates/NAME/must-fail and crates/NAME/planted lists the edits of its folder, all and no others.
+- Each README.md of crates/NAME/must-fail and crates/NAME/planted lists the edits of its folder, all and no others. README.md
+  says how many there are.
 - No crate but those named `*_tests`, and the small `weather`, has a test, not even in a comment: `rt` would prove it
   twice.
 - Each line of code that README.md, docs/GUIDE.md and docs/BY_HAND.md quote stands in a file of crates/, laid out so or otherwise, and each
@@ -274,6 +275,10 @@ def check_edits():
             say(name_of(list_of), f"{name} is listed twice")
     for edit in edits:
         check_edit(edit)
+    for kind, told in (("must-fail", r"tries (\d+) wrong bodies"), ("planted", r"# (\d+) more, after")):
+        count, found = sum(it.parent.name == kind for it in edits), re.search(told, read(ROOT / "README.md"))
+        if not found or int(found[1]) != count:
+            say("README.md", f"the folders {kind} have {count} edits")
     return len(edits)
 
 
@@ -348,7 +353,7 @@ def check_written():
 
 
 def main():
-    for pattern in ("*.md", "docs/*.md", "crates/*/must-fail/README.md", "crates/*/planted/README.md"):
+    for pattern in ("*.md", "docs/*.md", "crates/*/README.md", "crates/*/must-fail/README.md", "crates/*/planted/README.md"):
         for document in sorted(ROOT.glob(pattern)):
             check_document(document)
     check_crates()
