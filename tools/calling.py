@@ -16,6 +16,8 @@ LIBRARY = ["comemo", *sources.crates()["comemo"]]
 HEAD = """# Calling `comemo`
 
 By `tools/calling.py`. What each item is for, its signature, and a line for each clause of its contract. [CLAUSES](../../docs/CLAUSES.md) says the clauses in words, [GUIDE](../../docs/GUIDE.md) how the items are used.
+
+In a clause `x.old` and `x.new` are what a borrowed value was and became, `x.now` what it is throughout. `⟦T as Trait⟧.member` is a ghost member of a trait. `tools/where NAME` prints the files of the other words.
 """
 
 

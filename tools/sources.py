@@ -81,7 +81,7 @@ def module_of(file):
 
 
 def squeezed(lines):
-    """Several lines as one."""
+    """Several lines as one line."""
     return " ".join(" ".join(lines).split())
 
 
@@ -106,7 +106,7 @@ def names_of(header):
 
 
 def doc_above(lines, at):
-    """The first sentence of the doc comment above a line, and the derives between."""
+    """The first paragraph of the doc comment above a line, and the derives between."""
     derives, above = "", at - 1
     while above >= 0 and lines[above].strip().startswith("#["):
         derives = lines[above].strip() if "derive" in lines[above] else derives
@@ -119,7 +119,7 @@ def doc_above(lines, at):
 
 
 def end_of(lines, at, indent):
-    """The last line of what begins here: its closing brace at the same indent, or this line, if it closes here."""
+    """The line of the closing brace of what begins here, at the same indent."""
     end = at
     while end < len(lines) and lines[end].rstrip() != f"{indent}}}":
         end += 1
