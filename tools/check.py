@@ -1,7 +1,7 @@
 #!/usr/bin/env python3
 """Checks that what the documents name is there.
 
-- Each path, crate, file of definitions or of lemmas, and edit that they name exists; an edit of the gate, unless the line names `tools/planted`.
+- Each path, crate, file of definitions or of lemmas, and edit that they name exists; an edit of the gate, unless the line names `tools/planted` or begins with *Planted*.
 - Each `Type::member` and `module::item` that they name exists in crates/*/src, and so does the function of each
   `CRATE/src/FILE.rt:FUNCTION`. The first column of docs/DIFFERENCES.md and its last section name the
   original's items, and are left out.
@@ -164,9 +164,9 @@ def check_document(path):
             if not (ROOT / code).is_file() and not (path.parent / code).is_file():
                 say(where, f"{code} is named without its folder")
         elif re.fullmatch(r"[a-z]\w*\.[a-z0-9]+(_[a-z0-9]+)+", code):
-            # A line that names `tools/planted` names edits that it tries.
+            # Such a line names edits that `tools/planted` tries.
             line = next(it for it in prose.splitlines() if f"`{code}`" in it)
-            kind = folder or ("planted" if "`tools/planted`" in line else "must-fail")
+            kind = folder or ("planted" if "`tools/planted`" in line or line.startswith("*Planted:*") else "must-fail")
             if not any(ROOT.glob(f"crates/{at or '*'}/{kind}/{code}.edit")):
                 say(where, f"no edit {code}")
     for word in re.findall(r"(?<![\w/.])(?:docs|tools)/[\w./-]*\w", text):
