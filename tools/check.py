@@ -42,7 +42,7 @@ BUDGETS = {
     "docs/GUIDE.md": 3250,
     "docs/BY_HAND.md": 700,
     "docs/LEMMAS.md": 600,
-    "docs/PROMISES.md": 2000,
+    "docs/PROMISES.md": 2300,
     "docs/CLAUSES.md": 2850,
     "docs/ARCHITECTURE.md": 2010,
     "docs/DECISIONS.md": 2950,
