@@ -43,7 +43,7 @@ BUDGETS = {
     "docs/BY_HAND.md": 700,
     "docs/LEMMAS.md": 600,
     "docs/PROMISES.md": 2300,
-    "docs/CLAUSES.md": 2850,
+    "docs/CLAUSES.md": 3275,
     "docs/ARCHITECTURE.md": 2010,
     "docs/DECISIONS.md": 2950,
     "docs/DIFFERENCES.md": 1350,
