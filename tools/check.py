@@ -38,17 +38,17 @@ BUDGETS = {
     "README.md": 800,
     "CONTRIBUTING.md": 750,
     "CHANGELOG.md": 300,
-    "docs/START.md": 1150,
+    "docs/START.md": 1000,
     "docs/GUIDE.md": 3250,
-    "docs/BY_HAND.md": 800,
-    "docs/LEMMAS.md": 690,
-    "docs/PROMISES.md": 2300,
+    "docs/BY_HAND.md": 700,
+    "docs/LEMMAS.md": 640,
+    "docs/PROMISES.md": 2050,
     "docs/CLAUSES.md": 3275,
     "docs/ARCHITECTURE.md": 2010,
     "docs/DECISIONS.md": 3390,
-    "docs/DIFFERENCES.md": 1550,
+    "docs/DIFFERENCES.md": 1400,
     "docs/MEASUREMENTS.md": 1265,
-    "docs/gate.md": 805,
+    "docs/gate.md": 780,
 }
 
 
