@@ -4,8 +4,8 @@ use clap::builder::ValueParser;
 use clap::{Arg, ArgAction, ArgMatches, Command, Error, value_parser};
 use std::alloc::Global;
 
-/// The version of the library's original, which is the program's too.
-const VERSION: &str = "0.5.1";
+/// The version of the library, as CHANGELOG has it.
+const VERSION: &str = "0.1.0";
 
 /// What the program is to do.
 #[derive(Clone, Copy)]
