@@ -364,7 +364,11 @@ const FATES: &[(&[u8], bool, Fate)] = &[
     (b"<!DOCTYPE html>\n<html>\n", false, Fate::Kept),
     (b"<!DOCTYPE html>\n<html>\n", true, Fate::Written),
     (b"<!-- Made by site -->\n", false, Fate::Kept),
-    (b"<!DOCTYPE html>\n<!-- Made by site -->\n", false, Fate::Written),
+    (
+        b"<!DOCTYPE html>\n<!-- Made by site -->\n",
+        false,
+        Fate::Written,
+    ),
 ];
 
 /// Whether the file of a document becomes what it should.

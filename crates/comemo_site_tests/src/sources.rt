@@ -99,11 +99,7 @@ fn each_line_has_its_block(rt: HostRuntime) {
             "a",
             b"<ul>\n<li><a href=\"none.html\">none</a></li>\n</ul>\n",
         ),
-        (
-            "toc\ninclude ../b\n",
-            "a",
-            b"<ul>\n<li>../b</li>\n</ul>\n",
-        ),
+        ("toc\ninclude ../b\n", "a", b"<ul>\n<li>../b</li>\n</ul>\n"),
         ("toc of it\n", "a", b"<p>toc of it</p>\n"),
     ];
     for (source, title, html) in cases {
