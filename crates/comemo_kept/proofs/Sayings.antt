@@ -1,5 +1,5 @@
 -- What is kept is what the value answers.
-use Rattle.std.proofs.Common.{◌≡◌, ◌∙◌, Bool, IsTrue, Some, inl, inr, refl, subst, sym}
+use Rattle.std.proofs.Common.{◌≡◌, ◌∙◌, Bool, IsTrue, Some, inl, inr, subst, sym}
 use Rattle.std.proofs.lemmas.Bool.{cases_Bool}
 use Rattle.std.proofs.lemmas.Option.{same_Some}
 use Rattle.std.specs.Cmp.{IsEquivalence}

@@ -68,9 +68,12 @@ impl<C: Call, R: Answer, B: Says<C, R>> Answers<C, R, B> {
     pub fn known(&self, call: &C) -> Option<R>
         ensures { IfSome result (λ answer. IsTrue (B.says call.now answer)) }
     {
-        match self.kept(call) {
-            Some(answer) => answer.clone().ok(),
-            None => None,
+        // For the proof: a clone of what is said is said.
+        let _ = &self.table;
+        let answer = self.kept(call)?;
+        match answer.clone() {
+            Ok(own) => Some(own),
+            Err(_) => None,
         }
     }
 

@@ -1,8 +1,8 @@
 use Rattle.comemo_kept.proofs.Sayings.{said_put}
 use Rattle.comemo_kept.proofs.answers.Answers.keep.Goals as goal
 
-pub invariant_of-self : goal.invariant_of-self
-invariant_of-self g c =
+pub invariant_of-self-2 : goal.invariant_of-self-2
+invariant_of-self-2 g c =
     let alike = c.self.invariant.alike in
     let calls = g.met.C.Call.laws.clones c.args.call.now c.in_ok-key.key c.in_ok-key.ensures.cases in
     let answers = g.met.R.Answer.clones c.args.answer.now c.in_ok-kept.kept c.in_ok-kept.ensures.cases in
