@@ -6,14 +6,14 @@ use Rattle.std.specs.Cmp.{IsEquivalence}
 use Rattle.std.specs.HashMap.{HashMap, Updates}
 use Rattle.std.specs.Map.{lookup}
 use Rattle.comemo.specs.Answers.{Respects}
-use Rattle.comemo.proofs.Paths.{joined, turned}
+use Rattle.comemo.proofs.Paths.{joined}
+use Rattle.comemo.proofs.Texts.{told_of_equal}
 use Rattle.comemo_kept.specs.Saying.{SaysAlike, SaysJust}
 
 -- a value's answers, up to equality, are alike for equal calls
 pub alike_of : {C R : Type 0} {eq : C → C → Bool} {same : R → R → Bool} (laws : IsEquivalence same) (m : C → R) → Respects eq same m → (says : C → R → Bool) → SaysJust says same m → SaysAlike eq same says
 alike_of laws m respects says is c d a b calls answers said =
-    let of_equal = joined laws (m d) (m c) a (turned laws (m c) (m d) (respects c d calls)) (sym (is c a) ∙ said) in
-    is d b ∙ joined laws (m d) a b of_equal answers
+    is d b ∙ joined laws (m d) a b (told_of_equal m respects laws c d a calls (sym (is c a) ∙ said)) answers
 
 -- where an answer is put under a call that it is said of, what is found is still said
 pub said_put : {C R S : Type 0} {eq : C → C → Bool} {same : R → R → Bool} (laws : IsEquivalence same) (says : C → R → Bool) → SaysAlike eq same says → (before after : HashMap C R S) (key : C) (kept : R) → IsTrue (says key kept) → Updates eq before after key (Some kept)
