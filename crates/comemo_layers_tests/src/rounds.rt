@@ -30,12 +30,13 @@ fn sums<T: Track<Call = Get, Answer = u64>>(
 }
 
 /// The total of the sums of neighbours, for the first places.
-struct Sums {
+#[derive(Drop)]
+struct AllSums {
     alloc: Global,
     count: u32,
 }
 
-impl Job<Get, u64> for Sums {
+impl Job<Get, u64> for AllSums {
     type Output = Result<u64, AllocError>;
 
     // the test compares totals
@@ -47,6 +48,7 @@ impl Job<Get, u64> for Sums {
 }
 
 /// The sum of the numbers at two places.
+#[derive(Drop)]
 struct OneSum {
     alloc: Global,
     places: (u32, u32),
@@ -108,7 +110,7 @@ fn a_kept_answer_is_asked_once(rt: HostRuntime) -> Result<(), Fail> {
     let value = Counted::new(7);
     let plain = sums(alloc, 100, &value)?;
     assert_eq!(rt; value.asked(), 200);
-    let total = with_kept(alloc, &value, Sums { alloc, count: 100 })?;
+    let total = with_kept(alloc, &value, AllSums { alloc, count: 100 })?;
     assert_eq!(rt; total, plain);
     assert_eq!(rt; value.asked(), 301);
     assert_eq!(rt; sum_of_kept(alloc, &value, (3, 3))?, 14);
