@@ -3,12 +3,12 @@ ghost use Rattle.comemo_kept.specs.Saying.{SaysJust};
 
 use crate::answers::Says;
 use crate::kept::Kept;
-use comemo::Track;
+use comemo::{Answer, Call, Track};
 use std::alloc::Global;
 use std::marker::Brand;
 
 /// What is done on a tracked value, whatever its type is, with these calls and answers.
-pub trait Job<C, R> {
+pub trait Job<C: Call, R: Answer> {
     /// What it returns.
     type Output;
 
