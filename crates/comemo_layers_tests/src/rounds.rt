@@ -125,7 +125,11 @@ fn threads_share_what_is_kept(rt: HostRuntime) -> Result<(), Fail> {
         let value = Counted::new(7);
         let [first, second] = asked_in_threads::<_, Brand>(&rt, alloc, threads, &value)?;
         assert_eq!(rt; first.0, total);
-        assert!(rt; 101 <= first.1 && first.1 <= most, "{threads} threads asked {} times", first.1);
+        assert!(rt;
+            101 <= first.1 && first.1 <= most,
+            "{threads} threads asked {} times",
+            first.1
+        );
         assert_eq!(rt; second, (total, first.1));
     }
     Ok(())
