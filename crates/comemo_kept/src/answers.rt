@@ -1,5 +1,5 @@
 //! The answers that a value gave, and their name in types.
-ghost use Rattle.std.specs.Prelude.{◌≡◌, [], Bool, true, IsTrue, IfSome, OnErr};
+ghost use Rattle.std.specs.Prelude.{◌≡◌, [], Bool, true, IsTrue, IfSome, OnOk, OnErr, Some};
 ghost use Rattle.std.specs.Option.{option_copied};
 ghost use Rattle.std.specs.Map.{lookup};
 ghost use Rattle.comemo_kept.specs.Saying.{SaysAlike};
@@ -80,7 +80,8 @@ impl<C: Call, R: Answer, B: Says<C, R>> Answers<C, R, B> {
     /// Keeps an answer to a call. Fails if out of memory; nothing changes then.
     pub fn keep(&mut self, call: &C, answer: &R) -> Result<(), AllocError>
         requires { IsTrue (B.says call.now answer.now) }
-        ensures { OnErr result (self.new ≡ self.old) }
+        ensures kept { OnOk result ((kept : R) × (lookup (C.eq call.now) self.new ≡ Some kept)) }
+        ensures err { OnErr result (self.new ≡ self.old) }
     {
         let key = call.clone()?;
         let kept = answer.clone()?;
