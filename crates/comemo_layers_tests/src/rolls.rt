@@ -6,10 +6,10 @@ ghost use Rattle.comemo_layers_tests.specs.RollTells.{TellsRolled};
 ghost use Rattle.comemo.specs.Recursive.{TellsOwn};
 ghost use Rattle.comemo.specs.MeaningLaws.{output_laws};
 ghost use Rattle.comemo_layers_tests.specs.Rolls.{plus, rolled, rolled_at, total};
-ghost use Rattle.comemo_layers_tests.specs.RollLaws.{places_clone, total_alike};
+ghost use Rattle.comemo_layers_tests.specs.RollLaws.{places_alike, places_clone};
 
 use comemo::internal::Told;
-use comemo::{Begun, Cache, Fault, Function, Hold, Recorder, Run};
+use comemo::{Begun, Cache, Fault, Function, Hold, How, Recorder, Reply, Run};
 use comemo_branches::map_in_threads;
 use comemo_cutoff::{Cells, Get};
 use std::marker::Sync;
@@ -69,10 +69,11 @@ impl Function for Total {
     ghost means = { λ places m out. out ≡ total m places.items };
 
     ghost laws = { output_laws (Prim.search rules) (λ x y h. places_clone x.items y.items h.0)
-        (λ j k m r e. total_alike m j.items k.items e) };
+        (λ j k m r e. places_alike (total m) j.items k.items e) };
 }
 
-/// The total of these places, kept in a cache. Its numbers are found in branches, through a cache that threads share.
+/// The total of these places, kept in a cache, and how the call ended. Its numbers are found in branches, through a cache
+/// that threads share.
 ///
 /// It is not a `Run`: the checker knows a bound `Sync` in functions alone, so a method of a trait may start no thread.
 pub fn totalled<R: Threads + Wait + Sync, H: Hold<Total>>(
@@ -82,16 +83,21 @@ pub fn totalled<R: Threads + Wait + Sync, H: Hold<Total>>(
     totals: &mut H,
     places: &Vec<u32>,
     of: &mut Recorder<'_, Cells>,
-) -> Result<u64, Fault>
+) -> Result<Reply<u64>, Fault>
     ensures { TellsOwn ⟦<Cells as Told>⟧.fits of.old of.new result
-        (λ out m. out ≡ total m places.now.items) }
+        (λ reply m. reply.output ≡ total m places.now.items) }
 {
     let mut run = match of.begin(totals, places)? {
-        Begun::Hit(total) => return Ok(total),
+        Begun::Hit(output) => {
+            return Ok(Reply {
+                output,
+                how: How::Hit,
+            });
+        }
         Begun::Run(run) => run,
     };
     let numbers = rolled_each(rt, threads, cache, places.as_slice(), &mut run.recorder)?;
-    of.finish(totals, places, run, added(numbers.as_slice()))
+    of.finish_reply(totals, places, run, added(numbers.as_slice()))
 }
 
 /// The numbers of these places, each found in a branch.
@@ -117,7 +123,7 @@ fn rolled_each<R: Threads + Wait + Sync>(
 }
 
 /// The number of a place, through the cache.
-fn rolled_in_branch<R: Wait>(
+pub fn rolled_in_branch<R: Wait>(
     rt: &R,
     cache: &Cache<Rolled>,
     place: u32,
@@ -130,7 +136,7 @@ fn rolled_in_branch<R: Wait>(
 }
 
 /// The sum of numbers, which wraps at 64 bits.
-fn added(numbers: &[u64]) -> u64
+pub fn added(numbers: &[u64]) -> u64
     ensures { result ≡ fold plus 0 numbers.now }
 {
     let mut total = 0u64;
