@@ -1,5 +1,5 @@
 //! The program `refused`: runs the rows that go on when they run out of memory, and prints `rows ok` or the first that
-//! was wrong. `./refuse` makes each of its allocations fail in turn.
+//! was wrong. `tools/refuse` makes each of its allocations fail in turn.
 #![tactic(auto)]
 
 use bench_rows::run_scarce_rows;

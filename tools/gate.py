@@ -1,7 +1,7 @@
 #!/usr/bin/env python3
 """Runs the gate, `rt ci`, and writes what each crate took into the table of docs/gate.md.
 
-    python3 docs/gate.py [ARGUMENT OF rt ci ..]
+    python3 tools/gate.py [ARGUMENT OF rt ci ..]
 
 It prints what `rt ci` prints, and ends with its status. Twice a second it reads from /proc the processor time of each process
 of the prover and of those that it started. The prover's command line names the crate, and tells whether the crate is proved,
@@ -90,7 +90,7 @@ def write(seconds, taken):
     table, minutes = table_of(taken)
     told = f"The whole took {seconds / 60:.0f} minutes on {os.cpu_count()} cores, and {minutes:.0f} processor minutes.\n\n{table}\n"
     text = PAGE.read_text(encoding="utf-8")
-    begin, end = "<!-- by docs/gate.py -->\n", "<!-- end -->\n"
+    begin, end = "<!-- by tools/gate.py -->\n", "<!-- end -->\n"
     before, _, rest = text.partition(begin)
     PAGE.write_text(f"{before}{begin}{told}{end}{rest.partition(end)[2]}", encoding="utf-8")
 

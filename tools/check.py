@@ -1,45 +1,54 @@
 #!/usr/bin/env python3
 """Checks that what the documents name is there.
 
-- Each path, crate, file of definitions or of lemmas, and edit that they name exists; an edit of the gate, unless the line names `./planted`.
+- Each path, crate, file of definitions or of lemmas, and edit that they name exists; an edit of the gate, unless the line names `tools/planted` or begins with *Planted*.
 - Each `Type::member` and `module::item` that they name exists in crates/*/src, and so does the function of each
   `CRATE/src/FILE.rt:FUNCTION`. The first column of docs/DIFFERENCES.md and its last section name the
   original's items, and are left out.
 - docs/ARCHITECTURE.md names each crate of crates.txt, and no crate or module names in its code what the table of layers there forbids.
 - Each module of a crate has a comment at its head.
-- Each README.md of crates/NAME/must-fail and crates/NAME/planted lists the edits of its folder, all and no others.
+- Each README.md of crates/NAME/must-fail and crates/NAME/planted lists the edits of its folder, all and no others. README.md
+  says how many there are.
 - No crate but those named `*_tests`, and the small `weather`, has a test, not even in a comment: `rt` would prove it
   twice.
 - Each line of code that README.md, docs/GUIDE.md and docs/BY_HAND.md quote stands in a file of crates/, laid out so or otherwise, and each
   file that docs/START.md shows is shown whole.
 - Each block of docs/PROMISES.md stands so in a file of definitions of `comemo_theorems`, but for how far it is indented.
 - The `old:` text of each edit stands exactly once in its file, as the earlier pairs of that edit leave it.
+- Each lemma is cited by code, by a proof or by a document.
+- crates/comemo/CALLING.md is as `tools/calling.py` writes it, and each picture as `tools/pictures.py` does.
 - No document has more words than its budget. The marks of tables and lists are no words.
 
 Prints what is missing, a line for each, and exits with 1; or prints one line of counts and exits with 0.
 """
 import re
 import sys
-from pathlib import Path
+from collections import Counter
 
-ROOT = Path(__file__).resolve().parent.parent
+import calling
+import pictures
+import sources
+from sources import ROOT, names_of
+
 missing, paths, cited, hops = [], set(), set(), set()
 # What rt makes, and what is the original's: neither stands in the repository.
 ELSEWHERE = ("out", "examples")
 # How many words a document may have.
 BUDGETS = {
-    "README.md": 700,
+    "README.md": 800,
+    "CONTRIBUTING.md": 750,
+    "CHANGELOG.md": 300,
     "docs/START.md": 1000,
     "docs/GUIDE.md": 3250,
     "docs/BY_HAND.md": 700,
-    "docs/LEMMAS.md": 600,
-    "docs/PROMISES.md": 2000,
-    "docs/CLAUSES.md": 2850,
-    "docs/ARCHITECTURE.md": 1550,
-    "docs/DECISIONS.md": 2950,
-    "docs/DIFFERENCES.md": 1350,
-    "docs/MEASUREMENTS.md": 1100,
-    "docs/gate.md": 700,
+    "docs/LEMMAS.md": 640,
+    "docs/PROMISES.md": 2050,
+    "docs/CLAUSES.md": 3275,
+    "docs/ARCHITECTURE.md": 2010,
+    "docs/DECISIONS.md": 3390,
+    "docs/DIFFERENCES.md": 1400,
+    "docs/MEASUREMENTS.md": 1265,
+    "docs/gate.md": 780,
 }
 
 
@@ -55,34 +64,13 @@ def name_of(path):
     return str(path.relative_to(ROOT))
 
 
-CRATES = [line.partition(":")[0].split()[0] for line in read(ROOT / "crates.txt").splitlines() if re.match(r"\w+.*:", line)]
-
-
-def sources():
-    """The files of code, each with its crate."""
-    for file in sorted(ROOT.glob("crates/*/src/**/*.rt")):
-        yield file.relative_to(ROOT / "crates").parts[0], file
-
-
-def without_parameters(text):
-    """A type without what stands in angle brackets."""
-    while (less := re.sub(r"<[^<>]*>", "", text.replace("->", ""))) != text:
-        text = less
-    return text
-
-
-def owners_of(header):
-    """The types and traits that a header of an `impl`, a trait, a struct or an enum gives members to."""
-    if not header.startswith("impl"):
-        return [re.search(r"(?:trait|struct|enum) (\w+)", header)[1]]
-    bare = without_parameters(header).split(" where ")[0]
-    return [re.sub(r"\W", "", part.split("::")[-1]) for part in bare.removeprefix("impl").partition("{")[0].split(" for ")]
+CRATES = sources.crates()
 
 
 def items():
     """For each type, trait, module and crate the names that stand in it; and the names that come from std."""
     named, foreign = {}, set()
-    for crate, file in sources():
+    for crate, file in sources.files():
         text = read(file)
         for names in re.findall(r"^use std::([^;]*);", text, re.M):
             foreign |= set(re.findall(r"\w+", names))
@@ -96,7 +84,7 @@ def items():
         )
         for header, body in blocks:
             members = re.findall(r"^    (?:pub(?:\(\w+\))? )?(?:final )?(?:(?:const|fn|type|ghost) )?(\w+)", body, re.M)
-            for owner in owners_of(re.sub(r"^pub(\(\w+\))? |unsafe ", "", " ".join(header.split()))):
+            for owner in names_of(re.sub(r"^pub(\(\w+\))? |unsafe |\{$", "", " ".join(header.split()))):
                 named.setdefault(owner, set()).update(members)
     return named, foreign
 
@@ -176,12 +164,12 @@ def check_document(path):
             if not (ROOT / code).is_file() and not (path.parent / code).is_file():
                 say(where, f"{code} is named without its folder")
         elif re.fullmatch(r"[a-z]\w*\.[a-z0-9]+(_[a-z0-9]+)+", code):
-            # A line that names `./planted` names edits that it tries.
+            # Such a line names edits that `tools/planted` tries.
             line = next(it for it in prose.splitlines() if f"`{code}`" in it)
-            kind = folder or ("planted" if "`./planted`" in line else "must-fail")
+            kind = folder or ("planted" if "`tools/planted`" in line or line.startswith("*Planted:*") else "must-fail")
             if not any(ROOT.glob(f"crates/{at or '*'}/{kind}/{code}.edit")):
                 say(where, f"no edit {code}")
-    for word in re.findall(r"(?<![\w/.])docs/[\w./-]*\w", text):
+    for word in re.findall(r"(?<![\w/.])(?:docs|tools)/[\w./-]*\w", text):
         check_path(where, word, None)
     for word in re.findall(r"(?<![\w/.-])crates/[\w./+-]*\w", text):
         check_path(where, word, None)
@@ -209,7 +197,7 @@ def check_crates():
     for folder in (ROOT / "crates").iterdir():
         if folder.is_dir() and folder.name not in CRATES:
             say("crates.txt", f"{folder.name} is not listed")
-    for _, file in sources():
+    for _, file in sources.files():
         if not read(file).startswith("//! "):
             say(name_of(file), "has no comment at its head")
 
@@ -222,7 +210,7 @@ def check_layers():
     if not rows:
         say(where, "no table of layers")
     for crates, words in zip(rows[::2], rows[1::2]):
-        for _, file in sources():
+        for _, file in sources.files():
             module = str(file.relative_to(ROOT / "crates").with_suffix("")) + "/"
             if not any(module.startswith(f"{it}/") for it in crates) or file.stem in ("lib", "main"):
                 continue
@@ -241,8 +229,7 @@ def check_budgets():
 
 def check_tests():
     """`rt` takes a crate for one of tests at the first test attribute that it reads, also in a comment."""
-    for file in sorted(ROOT.glob("crates/*/src/**/*.rt")):
-        crate = file.relative_to(ROOT / "crates").parts[0]
+    for crate, file in sources.files():
         if crate != "weather" and not crate.endswith("_tests") and re.search(r"#\s*\[[^]]*\btest\b", read(file)):
             say(name_of(file), "has a test attribute, and is not of a crate of tests")
 
@@ -288,6 +275,10 @@ def check_edits():
             say(name_of(list_of), f"{name} is listed twice")
     for edit in edits:
         check_edit(edit)
+    for kind, told in (("must-fail", r"tries (\d+) wrong bodies"), ("planted", r"# (\d+) more, after")):
+        count, found = sum(it.parent.name == kind for it in edits), re.search(told, read(ROOT / "README.md"))
+        if not found or int(found[1]) != count:
+            say("README.md", f"the folders {kind} have {count} edits")
     return len(edits)
 
 
@@ -341,14 +332,36 @@ def check_theorems():
     return len(blocks)
 
 
+def check_lemmas():
+    """A name that is declared and defined in a file of lemmas or definitions, and stands nowhere else, is of no use."""
+    files = [it for kind in ("rt", "antt") for it in sorted(ROOT.glob(f"crates/*/*/**/*.{kind}")) if "/out/" not in str(it)]
+    texts = {it: re.sub(r"(^|\s)(--|//).*", "", read(it)) for it in [*files, *ROOT.glob("docs/*.md")]}
+    counts = Counter(word for text in texts.values() for word in re.findall(r"[\w'-]+", text))
+    for file, text in texts.items():
+        if file.suffix == ".antt" and file.parent.name in ("specs", "proofs"):
+            for name in re.findall(r"^ *(?:abbrev )?(?:pub )?([\w'-]+) : .*\n *\1(?![\w'-])", text, re.M):
+                if counts[name] == 2:
+                    say(name_of(file), f"nothing cites {name}")
+
+
+def check_written():
+    """What a script writes is as it would write it now."""
+    for script in (calling, pictures):
+        for file, text in script.written().items():
+            if not file.is_file() or read(file) != text:
+                say(name_of(file), f"is not as tools/{script.__name__}.py writes it")
+
+
 def main():
-    documents = [ROOT / "README.md", *sorted(ROOT.glob("docs/*.md")), *sorted(ROOT.glob("crates/*/must-fail/README.md")), *sorted(ROOT.glob("crates/*/planted/README.md"))]
-    for document in documents:
-        check_document(document)
+    for pattern in ("*.md", "docs/*.md", "crates/*/README.md", "crates/*/must-fail/README.md", "crates/*/planted/README.md"):
+        for document in sorted(ROOT.glob(pattern)):
+            check_document(document)
     check_crates()
     check_layers()
     check_tests()
     check_budgets()
+    check_lemmas()
+    check_written()
     edits = check_edits()
     lines = check_quotes()
     theorems = check_theorems()
