@@ -39,16 +39,21 @@ module _ {V C R A : Type 0} {fits : Recording C R → (C → R) → Type 0} {P :
   goes_on_then e before next = inl (next.complete ∙ before.complete, λ m f. before.before m (next.before m f))
 
   -- and if it wasn't joined
-  pub goes_on_from : {X B : Type 0} {s t u : Recorded V C R} (end : Result (X × B) Fault) (e : Fault) → TellsOwn fits s t (Ok a) P → NotJoined t u end e → GoesOn fits s u e
-  goes_on_from (Ok x) e before failed = inr (failed.0, failed.1.recording.complete)
-  goes_on_from {s = s} (Err f) e before failed = subst (λ v. GoesOn fits s v e) (sym failed.1) (goes_on e before)
+  pub goes_on_from : {X B : Type 0} {s t : Recorded V C R} (u : Recorded V C R) (end : Result (X × B) Fault) (e : Fault) → TellsOwn fits s t (Ok a) P → NotJoined t u end e → GoesOn fits s u e
+  goes_on_from u (Ok x) e before failed = inr (failed.0, failed.1.recording.complete)
+  goes_on_from {s = s} u (Err f) e before failed = subst (λ v. GoesOn fits s v e) (sym failed.1) (goes_on e before)
 
 -- the fault of a branch that wasn't joined
-pub memory_or : {V C R X B : Type 0} {t u : Recorded V C R} (ran : Result X Fault → B → Type 0) (end : Result (X × B) Fault) (e : Fault) → MayEnd ran end → NotJoined t u end e → (e ≡ fault.Memory) ⊎ MayFail ran e
-memory_or ran (Ok x) e ended failed = inl failed.0
-memory_or ran (Err fault.Incomplete) e ended failed = inl failed.0
-memory_or ran (Err fault.Memory) e ended failed = inl failed.0
-memory_or ran (Err fault.Write) e ended failed = inr (subst (λ f. MayFail ran f) (sym failed.0) ended)
+pub memory_or : {V C R X B : Type 0} (t u : Recorded V C R) (ran : Result X Fault → B → Type 0) (end : Result (X × B) Fault) (e : Fault) → MayEnd ran end → NotJoined t u end e → (e ≡ fault.Memory) ⊎ MayFail ran e
+memory_or t u ran (Ok x) e ended failed = inl failed.0
+memory_or t u ran (Err fault.Incomplete) e ended failed = inl failed.0
+memory_or t u ran (Err fault.Memory) e ended failed = inl failed.0
+memory_or t u ran (Err fault.Write) e ended failed = inr (subst (λ f. MayFail ran f) (sym failed.0) ended)
+
+-- a branch that failed, whose fault was passed on
+pub may_fail : {P X : Type 0} (ran : Result X Fault → P → Type 0) (r : Result (X × P) Fault) (e : Fault) (left : P) (came : Result X Fault) → IsErrAnd r (λ x. x ≡ e) → came ≡ Err e → ran came left → MayEnd ran r
+may_fail ran (Ok x) e left came h was failed = absurd h
+may_fail ran (Err f) e left came h was failed = (left, subst (λ z. ran (Err z) left) (sym h) (subst (λ z. ran z left) was failed))
 
 -- an item of a list that has one
 pub some_item : {J : Type 0} (xs : List J) (i : ℕ) → i < length xs → J
@@ -63,7 +68,7 @@ module _ {P V C R X : Type 0} (seen : P → Recorded V C R) (ran : Result X Faul
 
   -- what was taken of it, was taken of a branch that gave this output
   pub took_one : (took : Recorded V C R → Recorded V C R → List (C × R) → Type 0) (t u : Recorded V C R) (y : X) (r : Result (X × P) Fault) → MayEnd ran r → GaveTo seen (λ recording. took t u recording.pairs) r y → TookOne seen took ran t u y
-  took_one took t u y (Ok e) ended gave = (e.1, (subst (λ o. ran (Ok o) e.1) gave.0 ended, gave.1))
+  took_one took t u y (Ok e) ended gave = (e.1, subst (λ o. ran (Ok o) e.1) gave.0 ended, gave.1)
   took_one took t u y (Err e) ended gave = absurd gave
 
 module _ {F P J V C R X : Type 0} (g : Shared F (MutBor P × (Bor J × Unit {0})) (Result X Fault × (MutBor P × Unit {0}))) (f : F) (seen : P → Recorded V C R) (outer : Recorded V C R) where
@@ -82,10 +87,10 @@ module _ {F P J V C R X : Type 0} (g : Shared F (MutBor P × (Bor J × Unit {0})
 
   module _ (took : Recorded V C R → Recorded V C R → List (C × R) → Type 0) where
     took_push : (s t u : Recorded V C R) (xs : List J) (ys : List X) (x : J) (y : X) → TookEach g f seen outer took s t xs ys → TookOne seen took (BranchRan g f seen outer x) t u y → TookEach g f seen outer took s u (xs ++ x ∷ []) (ys ++ y ∷ [])
-    took_push s t u [] [] x y before next = (u, (subst (λ r. TookOne seen took (BranchRan g f seen outer x) r u y) before next, refl))
+    took_push s t u [] [] x y before next = (u, subst (λ r. TookOne seen took (BranchRan g f seen outer x) r u y) before next, refl)
     took_push s t u [] (o ∷ ys) x y before next = absurd before
     took_push s t u (z ∷ xs) [] x y before next = absurd before
-    took_push s t u (z ∷ xs) (o ∷ ys) x y before next = (before.0, (before.1.0, took_push before.0 t u xs ys x y before.1.1 next))
+    took_push s t u (z ∷ xs) (o ∷ ys) x y before next = (before.0, before.1, took_push before.0 t u xs ys x y before.2 next)
 
     -- one branch more
     pub took_more : (s t u : Recorded V C R) (items : List J) (i : ℕ) (x : J) (ys zs : List X) (y : X) → i < length items → x ≡ get_or items i x → TookEach g f seen outer took s t (take i items) ys → TookOne seen took (BranchRan g f seen outer x) t u y → zs ≡ ys ++ y ∷ [] → TookEach g f seen outer took s u (take (i + 1) items) zs
@@ -96,16 +101,15 @@ module _ {F P J V C R X : Type 0} (g : Shared F (MutBor P × (Bor J × Unit {0})
     fails_after s t [] (o ∷ ys) x rest e before failed = absurd before
     fails_after s t (z ∷ xs) [] x rest e before failed = absurd before
     fails_after s t (z ∷ xs) (o ∷ ys) x rest e before failed =
-        let took_z = before.1.0 in
-        inr ((o, (took_z.0, took_z.1.0)), fails_after before.0 t xs ys x rest e before.1.1 failed)
+        inr ((o, before.1.0, before.1.1), fails_after before.0 t xs ys x rest e before.2 failed)
 
     -- a branch that wasn't joined, after those that were
     pub first_fails : (s t u : Recorded V C R) (items : List J) (i : ℕ) (x : J) (ys : List X) (end : Result (X × P) Fault) (e : Fault) → i < length items → x ≡ get_or items i x → TookEach g f seen outer took s t (take i items) ys → MayEnd (BranchRan g f seen outer x) end → NotJoined t u end e → (e ≡ fault.Memory) ⊎ FirstFails g f seen outer items e
     first_fails s t u items i x ys end e within is before ended failed =
-        elim (memory_or (BranchRan g f seen outer x) end e ended failed) [
+        elim (memory_or t u (BranchRan g f seen outer x) end e ended failed) [
           | inl memory ↦ inl memory
           | inr of_branch ↦
-                inr (subst (λ l. FirstFails g f seen outer l e) (sym (subst (λ z. items ≡ take i items ++ z ∷ drop (suc i) items) (sym is) (split_at items i x within))) (fails_after s t (take i items) ys x (drop (suc i) items) e before of_branch))
+              inr (subst (λ l. FirstFails g f seen outer l e) (sym (subst (λ z. items ≡ take i items ++ z ∷ drop (suc i) items) (sym is) (split_at items i x within))) (fails_after s t (take i items) ys x (drop (suc i) items) e before of_branch))
         ]
 
 module _ {F P V C R X : Type 0} (g : Once F (MutBor P × Unit {0}) (Result X Fault × (MutBor P × Unit {0}))) (f : F) (seen : P → Recorded V C R) (outer : Recorded V C R) where

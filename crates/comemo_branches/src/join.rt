@@ -72,8 +72,12 @@ fn run_parts<
     }
     join(
         rt,
-        move || requires { F.IsAlwaysCallable first } { run_part(of, first) },
-        move || requires { G.IsAlwaysCallable second } { run_part(of, second) },
+        move ||
+            requires { F.IsAlwaysCallable first }
+        { run_part(of, first) },
+        move ||
+            requires { G.IsAlwaysCallable second }
+        { run_part(of, second) },
     )
 }
 

@@ -32,7 +32,7 @@ returns-in_err-output-clause-fault g c =
 
 pub returns-in_err-output-clause-goes_on : goal.returns-in_err-output-clause-goes_on
 returns-in_err-output-clause-goes_on g c =
-    handed c.from_residual.result c.in_err-output.field-0.0 c.from_residual.ensures.1 (λ e. GoesOn g.P.Branch.fits (g.P.Branch.seen c.args.of.now) (g.P.Branch.seen c.join_one.new.of) e) (goes_on_from c.run_branch-ended.result c.in_err-output.field-0.0 c.loop-item.invariant.told c.in_err-output.ensures.fault)
+    handed c.from_residual.result c.in_err-output.field-0.0 c.from_residual.ensures.1 (λ e. GoesOn g.P.Branch.fits (g.P.Branch.seen c.args.of.now) (g.P.Branch.seen c.join_one.new.of) e) (goes_on_from (g.P.Branch.seen c.join_one.new.of) c.run_branch-ended.result c.in_err-output.field-0.0 c.loop-item.invariant.told c.in_err-output.ensures.fault)
 
 pub returns-in_err-keep-clause-told : goal.returns-in_err-keep-clause-told
 returns-in_err-keep-clause-told g c = own_memory c.from_residual-in_err-keep.result (c.join_one.ensures.told.same_value ∙ c.loop-item.invariant.told.same_value) c.from_residual-in_err-keep.ensures.1
