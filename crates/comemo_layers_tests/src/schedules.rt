@@ -1,7 +1,7 @@
 //! Branches of a run by one thread and by several: the same output, the same recording, and the same ends of calls.
 
 use crate::rolls::{Rolled, Total, totalled};
-use comemo::{Cache, CacheData, Explanation, How, Recorder, Reply, Track, explain};
+use comemo::{Cache, CacheData, Explanation, Fault, How, Recorder, Reply, Track, explain};
 use comemo_cutoff::{Cells, Get};
 use std::alloc::{AllocError, Global};
 use std::marker::Sync;
@@ -27,7 +27,7 @@ fn first_places(alloc: Global, count: u32) -> Result<Vec<u32>, AllocError> {
 }
 
 /// Whether a call returned this total and ended so.
-fn is_total<E>(reply: Result<Reply<u64>, E>, total: u64, how: How) -> bool {
+fn is_total(reply: Result<Reply<u64>, Fault>, total: u64, how: How) -> bool {
     match reply {
         Ok(reply) => reply.output == total && reply.how == how,
         Err(_) => false,
