@@ -13,7 +13,7 @@ use Rattle.comemo.specs.Recursive.{TellsOwn}
 use Rattle.comemo.specs.declared.pending.Fault.{Fault}
 use Rattle.comemo.specs.declared.pending.Fault.TheVariants as fault
 use Rattle.comemo.proofs.Recursions.{own_as, own_then}
-use Rattle.comemo_branches.specs.Branches.{GoesOn, returned, NotJoined, MayFail, MayGive, MayEnd, IsEnded, GaveTo, Keeps, TookOne, BranchRan, BranchTold, TookEach, FirstFails, PartRan, PartTold}
+use Rattle.comemo_branches.specs.Branches.{GoesOn, NotJoined, MayFail, MayEnd, IsEnded, GaveTo, Keeps, TookOne, BranchRan, BranchTold, TookEach, FirstFails, PartRan, PartTold}
 
 -- no output yet
 pub told_none : {V C R J X : Type 0} {fits : Recording C R → (C → R) → Type 0} {s : Recorded V C R} (D : (C → R) → J → X → Type 0) {O : Type 0} (list : O → List X) (items : List J) {a : O} → list a ≡ [] → TellsOwn fits s s (Ok a) (λ o m. AllZip (D m) (take 0 items) (list o))

@@ -144,7 +144,8 @@ fn branches_within_branches_share_the_threads(rt: HostRuntime) -> Result<(), All
     for threads in THREADS {
         // Place i has the number 3 i + 1.
         let came = total_and_most(&rt, alloc, threads, &cells);
-        let is_so = matches!(came, Some((total, most)) if total == 3 * 1023 * 512 + 1024 && most <= threads.max(1));
+        let is_so =
+            matches!(came, Some((total, most)) if total == 3 * 1023 * 512 + 1024 && most <= threads.max(1));
         assert!(rt; is_so, "{came:?} by {threads}");
     }
     Ok(())

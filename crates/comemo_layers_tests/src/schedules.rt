@@ -36,11 +36,13 @@ fn is_total(reply: Result<Reply<u64>, Fault>, total: u64, how: How) -> bool {
 
 /// Whether a run asked the places 0, 1, .. in this order, if the last one is answered otherwise now.
 pub fn asked_in_order(said: Result<Explanation<Get, u64>, AllocError>, last: u32) -> bool {
-    let Ok(Explanation::Changed {
-        asked,
-        call,
-        answer: _,
-    }) = said
+    let Ok(
+        Explanation::Changed {
+            asked,
+            call,
+            answer: _,
+        },
+    ) = said
     else {
         return false;
     };

@@ -4,7 +4,7 @@ use Rattle.std.proofs.lemmas.Iterator.Consumers.{YieldsList-turn, YieldsList-end
 use Rattle.std.proofs.lemmas.Iterator.Adapters.{YieldsList-from_vec}
 use Rattle.comemo.proofs.Recursions.{handed, own_memory}
 use Rattle.comemo.specs.declared.pending.Fault.TheVariants as fault
-use Rattle.comemo_branches.specs.Branches.{BranchRan, BranchTold, FirstFails, GoesOn, MayEnd}
+use Rattle.comemo_branches.specs.Branches.{BranchRan, BranchTold, FirstFails, GoesOn}
 use Rattle.comemo_branches.proofs.Joining.{told_none, told_more, told_failed, goes_on_then, goes_on_from, some_item, ended_by, gave_told, took_one, took_more, first_fails}
 use Rattle.comemo_branches.proofs.ended.join_each.Goals as goal
 

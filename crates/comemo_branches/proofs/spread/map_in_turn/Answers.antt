@@ -2,7 +2,7 @@ use Rattle.std.proofs.Common.{Vec, Global, ◌∙◌, ◌≡◌, ◌⊎◌, refl
 use Rattle.std.proofs.lemmas.List.{take_all}
 use Rattle.comemo.proofs.Recursions.{handed, own_memory}
 use Rattle.comemo.specs.declared.pending.Fault.TheVariants as fault
-use Rattle.comemo_branches.specs.Branches.{BranchRan, BranchTold, FirstFails, GoesOn, MayEnd}
+use Rattle.comemo_branches.specs.Branches.{BranchRan, BranchTold, FirstFails, GoesOn}
 use Rattle.comemo_branches.proofs.Joining.{told_none, told_more, told_failed, goes_on_then, goes_on_from, end_from, ended_by, gave_told, took_one, took_more, first_fails}
 use Rattle.comemo_branches.proofs.spread.map_in_turn.Goals as goal
 
