@@ -86,12 +86,13 @@ fn each_asked<R: Threads + Sync>(
     )
 }
 
-/// Whether a run whose branches fail from a place on ends so, and what it stores is then found again.
+/// What a run returns whose branches fail from a place on, how it ends, and whether it recorded the places up to the last one
+/// before.
 fn ends<R: Threads + Sync>(
     rt: &R,
     alloc: Global,
     threads: usize,
-    failing: u32,
+    (failing, last): (u32, u32),
     (cells, changed): (&Cells, &Cells),
 ) -> Option<(bool, How, bool)> {
     let mut cache: CacheData<Anything> = CacheData::new(alloc);
@@ -99,7 +100,7 @@ fn ends<R: Threads + Sync>(
     let Ok(reply) = asked_up_to(rt, threads, &mut cache, failing, &mut recorder) else {
         return None;
     };
-    let is_recorded = asked_in_order(explain(alloc, &mut cache, &failing, changed), failing - 1);
+    let is_recorded = asked_in_order(explain(alloc, &mut cache, &failing, changed), last);
     Some((reply.output, reply.how, is_recorded))
 }
 
@@ -107,12 +108,12 @@ fn ends<R: Threads + Sync>(
 fn a_run_goes_on_without_branches(rt: HostRuntime) -> Result<(), AllocError> {
     let alloc = rt.alloc();
     let cells = Cells::new(alloc, 8)?;
-    // By the last place that a run asks before a fault of `Write`, or before none.
-    for (failing, is_whole) in [(4, false), (6, false), (8, true)] {
+    // The place from which branches fail with `Write`, the last one before it, and whether none fails.
+    for (failing, last, is_whole) in [(4, 3, false), (6, 5, false), (8, 7, true)] {
         let mut changed = Cells::new(alloc, 8)?;
-        changed.set(failing as usize - 1, 1000);
+        changed.set(last as usize, 1000);
         for threads in THREADS {
-            let came = ends(&rt, alloc, threads, failing, (&cells, &changed));
+            let came = ends(&rt, alloc, threads, (failing, last), (&cells, &changed));
             assert_eq!(rt; came, Some((is_whole, How::Stored, true)), "by {threads}");
         }
     }

@@ -1,8 +1,7 @@
 //! Branches of two kinds, and branches within branches.
-ghost use Rattle.std.specs.Prelude.{◌≡◌, ◌<◌, ◌+◌, ◌%◌, eqb};
+ghost use Rattle.std.specs.Prelude.{◌≡◌};
 ghost use Rattle.std.specs.Thread.{IsSync};
 ghost use Rattle.comemo.specs.Recursive.{TellsOwn};
-ghost use Rattle.comemo_cutoff.specs.declared.cells.Get.{Get};
 ghost use Rattle.comemo_layers_tests.specs.Rolls.{rolled_at, is_odd_at};
 ghost use Rattle.comemo_layers_tests.specs.RollTells.{TellsOdd, TellsRolled, TellsSomething};
 
@@ -48,7 +47,8 @@ fn is_odd(place: u32, of: &mut Recorder<'_, Cells>) -> Result<bool, Fault>
     ensures { TellsOwn ⟦<Cells as Told>⟧.fits of.old of.new result
         (λ odd m. odd ≡ is_odd_at m place) }
 {
-    Ok(of.ask(Get { place })? % 2 == 1)
+    let number = of.ask(Get { place })?;
+    Ok(number % 2 == 1)
 }
 
 #[test]
@@ -73,6 +73,7 @@ struct Gauge {
 
 /// The total of 2^depth places from this one on, which wraps at 64 bits. A branch within branches asks each, and each half
 /// has half of the threads.
+#[cycle(halves)]
 fn halved<R: Threads + Sync>(
     rt: &R,
     threads: usize,
@@ -90,19 +91,15 @@ fn halved<R: Threads + Sync>(
     let middle = first.wrapping_add(1u32.wrapping_shl(below));
     let lower = threads / 2;
     let upper = threads - lower;
-    let (left, right) = join_in_threads(
-        rt,
-        threads,
-        of,
-        |of: &mut Recorder<'_, Cells>| -> Result<u64, Fault>
-            requires { IsSync R.row × (below < depth) }
-            ensures { TellsSomething of.old of.new result }
-        { halved(rt, lower, gauge, first, below, of) },
-        |of: &mut Recorder<'_, Cells>| -> Result<u64, Fault>
-            requires { IsSync R.row × (below < depth) }
-            ensures { TellsSomething of.old of.new result }
-        { halved(rt, upper, gauge, middle, below, of) },
-    )?;
+    let low = |of: &mut Recorder<'_, Cells>| -> Result<u64, Fault>
+        requires { IsSync R.row }
+        ensures { TellsSomething of.old of.new result }
+    { halved(rt, lower, gauge, first, below, of) };
+    let high = |of: &mut Recorder<'_, Cells>| -> Result<u64, Fault>
+        requires { IsSync R.row }
+        ensures { TellsSomething of.old of.new result }
+    { halved(rt, upper, gauge, middle, below, of) };
+    let (left, right) = join_in_threads(rt, threads, of, low, high)?;
     Ok(left.wrapping_add(right))
 }
 

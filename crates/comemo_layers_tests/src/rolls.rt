@@ -9,7 +9,7 @@ ghost use Rattle.comemo_layers_tests.specs.Rolls.{plus, rolled, rolled_at, total
 ghost use Rattle.comemo_layers_tests.specs.RollLaws.{places_alike, places_clone};
 
 use comemo::internal::Told;
-use comemo::{Begun, Cache, Fault, Function, Hold, How, Recorder, Reply, Run};
+use comemo::{Begun, Cache, Fault, Function, Hold, Recorder, Run};
 use comemo_branches::map_in_threads;
 use comemo_cutoff::{Cells, Get};
 use std::marker::Sync;
@@ -72,8 +72,7 @@ impl Function for Total {
         (λ j k m r e. places_alike (total m) j.items k.items e) };
 }
 
-/// The total of these places, kept in a cache, and how the call ended. Its numbers are found in branches, through a cache
-/// that threads share.
+/// The total of these places, kept in a cache. Its numbers are found in branches, through a cache that threads share.
 ///
 /// It is not a `Run`: the checker knows a bound `Sync` in functions alone, so a method of a trait may start no thread.
 pub fn totalled<R: Threads + Wait + Sync, H: Hold<Total>>(
@@ -83,21 +82,16 @@ pub fn totalled<R: Threads + Wait + Sync, H: Hold<Total>>(
     totals: &mut H,
     places: &Vec<u32>,
     of: &mut Recorder<'_, Cells>,
-) -> Result<Reply<u64>, Fault>
+) -> Result<u64, Fault>
     ensures { TellsOwn ⟦<Cells as Told>⟧.fits of.old of.new result
-        (λ reply m. reply.output ≡ total m places.now.items) }
+        (λ out m. out ≡ total m places.now.items) }
 {
     let mut run = match of.begin(totals, places)? {
-        Begun::Hit(output) => {
-            return Ok(Reply {
-                output,
-                how: How::Hit,
-            });
-        }
+        Begun::Hit(total) => return Ok(total),
         Begun::Run(run) => run,
     };
     let numbers = rolled_each(rt, threads, cache, places.as_slice(), &mut run.recorder)?;
-    of.finish_reply(totals, places, run, added(numbers.as_slice()))
+    of.finish(totals, places, run, added(numbers.as_slice()))
 }
 
 /// The numbers of these places, each found in a branch.

@@ -1,7 +1,7 @@
 //! Branches of a run by one thread and by several: the same output, the same recording, and the same ends of calls.
 
 use crate::rolls::{Rolled, Total, totalled};
-use comemo::{Cache, CacheData, Explanation, Fault, How, Recorder, Reply, Track, explain};
+use comemo::{Cache, CacheData, Explanation, Recorder, Track, explain};
 use comemo_cutoff::{Cells, Get};
 use std::alloc::{AllocError, Global};
 use std::marker::Sync;
@@ -26,14 +26,6 @@ fn first_places(alloc: Global, count: u32) -> Result<Vec<u32>, AllocError> {
     Ok(places)
 }
 
-/// Whether a call returned this total and ended so.
-fn is_total(reply: Result<Reply<u64>, Fault>, total: u64, how: How) -> bool {
-    match reply {
-        Ok(reply) => reply.output == total && reply.how == how,
-        Err(_) => false,
-    }
-}
-
 /// Whether a run asked the places 0, 1, .. in this order, if the last one is answered otherwise now.
 pub fn asked_in_order(said: Result<Explanation<Get, u64>, AllocError>, last: u32) -> bool {
     let Ok(
@@ -54,7 +46,8 @@ pub fn asked_in_order(said: Result<Explanation<Get, u64>, AllocError>, last: u32
     asked.len() == last as usize && call.place == last
 }
 
-/// Whether a total of these places is stored by so many threads, as what its branches asked in order, and found again.
+/// Whether a total of these places is stored by so many threads, as what its branches asked in order, and found again. The
+/// run asks each place once, and so does the hit.
 fn is_stored<R: Threads + Wait + Sync>(
     rt: &R,
     alloc: Global,
@@ -66,11 +59,13 @@ fn is_stored<R: Threads + Wait + Sync>(
     let cache: Cache<Rolled> = Cache::new(alloc);
     let mut totals: CacheData<Total> = CacheData::new(alloc);
     let mut recorder = Recorder::new(alloc, cells.view(alloc));
+    let asked = cells.asked();
     let first = totalled(rt, threads, &cache, &mut totals, places, &mut recorder);
     let again = totalled(rt, threads, &cache, &mut totals, places, &mut recorder);
-    is_total(first, total, How::Stored)
-        && is_total(again, total, How::Hit)
-        && cache.contents(rt).entries == places.len()
+    first == Ok(total)
+        && again == Ok(total)
+        && cells.asked().wrapping_sub(asked) == 2 * u64::from(PLACES)
+        && (totals.contents().entries, cache.contents(rt).entries) == (1, places.len())
         && asked_in_order(explain(alloc, &mut totals, places, changed), PLACES - 1)
 }
 
