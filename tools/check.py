@@ -39,7 +39,7 @@ BUDGETS = {
     "CONTRIBUTING.md": 750,
     "CHANGELOG.md": 300,
     "docs/START.md": 1000,
-    "docs/GUIDE.md": 3250,
+    "docs/GUIDE.md": 3500,
     "docs/BY_HAND.md": 700,
     "docs/LEMMAS.md": 640,
     "docs/PROMISES.md": 2050,

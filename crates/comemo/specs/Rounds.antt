@@ -30,6 +30,11 @@ abbrev pub OnOutput : {K O : Type 0} → Turned K O → (O → Type 0) → Type 
 OnOutput (Output output) P = P output
 OnOutput (Needs key) P = Unit {0}
 
+-- it holds of the key, if the call needs the output at one
+abbrev pub OnNeeded : {K O : Type 0} → Turned K O → (K → Type 0) → Type 0
+OnNeeded (Output output) P = Unit {0}
+OnNeeded (Needs key) P = P key
+
 -- a fault is want of memory, or that of the function of a key
 abbrev pub FailsBy : {K : Type 0} → (K → Fault → Type 0) → RoundError K → Type 0
 FailsBy {K} fails (error.Fault f) = (f ≡ fault.Memory) ⊎ ((key : K) × fails key f)

@@ -1,7 +1,7 @@
 //! Rounds: while a value stays as it is, each output that is asked of it is looked up or computed once.
-ghost use Rattle.std.specs.Prelude.{◌≡◌, [], IsTrue, IfOk, IfErr, OnOk, OnErr, option_copied, IfSome, ⊤};
+ghost use Rattle.std.specs.Prelude.{◌≡◌, [], IsTrue, IfOk, IfErr, None, OnOk, OnErr, option_copied, IfSome, ⊤};
 ghost use Rattle.std.specs.Map.{lookup};
-ghost use Rattle.comemo.specs.Rounds.{Learns, OnOutput, FailsBy};
+ghost use Rattle.comemo.specs.Rounds.{Learns, OnOutput, OnNeeded, FailsBy};
 ghost use Rattle.comemo_base.specs.Sequence.{held};
 ghost use Rattle.comemo_track.specs.Answered.{StaysKnown};
 
@@ -162,6 +162,8 @@ impl<'a, T: Track, Q: Query<T>> Round<'a, T, Q> {
         ensures same { trail.new ≡ trail.old }
         ensures gives { IfOk result (λ turned. OnOutput turned (λ output.
             IsTrue (Q.Output.eq (Q.gives key.now (T.answers self.now.value)) output))) }
+        ensures needs { IfOk result (λ turned. OnNeeded turned (λ needed.
+            lookup (Q.At.eq needed) self.now.known ≡ None)) }
         ensures fault { IfErr result (P.fails key.now) }
     {
         let known = Known::new(self.of, &self.table);
@@ -171,10 +173,23 @@ impl<'a, T: Track, Q: Query<T>> Round<'a, T, Q> {
         *trail = Trail::new(Unknown::new(self.of), turn.into_trail());
         match provided {
             Ok(output) => Ok(Turned::Output(output)),
-            Err(fault) => match known.into_missing() {
-                Some(needed) => Ok(Turned::Needs(needed)),
-                None => Err(fault),
-            },
+            Err(fault) => {
+                let needed = self.needed_first(known.into_missing(), fault)?;
+                Ok(Turned::Needs(needed))
+            }
+        }
+    }
+
+    /// The key whose output a turn missed, if that isn't known; else the turn's fault.
+    fn needed_first(&self, missing: Option<Q::At>, fault: Fault) -> Result<Q::At, Fault>
+        ensures needs { IfOk result (λ needed.
+            lookup (Q.At.eq needed) self.now.known ≡ None) }
+        ensures fault { IfErr result (λ f. f ≡ fault) }
+    {
+        match missing {
+            // A clause knows nothing of the cell that the key comes from, so it is looked up once more.
+            Some(needed) if self.get(&needed).is_none() => Ok(needed),
+            _ => Err(fault),
         }
     }
 

@@ -1,85 +1,80 @@
-//! A tracked value that keeps the answers it gave.
-ghost use Rattle.std.specs.Prelude.{◌≡◌, Bool, true, false, IsTrue, IfOk};
+//! A tracked value that keeps the answers it gave, for one thread.
+ghost use Rattle.std.specs.Prelude.{◌≡◌, IsTrue, IfSome};
+ghost use Rattle.comemo_kept.specs.Saying.{SaysJust};
 
-use comemo::{Call, Top, Track, Tracked};
+use crate::answers::{Answers, Says};
+use comemo::{Call, Track};
 use std::alloc::{AllocError, Global};
 use std::cell::RefCell;
-use std::marker::{Brand, PhantomData};
-
-/// Which answers a value gives, as a name in types.
-///
-/// A function that keeps answers is generic over it, and is called with `Brand`; its caller picks the answers.
-pub trait Says<C, R> {
-    // whether this is the answer to the call, up to equality
-    ghost says: { C → R → Bool };
-}
-
-impl<C, R> Says<C, R> for Brand {
-    ghost says = { λ _ _. true };
-}
-
-/// A view that keeps answers, of a value with these answers.
-#[derive(Drop)]
-struct Named<'a, T: Track, B: Says<T::Call, T::Answer>> {
-    tracked: Tracked<'a, T>,
-    name: PhantomData<B>,
-    ghost same: { (call : T.Call) (answer : T.Answer)
-        → B.says call answer ≡ T.Answer.eq (T.answers tracked.value call) answer },
-}
-
-impl<'a, T: Track, B: Says<T::Call, T::Answer>> Named<'a, T, B> {
-    /// The answer to a read.
-    fn answer(&mut self, call: &T::Call) -> Result<T::Answer, AllocError>
-        requires { T.Call.is_write call.now ≡ false }
-        ensures { IfOk result (λ answer. IsTrue (B.says call.now answer)) }
-    {
-        let own = call.clone()?;
-        self.tracked.ask(own, &mut Top::new())
-    }
-}
+use std::marker::Model;
 
 /// A tracked value that keeps the answers it gave. The value behind it is asked each call once, while there is memory
-/// for what is kept.
+/// for what is kept. Contracts see that value.
+///
+/// `B` names the answers, since no clause knows what a cell holds. `with_kept` needs no such name.
 #[derive(Drop)]
 pub struct Kept<'a, T: Track, B: Says<T::Call, T::Answer>> {
     value: &'a T,
-    views: RefCell<Named<'a, T, B>>,
-    ghost same: { (call : T.Call) (answer : T.Answer)
-        → B.says call answer ≡ T.Answer.eq (T.answers value.now call) answer },
+    answers: RefCell<Answers<T::Call, T::Answer, B>>,
+}
+
+impl<'a, T: Track, B: Says<T::Call, T::Answer>> Model for Kept<'a, T, B> {
+    ghost use Rattle.comemo_kept.specs.Saying.{SaysJust};
+
+    ghost Value = { T };
+
+    ghost coded = { T.code };
+
+    ghost view = { λ s. s.value.now };
+
+    ghost invariant = { λ s. SaysJust B.says T.Answer.eq (T.answers s.value.now) };
 }
 
 impl<'a, T: Track, B: Says<T::Call, T::Answer>> Kept<'a, T, B> {
     /// A value that has kept no answer yet. Does not allocate.
     pub fn new(alloc: Global, value: &'a T) -> Self
-        requires { (call : T.Call) (answer : T.Answer)
-            → B.says call answer ≡ T.Answer.eq (T.answers value.now call) answer }
+        requires { SaysJust B.says T.Answer.eq (T.answers value.now) }
+        ensures { result ≡ value.now }
     {
         Kept {
             value,
-            views: RefCell::new(Named {
-                tracked: value.track(alloc),
-                name: PhantomData,
-            }),
+            answers: RefCell::new(Answers::new(alloc)),
+        }
+    }
+
+    /// The kept answer to a call, if there is one.
+    fn known(&self, call: &T::Call) -> Option<T::Answer>
+        ensures { IfSome result (λ answer. IsTrue (B.says call.now answer)) }
+    {
+        match self.answers.try_borrow() {
+            Ok(answers) => answers.known(call),
+            Err(_) => None,
         }
     }
 }
 
+/// The kept answer, or else the value's, which is then kept; it fails if that does.
 impl<'a, T: Track, B: Says<T::Call, T::Answer>> Track for Kept<'a, T, B> {
     type Call = T::Call;
 
     type Answer = T::Answer;
 
-    ghost answers = { λ s. T.answers s.value.now };
+    ghost answers = { λ s. T.answers s };
 
-    ghost alike = { λ s. T.alike s.value.now };
+    ghost alike = { λ s. T.alike s };
 
     fn ask(&self, call: &T::Call) -> Result<T::Answer, AllocError> {
         if call.is_mutable() {
             return self.value.ask(call);
         }
-        match self.views.try_borrow_mut() {
-            Ok(mut named) => named.answer(call),
-            Err(_) => self.value.ask(call),
+        if let Some(answer) = self.known(call) {
+            return Ok(answer);
         }
+        let answer = self.value.ask(call)?;
+        if let Ok(mut answers) = self.answers.try_borrow_mut() {
+            // If it can't be kept, the value is asked again next time.
+            let _ = answers.keep(call, &answer);
+        }
+        Ok(answer)
     }
 }

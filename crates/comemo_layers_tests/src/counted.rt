@@ -5,15 +5,31 @@ ghost use Rattle.std.proofs.Common.{rules};
 use comemo::{Fault, Function, Recorder, Run, Track};
 use comemo_cutoff::Get;
 use std::alloc::AllocError;
-use std::cell::Cell;
+use std::sync::atomic::{AtomicU64, Ordering};
 
 /// The same number at each place; how often it was asked is counted.
 #[derive(Drop)]
 pub struct Counted {
     /// The number.
     pub number: u64,
+    asked: AtomicU64,
+}
+
+impl Counted {
+    /// A number that was not asked yet.
+    pub fn new(number: u64) -> Counted
+        ensures { result.number ≡ number }
+    {
+        Counted {
+            number,
+            asked: AtomicU64::new(0),
+        }
+    }
+
     /// How often it was asked.
-    pub asked: Cell<u64>,
+    pub fn asked(&self) -> u64 {
+        self.asked.load(Ordering::SeqCst)
+    }
 }
 
 impl Track for Counted {
@@ -26,7 +42,7 @@ impl Track for Counted {
     ghost alike = { λ s x y h. Prim.search rules };
 
     fn ask(&self, _call: &Get) -> Result<u64, AllocError> {
-        self.asked.set(self.asked.get().wrapping_add(1));
+        self.asked.fetch_add(1, Ordering::SeqCst);
         Ok(self.number)
     }
 }
