@@ -47,7 +47,7 @@ BUDGETS = {
     "docs/ARCHITECTURE.md": 2010,
     "docs/DECISIONS.md": 3390,
     "docs/DIFFERENCES.md": 1400,
-    "docs/MEASUREMENTS.md": 1265,
+    "docs/MEASUREMENTS.md": 1290,
     "docs/gate.md": 780,
 }
 

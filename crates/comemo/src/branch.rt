@@ -1,6 +1,6 @@
 //! Branches of a run. A branch is a recorder of its own, whose recording the recorder of the run absorbs. It may ask in
 //! another thread. Making one does not allocate.
-ghost use Rattle.std.specs.Prelude.{◌≡◌, [], true, false, IfErr, OnOk, Ok};
+ghost use Rattle.std.specs.Prelude.{◌≡◌, List, [], true, false, IfErr, OnOk, Ok};
 ghost use Rattle.comemo_track.specs.Recording.{Recording};
 ghost use Rattle.comemo.specs.Function.{Recorded};
 ghost use Rattle.comemo.specs.Recursive.{TellsOwn};
@@ -64,6 +64,10 @@ pub trait Branch: Sized {
     // the recording is complete and not late, and the answers agree with it
     ghost fits: { Recording Self.Call Self.Answer → (Self.Call → Self.Answer) → Type 0 };
 
+    // the second's recording is the first's after it took these pairs
+    ghost took: { Recorded Self.Value Self.Call Self.Answer
+        → Recorded Self.Value Self.Call Self.Answer → List (Self.Call × Self.Answer) → Type 0 };
+
     /// The allocator of the recorder.
     fn allocator(&self) -> Global;
 
@@ -71,12 +75,17 @@ pub trait Branch: Sized {
     fn fork(&self) -> Self
         ensures { IsBranch (seen self.now) (seen result) };
 
-    /// Takes what a branch recorded, as `Recorder::absorb`. Fails if out of memory.
+    /// Takes what a branch recorded, as `Recorder::absorb`.
+    ///
+    /// Fails if out of memory. This recording is then incomplete, and the branch is dropped.
     fn join(&mut self, branch: Self) -> Result<(), Fault>
         requires value { (seen branch).value ≡ (seen self.now).value }
         requires complete { (seen branch).recording.complete ≡ true }
-        ensures { TellsOwn fits (seen self.old) (seen self.new) result
-            (λ _ m. fits (seen branch).recording m) };
+        ensures tells { TellsOwn fits (seen self.old) (seen self.new) result
+            (λ _ m. fits (seen branch).recording m) }
+        ensures took { OnOk result (took (seen self.old) (seen self.new) (seen branch).recording.pairs) }
+        ensures err { IfErr result (λ fault. (fault ≡ Fault.Memory)
+            × Spoils (seen self.old) (seen self.new)) };
 }
 
 impl<'a, T: Track> Branch for Recorder<'a, T> {
@@ -87,10 +96,14 @@ impl<'a, T: Track> Branch for Recorder<'a, T> {
     type Answer = T::Answer;
 
     ghost use Rattle.comemo.specs.Function.{Fits};
+    ghost use Rattle.comemo_track.specs.Recording.{Took};
 
     ghost seen = { λ s. s };
 
     ghost fits = { Fits T.Call.eq T.Answer.eq };
+
+    ghost took = { λ s t pairs.
+        Took T.Call.eq T.Call.touches s.recording t.recording pairs [] };
 
     fn allocator(&self) -> Global {
         self.alloc

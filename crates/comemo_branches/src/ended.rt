@@ -1,8 +1,8 @@
 //! One branch of a run, and the joining of branches that ended.
-ghost use Rattle.std.specs.Prelude.{◌≡◌, ◌<◌, ℕ, ◌++◌, ◌∷◌, [], length, vec_len, slice_index_or, IfOk, OnOk, Ok};
+ghost use Rattle.std.specs.Prelude.{◌≡◌, ◌⊎◌, ◌<◌, ℕ, ◌++◌, ◌∷◌, [], length, vec_len, slice_index_or, IfOk, IfErr, OnOk};
 ghost use Rattle.std.specs.List.{AllZip};
 ghost use Rattle.comemo.specs.Recursive.{TellsOwn};
-ghost use Rattle.comemo_branches.specs.Branches.{BranchRan, BranchTold, GaveTo, IsEnded, KeepsBranches};
+ghost use Rattle.comemo_branches.specs.Branches.{BranchRan, BranchTold, FirstFails, GaveTo, GoesOn, IsEnded, KeepsBranches, MayEnd, NotJoined, TookEach};
 
 use comemo::{Branch, Fault};
 use std::alloc::AllocError;
@@ -16,8 +16,7 @@ pub fn run_branch<P: Branch + Drop, J, X: Drop, F: Fn(&mut P, &J) -> Result<X, F
     f: &F,
 ) -> Result<(X, P), Fault>
     requires { F.IsAlwaysCallable f.now }
-    ensures { IfOk result (λ ended. BranchRan F.Fn f.now P.seen (P.seen of.now) item.now
-        (Ok ended.0) ended.1) }
+    ensures { MayEnd (BranchRan F.Fn f.now P.seen (P.seen of.now) item.now) result }
 {
     let mut branch = of.fork();
     let output = f(&mut branch, item)?;
@@ -35,11 +34,16 @@ pub fn join_each<P: Branch + Drop, J, X: Drop, F: Fn(&mut P, &J) -> Result<X, Fa
 ) -> Result<Vec<X>, Fault>
     requires len { vec_len ended ≡ length items.now }
     requires ran { (i : ℕ) (d : _) (e : _) → i < length items.now
-        → IfOk (slice_index_or ended.items i e) (λ end. BranchRan F.Fn f.now P.seen
-        (P.seen of.now) (slice_index_or items.now i d) (Ok end.0) end.1) }
+        → MayEnd (BranchRan F.Fn f.now P.seen (P.seen of.now) (slice_index_or items.now i d))
+        (slice_index_or ended.items i e) }
     requires keeps { KeepsBranches F.Fn f.now P.seen (P.seen of.now) }
-    ensures { TellsOwn P.fits (P.seen of.old) (P.seen of.new) result (λ outputs m. AllZip
+    ensures told { TellsOwn P.fits (P.seen of.old) (P.seen of.new) result (λ outputs m. AllZip
         (BranchTold F.Fn f.now P.seen (P.seen of.old) P.fits m) items.now outputs.items) }
+    ensures took { IfOk result (λ outputs. TookEach F.Fn f.now P.seen (P.seen of.old) P.took
+        (P.seen of.old) (P.seen of.new) items.now outputs.items) }
+    ensures fault { IfErr result (λ fault. (fault ≡ Fault.Memory)
+        ⊎ FirstFails F.Fn f.now P.seen (P.seen of.old) items.now fault) }
+    ensures goes_on { IfErr result (GoesOn P.fits (P.seen of.old) (P.seen of.new)) }
 {
     // The contract alone needs these.
     let _ = items;
@@ -67,8 +71,11 @@ pub fn join_one<P: Branch + Drop, X: Drop>(
     end: Result<(X, P), Fault>,
 ) -> Result<X, Fault>
     requires { IsEnded P.seen (P.seen of.now) end }
-    ensures { TellsOwn P.fits (P.seen of.old) (P.seen of.new) result
-        (λ output m. GaveTo P.seen P.fits m end output) }
+    ensures told { TellsOwn P.fits (P.seen of.old) (P.seen of.new) result
+        (λ output m. GaveTo P.seen (λ recording. P.fits recording m) end output) }
+    ensures took { IfOk result (GaveTo P.seen
+        (λ recording. P.took (P.seen of.old) (P.seen of.new) recording.pairs) end) }
+    ensures fault { IfErr result (NotJoined (P.seen of.old) (P.seen of.new) end) }
 {
     match end {
         Ok((output, branch)) => {

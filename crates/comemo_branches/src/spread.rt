@@ -1,8 +1,8 @@
 //! A list of items, each done by a branch: in threads, or in turn.
-ghost use Rattle.std.specs.Prelude.{◌≡◌, ◌<◌, ℕ, length, IfOk, slice_index_or, Ok};
+ghost use Rattle.std.specs.Prelude.{◌≡◌, ◌⊎◌, ◌<◌, ℕ, length, IfOk, IfErr, slice_index_or};
 ghost use Rattle.std.specs.List.{AllZip};
 ghost use Rattle.comemo.specs.Recursive.{TellsOwn};
-ghost use Rattle.comemo_branches.specs.Branches.{BranchRan, BranchTold, KeepsBranches};
+ghost use Rattle.comemo_branches.specs.Branches.{BranchRan, BranchTold, FirstFails, GoesOn, KeepsBranches, MayEnd, TookEach};
 
 use crate::ended::{join_each, join_one, keep, run_branch};
 use comemo::{Branch, Fault};
@@ -12,8 +12,11 @@ use std::thread::{Threads, for_each_mut};
 /// Calls a closure with each item, in at most this many threads. With one or none, all calls are in the thread of the
 /// run. Each call is a branch with a recorder of its own.
 ///
-/// Joins the branches in the order of the items, and returns their outputs in that order. Fails with the first fault in
-/// that order, `Incomplete` as `Memory`, or if out of memory. The run then records nothing of a later branch.
+/// Joins the branches in the order of the items, and returns their outputs in that order.
+///
+/// Fails with the first fault in that order, `Incomplete` as `Memory`, or if out of memory. The run then records nothing of
+/// that branch and of those after it, and it may go on: what it returns is right if the branches that it joined tell it.
+/// Only if memory ran out while a branch was joined, the recording is incomplete.
 pub fn map_in_threads<
     R: Threads + Sync,
     P: Branch + Send + Sync + Drop,
@@ -23,8 +26,13 @@ pub fn map_in_threads<
 >(rt: &R, threads: usize, of: &mut P, items: &[J], f: &F) -> Result<Vec<X>, Fault>
     requires callable { F.IsAlwaysCallable f.now }
     requires keeps { KeepsBranches F.Fn f.now P.seen (P.seen of.now) }
-    ensures { TellsOwn P.fits (P.seen of.old) (P.seen of.new) result (λ outputs m. AllZip
+    ensures told { TellsOwn P.fits (P.seen of.old) (P.seen of.new) result (λ outputs m. AllZip
         (BranchTold F.Fn f.now P.seen (P.seen of.old) P.fits m) items.now outputs.items) }
+    ensures took { IfOk result (λ outputs. TookEach F.Fn f.now P.seen (P.seen of.old) P.took
+        (P.seen of.old) (P.seen of.new) items.now outputs.items) }
+    ensures fault { IfErr result (λ fault. (fault ≡ Fault.Memory)
+        ⊎ FirstFails F.Fn f.now P.seen (P.seen of.old) items.now fault) }
+    ensures goes_on { IfErr result (GoesOn P.fits (P.seen of.old) (P.seen of.new)) }
 {
     let mut ended: Vec<Result<(X, P), Fault>> = Vec::new(of.allocator());
     ended.resize_with(items.len(), || Err(Fault::Memory))?;
@@ -41,8 +49,13 @@ pub fn map_in_turn<P: Branch + Drop, J, X: Drop, F: Fn(&mut P, &J) -> Result<X, 
 ) -> Result<Vec<X>, Fault>
     requires callable { F.IsAlwaysCallable f.now }
     requires keeps { KeepsBranches F.Fn f.now P.seen (P.seen of.now) }
-    ensures { TellsOwn P.fits (P.seen of.old) (P.seen of.new) result (λ outputs m. AllZip
+    ensures told { TellsOwn P.fits (P.seen of.old) (P.seen of.new) result (λ outputs m. AllZip
         (BranchTold F.Fn f.now P.seen (P.seen of.old) P.fits m) items.now outputs.items) }
+    ensures took { IfOk result (λ outputs. TookEach F.Fn f.now P.seen (P.seen of.old) P.took
+        (P.seen of.old) (P.seen of.new) items.now outputs.items) }
+    ensures fault { IfErr result (λ fault. (fault ≡ Fault.Memory)
+        ⊎ FirstFails F.Fn f.now P.seen (P.seen of.old) items.now fault) }
+    ensures goes_on { IfErr result (GoesOn P.fits (P.seen of.old) (P.seen of.new)) }
 {
     let mut outputs = Vec::new(of.allocator());
     for item in items {
@@ -66,8 +79,8 @@ fn run_branches<
     requires len { length ended.old ≡ length items.now }
     ensures len { length ended.new ≡ length ended.old }
     ensures ran { (i : ℕ) (d : _) (e : _) → i < length items.now
-        → IfOk (slice_index_or ended.new i e) (λ end. BranchRan F.Fn f.now P.seen
-        (P.seen of.now) (slice_index_or items.now i d) (Ok end.0) end.1) }
+        → MayEnd (BranchRan F.Fn f.now P.seen (P.seen of.now) (slice_index_or items.now i d))
+        (slice_index_or ended.new i e) }
 {
     for_each_mut(
         rt,
@@ -75,8 +88,8 @@ fn run_branches<
         threads,
         &|i, end|
             requires { (i < length items.now) × F.IsAlwaysCallable f.now }
-            ensures { (d : _) → IfOk end.new (λ e. BranchRan F.Fn f.entry.now P.seen
-                (P.seen of.entry.now) (slice_index_or items.entry.now i d) (Ok e.0) e.1) }
+            ensures { (d : _) → MayEnd (BranchRan F.Fn f.entry.now P.seen (P.seen of.entry.now)
+                (slice_index_or items.entry.now i d)) end.new }
         { *end = run_branch(of, &items[i], f) },
     );
 }

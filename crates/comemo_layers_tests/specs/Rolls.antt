@@ -1,5 +1,5 @@
--- A number that is costly to find, and totals of such.
-use Rattle.std.specs.Prelude.{ℕ, zero, suc, ◌+◌, ◌*◌, ◌%◌, ◌^◌, List, map}
+-- A number that is costly to find, and totals of numbers.
+use Rattle.std.specs.Prelude.{ℕ, zero, suc, ◌+◌, ◌*◌, ◌%◌, ◌^◌, ◌==◌, Bool, List, map}
 use Rattle.std.specs.List.{fold}
 use Rattle.comemo_cutoff.specs.declared.cells.Get.{Get}
 
@@ -23,3 +23,15 @@ plus t x = (t + x) % 2 ^ 64
 -- the total of these places
 abbrev pub total : (Get → ℕ) → List ℕ → ℕ
 total m places = fold plus 0 (map (rolled_at m) places)
+
+-- the number of a place
+abbrev pub number_at : (Get → ℕ) → ℕ → ℕ
+number_at m place = m (record { place = place })
+
+-- the total of the numbers of these places
+abbrev pub summed : (Get → ℕ) → List ℕ → ℕ
+summed m places = fold plus 0 (map (number_at m) places)
+
+-- whether the number of a place is odd
+abbrev pub is_odd_at : (Get → ℕ) → ℕ → Bool
+is_odd_at m place = number_at m place % 2 == 1

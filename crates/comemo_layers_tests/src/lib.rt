@@ -7,7 +7,13 @@ mod counted;
 #[cfg(test)]
 mod cutoff;
 #[cfg(test)]
+mod goes_on;
+#[cfg(test)]
 mod indexed;
+#[cfg(test)]
+mod kinds;
+#[cfg(test)]
+mod pairs;
 #[cfg(test)]
 mod rolls;
 #[cfg(test)]
@@ -16,5 +22,7 @@ mod rounds;
 mod schedules;
 #[cfg(test)]
 mod sessions;
+#[cfg(test)]
+mod turns;
 #[cfg(test)]
 mod waves;

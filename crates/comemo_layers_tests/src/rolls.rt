@@ -6,7 +6,7 @@ ghost use Rattle.comemo_layers_tests.specs.RollTells.{TellsRolled};
 ghost use Rattle.comemo.specs.Recursive.{TellsOwn};
 ghost use Rattle.comemo.specs.MeaningLaws.{output_laws};
 ghost use Rattle.comemo_layers_tests.specs.Rolls.{plus, rolled, rolled_at, total};
-ghost use Rattle.comemo_layers_tests.specs.RollLaws.{places_clone, total_alike};
+ghost use Rattle.comemo_layers_tests.specs.RollLaws.{places_alike, places_clone};
 
 use comemo::internal::Told;
 use comemo::{Begun, Cache, Fault, Function, Hold, Recorder, Run};
@@ -69,7 +69,7 @@ impl Function for Total {
     ghost means = { λ places m out. out ≡ total m places.items };
 
     ghost laws = { output_laws (Prim.search rules) (λ x y h. places_clone x.items y.items h.0)
-        (λ j k m r e. total_alike m j.items k.items e) };
+        (λ j k m r e. places_alike (total m) j.items k.items e) };
 }
 
 /// The total of these places, kept in a cache. Its numbers are found in branches, through a cache that threads share.
@@ -117,7 +117,7 @@ fn rolled_each<R: Threads + Wait + Sync>(
 }
 
 /// The number of a place, through the cache.
-fn rolled_in_branch<R: Wait>(
+pub fn rolled_in_branch<R: Wait>(
     rt: &R,
     cache: &Cache<Rolled>,
     place: u32,
@@ -130,7 +130,7 @@ fn rolled_in_branch<R: Wait>(
 }
 
 /// The sum of numbers, which wraps at 64 bits.
-fn added(numbers: &[u64]) -> u64
+pub fn added(numbers: &[u64]) -> u64
     ensures { result ≡ fold plus 0 numbers.now }
 {
     let mut total = 0u64;
