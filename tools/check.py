@@ -45,7 +45,7 @@ BUDGETS = {
     "docs/PROMISES.md": 2050,
     "docs/CLAUSES.md": 3320,
     "docs/ARCHITECTURE.md": 2010,
-    "docs/DECISIONS.md": 3440,
+    "docs/DECISIONS.md": 3470,
     "docs/DIFFERENCES.md": 1400,
     "docs/MEASUREMENTS.md": 1290,
     "docs/gate.md": 780,
