@@ -83,7 +83,8 @@ pub trait Branch: Sized {
         requires complete { (seen branch).recording.complete ≡ true }
         ensures tells { TellsOwn fits (seen self.old) (seen self.new) result
             (λ _ m. fits (seen branch).recording m) }
-        ensures took { OnOk result (took (seen self.old) (seen self.new) (seen branch).recording.pairs) }
+        ensures took { OnOk result
+            (took (seen self.old) (seen self.new) (seen branch).recording.pairs) }
         ensures err { IfErr result (λ fault. (fault ≡ Fault.Memory)
             × Spoils (seen self.old) (seen self.new)) };
 }
